@@ -1,0 +1,5 @@
+pub mod Lists
+pub mod Sets
+pub mod Records
+pub mod Image
+pub mod Messages

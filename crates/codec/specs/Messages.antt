@@ -1,0 +1,25 @@
+-- Message numbers: 16 bits for a message of kind k to or from participant p on transaction t.
+use Prim.Native.Nat.{ℕ, _+_, _-_, _*_, _/_, _%_}
+use mathlib.Core.Bool.{Bool, _&&_}
+use mathlib.Core.Option.{Option}
+use lib.Dec.{leb}
+use Rattle.codec.specs.Lists.{onlyIf}
+
+pub record Parts : Type 0 where
+  pub transaction : ℕ
+  pub participant : ℕ
+  pub kind : ℕ
+
+unfoldable pub messageNumber : Parts → ℕ
+messageNumber m = 56 * m .transaction + 7 * (m .participant - 1) + m .kind
+
+-- `none`: refused by 26
+unfoldable pub messageParts : ℕ → Option Parts
+messageParts n = onlyIf (leb n 447) (record { transaction = n / 56; participant = n % 56 / 7 + 1; kind = n % 7 })
+
+-- the way back; parts that no message has are refused by 26 too
+unfoldable pub isMessage : Parts → Bool
+isMessage m = leb (m .transaction) 7 && leb 1 (m .participant) && leb (m .participant) 8 && leb (m .kind) 6
+
+unfoldable pub numberOf : Parts → Option ℕ
+numberOf m = onlyIf (isMessage m) (messageNumber m)

@@ -1,0 +1,112 @@
+-- Log records: kinds, fields, lengths, and the order in which those of one transaction (01: handover) stand in a site's log.
+-- Kinds at the coordinator (01: hub): 1 Init, 2 Commit, 3 CommitEnd, 4 AbortEnd; at a participant (01: box): 5 Prepared, 6 Committed, 7 Aborted.
+use Prim.Native.Nat.{ℕ, zero, suc}
+use mathlib.Core.Bool.{Bool, true, false, not, _&&_, _||_}
+use mathlib.Core.List.{List, [], _∷_, _++_, map}
+use lib.ListN.{length, getD, drop}
+use lib.Dec.{eqb, leb}
+use Rattle.codec.specs.Lists.{select, any, all, same}
+use Rattle.codec.specs.Sets.{empty, less, part}
+
+pub record LogRecord : Type 0 where
+  pub kind : ℕ
+  pub transaction : ℕ
+  pub fields : List ℕ
+
+-- a record as bytes: kind, transaction, and its fields
+unfoldable pub bytesOf : LogRecord → List ℕ
+bytesOf x = x .kind ∷ x .transaction ∷ x .fields
+
+unfoldable pub recordOf : List ℕ → LogRecord
+recordOf bytes = record { kind = getD bytes 0 0; transaction = getD bytes 1 0; fields = drop 2 bytes }
+
+-- Length is fixed by kind: 1 and 2 are kind, handover, members, PC; 5 is kind, handover, presumption; the rest kind, handover. (0 is no kind.)
+unfoldable pub lengths : List ℕ
+lengths = 0 ∷ 4 ∷ 4 ∷ 2 ∷ 2 ∷ 3 ∷ 2 ∷ 2 ∷ []
+
+unfoldable pub lengthOf : ℕ → ℕ
+lengthOf kind = getD lengths kind 0
+
+-- members and PC of a record 1 or 2
+unfoldable pub membersIn : LogRecord → ℕ
+membersIn x = getD (x .fields) 0 0
+
+unfoldable pub presumeCommitIn : LogRecord → ℕ
+presumeCommitIn x = getD (x .fields) 1 0
+
+-- a record 2 with a PrA member: its commit is not closed before record 3
+unfoldable pub awaitsAcks : LogRecord → Bool
+awaitsAcks x = not (empty (less (membersIn x) (presumeCommitIn x)))
+
+-- ---- refusal 23: a record's kind not one of that site's, wrong length or field
+
+unfoldable pub kindAt : ℕ → ℕ → Bool
+kindAt zero kind = leb 1 kind && leb kind 4
+kindAt (suc n) kind = leb 5 kind && leb kind 7
+
+-- members not 0, PC a part of members
+unfoldable pub masksInRange : LogRecord → Bool
+masksInRange x = leb 1 (membersIn x) && leb (membersIn x) 255 && part (presumeCommitIn x) (membersIn x)
+
+-- the fields behind the transaction, by kind: Init has PC not empty; a presumption is 0 or 1
+unfoldable pub fieldsInRange : LogRecord → Bool
+fieldsInRange x =
+    getD
+    (false
+    ∷ (masksInRange x && not (empty (presumeCommitIn x)))
+    ∷ masksInRange x
+    ∷ true
+    ∷ true
+    ∷ leb (getD (x .fields) 0 0) 1
+    ∷ true
+    ∷ true
+    ∷ [])
+    (x .kind)
+    false
+
+-- bytes that are a record of site s
+unfoldable pub isRecord : ℕ → List ℕ → Bool
+isRecord s bytes =
+    let x = recordOf bytes in
+    kindAt s (x .kind) && eqb (length bytes) (lengthOf (x .kind)) && leb (x .transaction) 7 && fieldsInRange x
+
+-- ---- refusal 24: the sequence per transaction
+
+-- the kinds of the records that a site may have of one transaction, in log order
+unfoldable pub sequences : List (List ℕ)
+sequences =
+    (1 ∷ [])
+    ∷ (1 ∷ 2 ∷ [])
+    ∷ (1 ∷ 2 ∷ 3 ∷ [])
+    ∷ (2 ∷ [])
+    ∷ (2 ∷ 3 ∷ [])
+    ∷ (3 ∷ [])
+    ∷ (1 ∷ 4 ∷ [])
+    ∷ (4 ∷ [])
+    ∷ (5 ∷ [])
+    ∷ (5 ∷ 6 ∷ [])
+    ∷ (5 ∷ 7 ∷ [])
+    ∷ (6 ∷ [])
+    ∷ (7 ∷ [])
+    ∷ []
+
+-- an earlier record x and a later one y of a transaction: equal masks in 1 and 2, and a PrA member before 3
+unfoldable pub agrees : LogRecord → LogRecord → Bool
+agrees x y =
+    (not (eqb (x .kind) 1 && eqb (y .kind) 2) || same (x .fields) (y .fields))
+    && (not (eqb (x .kind) 2 && eqb (y .kind) 3) || awaitsAcks x)
+
+unfoldable pub ofTransaction : ℕ → LogRecord → Bool
+ofTransaction t x = eqb (x .transaction) t
+
+-- x may stand behind the records before it
+unfoldable pub inSequence : List LogRecord → LogRecord → Bool
+inSequence before x =
+    let own = select (ofTransaction (x .transaction)) before in
+    any (same (map (λ y. y .kind) own ++ (x .kind ∷ []))) sequences && all (λ y. agrees y x) own
+
+-- the records in turn, 23 before 24 at each
+unfoldable pub recordRefusals : ℕ → List LogRecord → List (List ℕ) → List (ℕ × Bool)
+recordRefusals s before [] = []
+recordRefusals s before (bytes ∷ rest) =
+    (23, not (isRecord s bytes)) ∷ (24, not (inSequence before (recordOf bytes))) ∷ recordRefusals s (before ++ (recordOf bytes ∷ [])) rest

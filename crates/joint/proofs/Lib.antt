@@ -1,0 +1,2 @@
+mod Open
+mod Cases

@@ -1,0 +1,76 @@
+-- What the drill program writes: its output as bytes, from its input as bytes.
+use Prim.Native.Nat.{ℕ, zero, suc, _+_, _/_, _%_}
+use Prim.Native.Char.{code}
+use Prim.Native.String.{String}
+use Prim.Native.String
+use mathlib.Core.Bool.{Bool, true, false}
+use mathlib.Core.List.{List, [], _∷_, _++_, map}
+use lib.ListN.{length, take, drop}
+use lib.Dec.{ltb}
+use Rattle.codec.specs.Lists.{select, concat}
+use Rattle.site.specs.Presumption.{Outcome, commit, abort}
+use Rattle.joint.specs.State.{Run, fresh, opened}
+use Rattle.joint.specs.Plan.{transactions}
+use Rattle.joint.specs.Run.{Answer, after, answers}
+
+-- ---- input
+
+-- n events of six bytes each; the last may be broken
+unfoldable pub sixes : ℕ → List ℕ → List (List ℕ)
+sixes zero bytes = []
+sixes (suc n) bytes = take 6 bytes ∷ sixes n (drop 6 bytes)
+
+-- the first 60,000 bytes and no more
+unfoldable pub eventsIn : List ℕ → List (List ℕ)
+eventsIn input =
+    let bytes = take 60000 input in
+    sixes ((length bytes + 5) / 6) bytes
+
+-- ---- output
+
+unfoldable pub space : ℕ
+space = 32
+
+unfoldable pub newline : ℕ
+newline = 10
+
+-- the decimal digits of a number below 10 ^ (k + 1), without leading zeros
+unfoldable pub decimal : ℕ → ℕ → List ℕ
+decimal zero n = (48 + n % 10) ∷ []
+decimal (suc k) n = elim (ltb n 10) [ true ↦ (48 + n) ∷ [] | false ↦ decimal k (n / 10) ++ ((48 + n % 10) ∷ []) ]
+
+-- numbers with one space between, and a newline
+unfoldable pub line : List ℕ → List ℕ
+line [] = newline ∷ []
+line (n ∷ []) = decimal 5 n ++ (newline ∷ [])
+line (n ∷ m ∷ ns) = decimal 5 n ++ space ∷ line (m ∷ ns)
+
+-- a line for each event: its number from n, answer, records, forces, sends
+unfoldable pub eventLines : ℕ → List Answer → List ℕ
+eventLines n [] = []
+eventLines n (a ∷ rest) = line (n ∷ a .number ∷ a .records ∷ a .forces ∷ a .sends ∷ []) ++ eventLines (n + 1) rest
+
+-- the bytes of an ASCII text
+unfoldable pub ascii : String → List ℕ
+ascii String.[] = []
+ascii (String._∷_ c s) = code c ∷ ascii s
+
+-- C, A, X (both) or - (no entry)
+unfoldable pub letter : Bool → Bool → ℕ
+letter true false = 67
+letter false true = 65
+letter true true = 88
+letter false false = 45
+
+-- a line for an opened transaction: the word HANDOVER, its number, and a letter for each site
+unfoldable pub transactionLine : Run → ℕ → List ℕ
+transactionLine r t =
+    let x = r .transaction t in
+    ascii "HANDOVER" ++ space ∷ decimal 0 t ++ space ∷ map (λ s. letter (x .entered s commit) (x .entered s abort)) (0 ∷ 1 ∷ 2 ∷ 3 ∷ 4 ∷ 5 ∷ 6 ∷ 7 ∷ 8 ∷ [])
+    ++ (newline ∷ [])
+
+unfoldable pub drill : List ℕ → List ℕ
+drill input =
+    let events = eventsIn input in
+    let r = after fresh events in
+    eventLines 1 (answers fresh events) ++ concat (map (transactionLine r) (select (opened r) transactions))

@@ -1,0 +1,80 @@
+-- Events: six bytes, code, x, y, z, cut, keep.
+use Prim.Native.Nat.{ℕ}
+use mathlib.Core.Bool.{Bool, cond, not, _&&_, _||_}
+use mathlib.Core.List.{List, [], _∷_}
+use mathlib.Core.Option.{Option, none, some}
+use lib.ListN.{length, getD}
+use lib.Dec.{eqb, leb}
+use Rattle.codec.specs.Lists.{any, onlyIf}
+use Rattle.codec.specs.Sets.{part}
+use Rattle.site.specs.Step.{Message, prepare, messages}
+
+-- in the order of the codes, 0 to 7. t is a transaction, s a site, p a participant
+pub data Event : Type 0 where
+  opening : (t members presumeCommit : ℕ) → Event
+  beginning : (t : ℕ) → Event
+  delivery : (t p : ℕ) → Message → Event
+  timeout : (t s : ℕ) → Event
+  forcing : (s : ℕ) → Event
+  discarding : (t s : ℕ) → Event
+  crash : (s : ℕ) → Event
+  restart : (s : ℕ) → Event
+
+unfoldable pub eventOf : ℕ → ℕ → ℕ → ℕ → Event
+eventOf code x y z =
+    getD
+    (opening x y z
+    ∷ beginning x
+    ∷ delivery x y (getD messages z prepare)
+    ∷ timeout x y
+    ∷ forcing y
+    ∷ discarding x y
+    ∷ crash y
+    ∷ restart y
+    ∷ [])
+    code
+    (crash y)
+
+-- by code: the largest x, the least and the largest y, the largest z. Unused x, y, z are 0
+unfoldable pub ranges : List (List ℕ)
+ranges =
+    (7 ∷ 1 ∷ 255 ∷ 255 ∷ [])
+    ∷ (7 ∷ 0 ∷ 0 ∷ 0 ∷ [])
+    ∷ (7 ∷ 1 ∷ 8 ∷ 6 ∷ [])
+    ∷ (7 ∷ 0 ∷ 8 ∷ 0 ∷ [])
+    ∷ (0 ∷ 0 ∷ 8 ∷ 0 ∷ [])
+    ∷ (7 ∷ 0 ∷ 8 ∷ 0 ∷ [])
+    ∷ (0 ∷ 0 ∷ 8 ∷ 0 ∷ [])
+    ∷ (0 ∷ 0 ∷ 8 ∷ 0 ∷ [])
+    ∷ []
+
+-- at open z is a part of y
+unfoldable pub bytesInRange : ℕ → ℕ → ℕ → ℕ → Bool
+bytesInRange code x y z =
+    let row = getD ranges code [] in
+    leb code 7 && leb x (getD row 0 0) && leb (getD row 1 0) y && leb y (getD row 2 0) && leb z (getD row 3 0)
+    && (not (eqb code 0) || part z y)
+
+-- Cut is 255 for none; a smaller one stands on codes 1, 2, 3, 7. Keep is 0 but on a cut or a crash
+unfoldable pub cutInRange : ℕ → ℕ → ℕ → Bool
+cutInRange code cut keep =
+    leb cut 255 && leb keep 255 && (eqb cut 255 || any (eqb code) (1 ∷ 2 ∷ 3 ∷ 7 ∷ [])) && (eqb keep 0 || not (eqb cut 255) || eqb code 6)
+
+-- where power goes: after so many effects, with so many unforced records kept. A crash is an event of no effects, cut there
+unfoldable pub cutOf : ℕ → ℕ → ℕ → Option (ℕ × ℕ)
+cutOf code cut keep = cond (eqb code 6) (some (0, keep)) (cond (eqb cut 255) none (some (cut, keep)))
+
+pub record Parsed : Type 0 where
+  pub event : Event
+  pub cut : Option (ℕ × ℕ)
+
+-- `none`: refused by 1, not six bytes, code above 7, a field out of range or misused
+unfoldable pub parse : List ℕ → Option Parsed
+parse bytes =
+    let code = getD bytes 0 0 in
+    let x = getD bytes 1 0 in
+    let y = getD bytes 2 0 in
+    let z = getD bytes 3 0 in
+    let cut = getD bytes 4 0 in
+    let keep = getD bytes 5 0 in
+    onlyIf (eqb (length bytes) 6 && bytesInRange code x y z && cutInRange code cut keep) (record { event = eventOf code x y z; cut = cutOf code cut keep })

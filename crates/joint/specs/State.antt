@@ -1,0 +1,158 @@
+-- The state of the plain run, and what each effect, a cut and a crash change in it.
+-- The plain run is what 01's steps, events and refusals make from a list of events alone; no field of the program defines it.
+use Prim.Native.Nat.{ℕ, zero, suc}
+use mathlib.Core.Bool.{Bool, true, false, cond, not, _&&_, _||_}
+use mathlib.Core.List.{List, [], _∷_, _++_}
+use lib.ListN.{take}
+use lib.Dec.{eqb}
+use Rattle.codec.specs.Lists.{any}
+use Rattle.codec.specs.Sets.{member, empty}
+use Rattle.codec.specs.Records.{LogRecord, ofTransaction}
+use Rattle.site.specs.Presumption.{Outcome, sameOutcome}
+use Rattle.site.specs.Step.{messageKind, Effect, append, force, enter, send}
+use Rattle.site.specs.Coordinator.{Coordinator}
+use Rattle.site.specs.Participant.{Participant}
+
+-- a site's log: its stable part first, then the unforced records
+pub record Site : Type 0 where
+  pub up : Bool
+  pub stable : List LogRecord
+  pub unforced : List LogRecord
+
+-- a transaction (01: handover); its members are 0 until it is opened. `presumeCommit` is 01's PC.
+-- `sent p k`: a message of kind k, to participant p or from it, was sent. `entered s o`: site s entered outcome o
+pub record Transaction : Type 0 where
+  pub members : ℕ
+  pub presumeCommit : ℕ
+  pub coordinator : Coordinator
+  pub participant : ℕ → Participant
+  pub sent : ℕ → ℕ → Bool
+  pub entered : ℕ → Outcome → Bool
+
+-- by number: site 0 is the coordinator, 1 to 8 are the participants; transactions are 0 to 7
+pub record Run : Type 0 where
+  pub site : ℕ → Site
+  pub transaction : ℕ → Transaction
+
+-- A fresh run has every site up, each phase Unknown, no record and no message.
+unfoldable pub fresh : Run
+fresh =
+    record {
+      site = λ s. record { up = true; stable = []; unforced = [] };
+      transaction =
+          λ t. record {
+            members = 0;
+            presumeCommit = 0;
+            coordinator = Coordinator.unknown;
+            participant = λ p. Participant.unknown;
+            sent = λ p k. false;
+            entered = λ s o. false;
+          };
+    }
+
+-- f, changed by g at i
+unfoldable pub update {ℓ} : {A : Type ℓ} → ℕ → (A → A) → (ℕ → A) → ℕ → A
+update i g f j = cond (eqb j i) (g (f j)) (f j)
+
+unfoldable pub atSite : ℕ → (Site → Site) → Run → Run
+atSite s g r = record { site = update s g (r .site); transaction = r .transaction }
+
+unfoldable pub atTransaction : ℕ → (Transaction → Transaction) → Run → Run
+atTransaction t g r = record { site = r .site; transaction = update t g (r .transaction) }
+
+unfoldable pub opened : Run → ℕ → Bool
+opened r t = not (empty (r .transaction t .members))
+
+-- the coordinator takes part in each transaction, a participant in those that it is a member of
+unfoldable pub takesPart : Run → ℕ → ℕ → Bool
+takesPart r t zero = true
+takesPart r t (suc n) = member (suc n) (r .transaction t .members)
+
+-- a log has a record of kind k of transaction t
+unfoldable pub holds : ℕ → ℕ → List LogRecord → Bool
+holds t k log = any (λ x. ofTransaction t x && eqb (x .kind) k) log
+
+-- ---- changes of a site
+
+unfoldable pub appended : LogRecord → Site → Site
+appended x s = record { up = s .up; stable = s .stable; unforced = s .unforced ++ (x ∷ []) }
+
+-- all records of the log become stable
+unfoldable pub forced : Site → Site
+forced s = record { up = s .up; stable = s .stable ++ s .unforced; unforced = [] }
+
+-- down: the first `keep` unforced records become stable, the rest are lost
+unfoldable pub stopped : ℕ → Site → Site
+stopped keep s = record { up = false; stable = s .stable ++ take keep (s .unforced); unforced = [] }
+
+unfoldable pub started : Site → Site
+started s = record { up = true; stable = s .stable; unforced = s .unforced }
+
+-- ---- changes of a transaction
+
+unfoldable pub withCoordinator : Coordinator → Transaction → Transaction
+withCoordinator c x =
+    record { members = x .members; presumeCommit = x .presumeCommit; coordinator = c; participant = x .participant; sent = x .sent; entered = x .entered }
+
+unfoldable pub withParticipant : ℕ → Participant → Transaction → Transaction
+withParticipant p c x =
+    record {
+      members = x .members;
+      presumeCommit = x .presumeCommit;
+      coordinator = x .coordinator;
+      participant = update p (λ _. c) (x .participant);
+      sent = x .sent;
+      entered = x .entered;
+    }
+
+-- a message once sent stays sent
+unfoldable pub withSent : ℕ → ℕ → Transaction → Transaction
+withSent p k x =
+    record {
+      members = x .members;
+      presumeCommit = x .presumeCommit;
+      coordinator = x .coordinator;
+      participant = x .participant;
+      sent = λ q j. (eqb q p && eqb j k) || x .sent q j;
+      entered = x .entered;
+    }
+
+-- an entry is never erased
+unfoldable pub withEntered : ℕ → Outcome → Transaction → Transaction
+withEntered s o x =
+    record {
+      members = x .members;
+      presumeCommit = x .presumeCommit;
+      coordinator = x .coordinator;
+      participant = x .participant;
+      sent = x .sent;
+      entered = λ z d. (eqb z s && sameOutcome d o) || x .entered z d;
+    }
+
+-- the phase at site s is Unknown
+unfoldable pub forgotten : ℕ → Transaction → Transaction
+forgotten zero x = withCoordinator Coordinator.unknown x
+forgotten (suc n) x = withParticipant (suc n) Participant.unknown x
+
+-- ---- site s goes down: all phases there are Unknown
+
+unfoldable pub down : ℕ → ℕ → Run → Run
+down s keep r = record { site = update s (stopped keep) (r .site); transaction = λ t. forgotten s (r .transaction t) }
+
+-- ---- effects
+
+-- an effect, with its transaction
+pub record Act : Type 0 where
+  pub transaction : ℕ
+  pub effect : Effect
+
+unfoldable pub perform : ℕ → ℕ → Effect → Run → Run
+perform s t (append k fs) r = atSite s (appended (record { kind = k; transaction = t; fields = fs })) r
+perform s t force r = atSite s forced r
+perform s t (enter o) r = atTransaction t (withEntered s o) r
+perform s t (send m p) r = atTransaction t (withSent p (messageKind m)) r
+
+-- acts in turn at site s
+unfoldable pub performAll : ℕ → List Act → Run → Run
+performAll s [] r = r
+performAll s (a ∷ rest) r = performAll s rest (perform s (a .transaction) (a .effect) r)

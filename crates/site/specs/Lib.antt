@@ -1,0 +1,5 @@
+pub mod Presumption
+pub mod Step
+pub mod Coordinator
+pub mod Participant
+pub mod Numbers

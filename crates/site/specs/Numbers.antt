@@ -1,0 +1,157 @@
+-- One site's step on numbers, as the lock controllers' firmware calls it. Phases count from 0 in 01's order.
+use Prim.Native.Nat.{ℕ, zero, suc, _+_, _*_, _^_, _-_}
+use mathlib.Core.Bool.{Bool, true, false, cond, not, _&&_, _||_}
+use mathlib.Core.List.{List, [], _∷_}
+use mathlib.Core.Option.{Option, none, some}
+use lib.ListN.{getD}
+use lib.Dec.{eqb, leb}
+use Rattle.codec.specs.Lists.{any}
+use Rattle.codec.specs.Sets.{member, empty, part}
+use Rattle.site.specs.Presumption.{Outcome, commit, abort, presumptionNumber}
+use Rattle.site.specs.Step.{prepare, messages, messageKind, Input, begin, timer, received, Effect, append, force, enter, send, Row}
+use Rattle.site.specs.Coordinator.{Coordinator, ready, collecting, deciding, presumptionOf, owing, coordinatorStep}
+use Rattle.site.specs.Participant.{Participant, working, prepared, decided, participantStep}
+
+-- ---- phases, waiting sets and inputs as numbers
+
+unfoldable pub coordinatorPhase : Coordinator → ℕ
+coordinatorPhase ready = 0
+coordinatorPhase (collecting w) = 1
+coordinatorPhase (deciding commit w) = 2
+coordinatorPhase (deciding abort w) = 3
+coordinatorPhase Coordinator.unknown = 4
+
+unfoldable pub waitingSet : Coordinator → ℕ
+waitingSet ready = 0
+waitingSet (collecting w) = w
+waitingSet (deciding o w) = w
+waitingSet Coordinator.unknown = 0
+
+unfoldable pub coordinatorOf : ℕ → ℕ → Coordinator
+coordinatorOf phase w = getD (ready ∷ collecting w ∷ deciding commit w ∷ deciding abort w ∷ []) phase Coordinator.unknown
+
+unfoldable pub participantPhase : Participant → ℕ
+participantPhase working = 0
+participantPhase prepared = 1
+participantPhase (decided commit) = 2
+participantPhase (decided abort) = 3
+participantPhase Participant.unknown = 4
+
+unfoldable pub participantOf : ℕ → Participant
+participantOf phase = getD (working ∷ prepared ∷ decided commit ∷ decided abort ∷ []) phase Participant.unknown
+
+-- kind 16 is begin, 17 the timer
+unfoldable pub inputOf : ℕ → ℕ → Input
+inputOf kind p = cond (eqb kind 16) begin (cond (eqb kind 17) timer (received (getD messages kind prepare) p))
+
+-- ---- the arguments, in the order of the call
+
+pub record Arguments : Type 0 where
+  pub site : ℕ
+  pub kind : ℕ
+  pub transaction : ℕ
+  pub participant : ℕ
+  pub presumption : ℕ
+  pub phase : ℕ
+  pub waiting : ℕ
+  pub members : ℕ
+  pub presumeCommit : ℕ
+
+-- the kinds that a site receives
+unfoldable pub kindsAt : ℕ → List ℕ
+kindsAt zero = 1 ∷ 2 ∷ 5 ∷ 6 ∷ 16 ∷ 17 ∷ []
+kindsAt (suc n) = 0 ∷ 3 ∷ 4 ∷ 17 ∷ []
+
+-- the coordinator's waiting set: a part of the members, not empty in Collecting, Committing (PrA members only) and Aborting (PrC members only), and 0 in Open and Unknown
+unfoldable pub waitingInRange : ℕ → ℕ → ℕ → ℕ → Bool
+waitingInRange M C phase w =
+    getD
+    (empty w
+    ∷ (not (empty w) && part w M)
+    ∷ (not (empty w) && part w (owing M C commit))
+    ∷ (not (empty w) && part w (owing M C abort))
+    ∷ empty w
+    ∷ [])
+    phase
+    false
+
+-- a member, with its presumption
+unfoldable pub isMember : Arguments → Bool
+isMember a =
+    member (a .participant) (a .members) && eqb (a .presumption) (presumptionNumber (presumptionOf (a .members) (a .presumeCommit) (a .participant)))
+
+-- begin and the coordinator's timer name no participant
+unfoldable pub namesNone : Arguments → Bool
+namesNone a = eqb (a .participant) 0 && eqb (a .presumption) 0
+
+-- at the coordinator; at a participant, which is named itself and waits for nobody
+unfoldable pub inRangeAt : ℕ → Arguments → Bool
+inRangeAt zero a =
+    waitingInRange (a .members) (a .presumeCommit) (a .phase) (a .waiting) && cond (leb 16 (a .kind)) (namesNone a) (isMember a)
+inRangeAt (suc n) a = eqb (a .waiting) 0 && eqb (a .participant) (suc n) && isMember a
+
+unfoldable pub argumentsInRange : Arguments → Bool
+argumentsInRange a =
+    leb (a .site) 8 && any (eqb (a .kind)) (kindsAt (a .site)) && leb (a .transaction) 7 && leb (a .phase) 4
+    && leb 1 (a .members) && leb (a .members) 255 && part (a .presumeCommit) (a .members) && inRangeAt (a .site) a
+
+-- ---- what a row does, as numbers
+
+-- the kind of the record appended (0: none); whether the log is forced; the outcome entered (0: none, 1 commit, 2 abort);
+-- the kind of message sent (0 also where none is), and the set that it goes to
+pub record Summary : Type 0 where
+  pub appended : ℕ
+  pub forced : ℕ
+  pub entered : ℕ
+  pub message : ℕ
+  pub to : ℕ
+
+unfoldable pub outcomeNumber : Outcome → ℕ
+outcomeNumber commit = 1
+outcomeNumber abort = 2
+
+unfoldable pub summary : List Effect → Summary
+summary [] = record { appended = 0; forced = 0; entered = 0; message = 0; to = 0 }
+summary (append k fs ∷ es) =
+    let x = summary es in
+    record { appended = k; forced = x .forced; entered = x .entered; message = x .message; to = x .to }
+summary (force ∷ es) =
+    let x = summary es in
+    record { appended = x .appended; forced = 1; entered = x .entered; message = x .message; to = x .to }
+summary (enter o ∷ es) =
+    let x = summary es in
+    record { appended = x .appended; forced = x .forced; entered = outcomeNumber o; message = x .message; to = x .to }
+summary (send m p ∷ es) =
+    let x = summary es in
+    record { appended = x .appended; forced = x .forced; entered = x .entered; message = messageKind m; to = 2 ^ (p - 1) + x .to }
+
+-- ---- the step: answer, phase, waiting set, and the row's numbers
+
+unfoldable pub reply : ℕ → ℕ → List Effect → List ℕ
+reply phase w es =
+    let x = summary es in
+    0 ∷ phase ∷ w ∷ x .appended ∷ x .forced ∷ x .entered ∷ x .message ∷ x .to ∷ []
+
+-- a row, or none: answer 0 with nothing changed
+unfoldable pub coordinatorReply : Arguments → Option (Row Coordinator) → List ℕ
+coordinatorReply a none = reply (a .phase) (a .waiting) []
+coordinatorReply a (some row) = reply (coordinatorPhase (row .phase)) (waitingSet (row .phase)) (row .effects)
+
+unfoldable pub participantReply : Arguments → Option (Row Participant) → List ℕ
+participantReply a none = reply (a .phase) 0 []
+participantReply a (some row) = reply (participantPhase (row .phase)) 0 (row .effects)
+
+unfoldable pub stepAt : ℕ → Arguments → List ℕ
+stepAt zero a =
+    coordinatorReply a (coordinatorStep (a .members) (a .presumeCommit) (inputOf (a .kind) (a .participant)) (coordinatorOf (a .phase) (a .waiting)))
+stepAt (suc n) a =
+    participantReply a (participantStep (presumptionOf (a .members) (a .presumeCommit) (suc n)) (suc n) (inputOf (a .kind) (suc n)) (participantOf (a .phase)))
+
+-- a refusal is 1 alone
+unfoldable pub siteStep : Arguments → List ℕ
+siteStep a = cond (argumentsInRange a) (stepAt (a .site) a) (1 ∷ 0 ∷ 0 ∷ 0 ∷ 0 ∷ 0 ∷ 0 ∷ 0 ∷ [])
+
+-- the result of the C call: eight bytes in one number, the first lowest
+unfoldable pub packed : List ℕ → ℕ
+packed [] = 0
+packed (n ∷ ns) = n + 256 * packed ns

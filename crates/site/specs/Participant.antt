@@ -1,0 +1,84 @@
+-- A participant's step (01: a box, P1 to P4 of 002): participant p, with its presumption.
+use Prim.Native.Nat.{ℕ}
+use mathlib.Core.Bool.{Bool, true, false}
+use mathlib.Core.List.{List, [], _∷_, _++_}
+use mathlib.Core.Option.{Option, none, some}
+use Rattle.site.specs.Presumption.{Outcome, commit, abort, sameOutcome, Presumption, acks, presumptionNumber}
+use Rattle.site.specs.Step.{Message, prepare, voteYes, voteNo, tell, ack, Input, begin, timer, received, Effect, append, force, enter, send, Row, given}
+
+-- `decided commit` is 01's Committed, `decided abort` its Aborted.
+pub data Participant : Type 0 where
+  working prepared : Participant
+  decided : Outcome → Participant
+  unknown : Participant
+
+-- the record of an outcome: Committed, Aborted
+unfoldable pub outcomeRecord : Outcome → ℕ
+outcomeRecord commit = 6
+outcomeRecord abort = 7
+
+module _ (c : Presumption) (p : ℕ) where
+  -- ---- Prepare
+
+  unfoldable pub voting : Participant → Message → Row Participant
+  voting phase vote = record { effects = send vote p ∷ []; phase = phase }
+
+  unfoldable pub onPrepare : Participant → Option (Row Participant)
+  onPrepare working = some (record { effects = append 5 (presumptionNumber c ∷ []) ∷ force ∷ send voteYes p ∷ []; phase = prepared })
+  onPrepare prepared = some (voting prepared voteYes)
+  onPrepare (decided commit) = none
+  onPrepare (decided abort) = some (voting (decided abort) voteNo)
+  onPrepare unknown = some (voting unknown voteNo)
+
+  -- ---- Commit, Abort
+
+  unfoldable pub acking : Outcome → List Effect
+  acking o = given (acks c o) (send (ack o) p ∷ [])
+
+  -- the outcome is new
+  unfoldable pub finish : Outcome → Row Participant
+  finish o = record { effects = append (outcomeRecord o) [] ∷ given (acks c o) (force ∷ []) ++ enter o ∷ acking o; phase = decided o }
+
+  -- the outcome that it has already, or the other one
+  unfoldable pub ackingIf : Bool → Outcome → Option (Row Participant)
+  ackingIf true o = some (record { effects = acking o; phase = decided o })
+  ackingIf false o = none
+
+  unfoldable pub onTell : Outcome → Participant → Option (Row Participant)
+  onTell commit working = none
+  onTell abort working = some (finish abort)
+  onTell o prepared = some (finish o)
+  onTell o (decided d) = ackingIf (sameOutcome o d) o
+  onTell o unknown = some (record { effects = acking o; phase = unknown })
+
+  -- ---- timer
+
+  unfoldable pub participantTimer : Participant → Option (Row Participant)
+  participantTimer working = some (record { effects = enter abort ∷ []; phase = unknown })
+  participantTimer prepared = some (voting prepared voteYes)
+  participantTimer (decided o) = none
+  participantTimer unknown = none
+
+  -- ---- the step: `none` is no row
+
+  unfoldable pub participantStep : Input → Participant → Option (Row Participant)
+  participantStep begin s = none
+  participantStep timer s = participantTimer s
+  participantStep (received prepare q) s = onPrepare s
+  participantStep (received voteYes q) s = none
+  participantStep (received voteNo q) s = none
+  participantStep (received (tell o) q) s = onTell o s
+  participantStep (received (ack o) q) s = none
+
+  -- ---- restart
+
+  -- whether there is a record 6; a record 7; a record 5
+  unfoldable pub restartWith : Bool → Bool → Bool → Row Participant
+  restartWith true a v = record { effects = enter commit ∷ []; phase = decided commit }
+  restartWith false true v = record { effects = enter abort ∷ []; phase = decided abort }
+  restartWith false false true = voting prepared voteYes
+  restartWith false false false = record { effects = []; phase = unknown }
+
+  -- by the kinds of record that the stable log has of the transaction
+  unfoldable pub participantRestart : (ℕ → Bool) → Row Participant
+  participantRestart has = restartWith (has 6) (has 7) (has 5)

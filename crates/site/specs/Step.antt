@@ -1,0 +1,53 @@
+-- What one site's step is made of: messages, inputs, effects and rows.
+use Prim.Native.Nat.{ℕ}
+use mathlib.Core.Bool.{Bool, cond}
+use mathlib.Core.List.{List, [], _∷_}
+use mathlib.Core.Option.{Option}
+use Rattle.site.specs.Presumption.{Outcome, commit, abort}
+
+-- `voteYes` is 01's Yes, `voteNo` its No, `tell` its Commit and Abort, `ack` its CommitAck and AbortAck. A message is of one participant, to which or from which it goes.
+pub data Message : Type 0 where
+  prepare voteYes voteNo : Message
+  tell ack : Outcome → Message
+
+-- by kind number
+unfoldable pub messages : List Message
+messages = prepare ∷ voteYes ∷ voteNo ∷ tell commit ∷ tell abort ∷ ack commit ∷ ack abort ∷ []
+
+unfoldable pub messageKind : Message → ℕ
+messageKind prepare = 0
+messageKind voteYes = 1
+messageKind voteNo = 2
+messageKind (tell commit) = 3
+messageKind (tell abort) = 4
+messageKind (ack commit) = 5
+messageKind (ack abort) = 6
+
+-- the site that a message of participant p goes to: 0, 3 and 4 to the participant, the others to the coordinator
+unfoldable pub receiver : Message → ℕ → ℕ
+receiver prepare p = p
+receiver voteYes p = 0
+receiver voteNo p = 0
+receiver (tell o) p = p
+receiver (ack o) p = 0
+
+-- what a site is given: begin, its timer, or a message of participant p
+pub data Input : Type 0 where
+  begin timer : Input
+  received : Message → ℕ → Input
+
+-- `append k fs` appends a record of kind k with the fields fs behind the transaction; `force` makes all records of the log stable;
+-- `enter o` enters an outcome; `send m p` sends a message of participant p
+pub data Effect : Type 0 where
+  append : ℕ → List ℕ → Effect
+  force : Effect
+  enter : Outcome → Effect
+  send : Message → ℕ → Effect
+
+-- a row: its effects in order, and the phase after them
+pub record Row (Phase : Type 0) : Type 0 where
+  pub effects : List Effect
+  pub phase : Phase
+
+unfoldable pub given : Bool → List Effect → List Effect
+given b es = cond b es []
