@@ -9,7 +9,7 @@ use Rattle.site.specs.Coordinator.{endRecord, presumptionOf, owing, inOrder, te
 use Rattle.site.specs.Participant.{outcomeRecord, voting, onPrepare, acking, finish, ackingIf, onTell, participantTimer, participantStep, restartWith, participantRestart}
 use Rattle.site.specs.Numbers.{coordinatorPhase, waitingSet, coordinatorOf, participantPhase, participantOf, inputOf, kindsAt, waitingInRange, isMember, namesNone, inRangeAt, argumentsInRange, outcomeNumber, summary, reply, coordinatorReply, participantReply, stepAt, siteStep, packed}
 use Rattle.joint.specs.State.{fresh, update, atSite, atTransaction, opened, takesPart, holds, appended, forced, stopped, started, withCoordinator, withParticipant, withSent, withEntered, forgotten, down, perform, performAll}
-use Rattle.joint.specs.Event.{eventOf, ranges, bytesInRange, cutInRange, cutOf, parse}
+use Rattle.joint.specs.Event.{eventOf, ranges, bytesInRange, cutInRange, cutAt, cutOf, parse}
 use Rattle.joint.specs.Refusals.{unopened, stranger, isDown, refusals}
 use Rattle.joint.specs.Plan.{settling, acting, rowPlan, planned, step, orNothing, openedAs, closes, newest, mayDiscard, dropOldest, trimmed, forgottenUnless, discard, transactions, restarting, joined, restartAll, plan}
 use Rattle.joint.specs.Run.{refuse, partly, canCut, cutShort, carry, carryPlan, carryUnless, eventParsed, event, after, isAppend, isForce, isSend, count, answerOf, answers}
@@ -24,5 +24,5 @@ unfolding sameOutcome acks silence presumptionNumber messages messageKind receiv
 site-opens = tt
 
 unfoldable pub joint-opens : Unit {0}
-unfolding fresh update atSite atTransaction opened takesPart holds appended forced stopped started withCoordinator withParticipant withSent withEntered forgotten down perform performAll eventOf ranges bytesInRange cutInRange cutOf parse unopened stranger isDown refusals settling acting rowPlan planned step orNothing openedAs closes newest mayDiscard dropOldest trimmed forgottenUnless discard transactions restarting joined restartAll plan refuse partly canCut cutShort carry carryPlan carryUnless eventParsed event after isAppend isForce isSend count answerOf answers sixes eventsIn space newline decimal line eventLines ascii letter transactionLine drill
+unfolding fresh update atSite atTransaction opened takesPart holds appended forced stopped started withCoordinator withParticipant withSent withEntered forgotten down perform performAll eventOf ranges bytesInRange cutInRange cutAt cutOf parse unopened stranger isDown refusals settling acting rowPlan planned step orNothing openedAs closes newest mayDiscard dropOldest trimmed forgottenUnless discard transactions restarting joined restartAll plan refuse partly canCut cutShort carry carryPlan carryUnless eventParsed event after isAppend isForce isSend count answerOf answers sixes eventsIn space newline decimal line eventLines ascii letter transactionLine drill
 joint-opens = tt

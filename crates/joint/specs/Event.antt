@@ -1,6 +1,6 @@
 -- Events: six bytes, code, x, y, z, cut, keep.
 use Prim.Native.Nat.{ℕ}
-use mathlib.Core.Bool.{Bool, cond, not, _&&_, _||_}
+use mathlib.Core.Bool.{Bool, true, false, not, _&&_, _||_}
 use mathlib.Core.List.{List, [], _∷_}
 use mathlib.Core.Option.{Option, none, some}
 use lib.ListN.{length, getD}
@@ -61,8 +61,13 @@ cutInRange code cut keep =
     leb cut 255 && leb keep 255 && (eqb cut 255 || any (eqb code) (1 ∷ 2 ∷ 3 ∷ 7 ∷ [])) && (eqb keep 0 || not (eqb cut 255) || eqb code 6)
 
 -- where power goes: after so many effects, with so many unforced records kept. A crash is an event of no effects, cut there
+unfoldable pub cutAt : Bool → Bool → ℕ → ℕ → Option (ℕ × ℕ)
+cutAt true uncut n keep = some (0, keep)
+cutAt false true n keep = none
+cutAt false false n keep = some (n, keep)
+
 unfoldable pub cutOf : ℕ → ℕ → ℕ → Option (ℕ × ℕ)
-cutOf code cut keep = cond (eqb code 6) (some (0, keep)) (cond (eqb cut 255) none (some (cut, keep)))
+cutOf code cut keep = cutAt (eqb code 6) (eqb cut 255) cut keep
 
 pub record Parsed : Type 0 where
   pub event : Event
