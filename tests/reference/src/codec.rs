@@ -1,0 +1,297 @@
+//! Masks, message numbers, log records, log images.
+
+/// A set of participants: bit b-1 is participant b.
+pub type Mask = u8;
+
+pub const TRANSACTIONS: u8 = 8;
+pub const PARTICIPANTS: u8 = 8;
+pub const SITES: u8 = 9;
+pub const COORDINATOR: u8 = 0;
+
+pub fn bit(participant: u8) -> Mask {
+    1 << (participant - 1)
+}
+
+pub fn has(mask: Mask, participant: u8) -> bool {
+    mask & bit(participant) != 0
+}
+
+pub fn is_part(a: Mask, of: Mask) -> bool {
+    a & !of == 0
+}
+
+/// The participants of a mask, lowest first.
+pub fn each(mask: Mask) -> impl Iterator<Item = u8> {
+    (1..=PARTICIPANTS).filter(move |&b| has(mask, b))
+}
+
+/// Message kinds.
+pub const PREPARE: u8 = 0;
+pub const YES: u8 = 1;
+pub const NO: u8 = 2;
+pub const COMMIT: u8 = 3;
+pub const ABORT: u8 = 4;
+pub const COMMIT_ACK: u8 = 5;
+pub const ABORT_ACK: u8 = 6;
+
+/// Prepare, Commit and Abort go from the coordinator to a participant, the others back.
+pub fn goes_to_participant(kind: u8) -> bool {
+    matches!(kind, PREPARE | COMMIT | ABORT)
+}
+
+/// A message is known by its transaction, the participant at one end, and its kind.
+#[derive(Clone, Copy, PartialEq, Eq, Debug)]
+pub struct Message {
+    pub transaction: u8,
+    pub participant: u8,
+    pub kind: u8,
+}
+
+pub const MESSAGES: usize = 448;
+
+impl Message {
+    pub fn number(self) -> u16 {
+        56 * self.transaction as u16 + 7 * (self.participant as u16 - 1) + self.kind as u16
+    }
+
+    /// 26: number above 447.
+    pub fn from_number(number: u16) -> Result<Message, u8> {
+        if number > 447 {
+            return Err(26);
+        }
+        Ok(Message {
+            transaction: (number / 56) as u8,
+            participant: (number % 56 / 7) as u8 + 1,
+            kind: (number % 7) as u8,
+        })
+    }
+}
+
+#[derive(Clone, Copy, PartialEq, Eq, Debug)]
+pub enum LogRecord {
+    Init { transaction: u8, members: Mask, presume_commit: Mask },
+    Commit { transaction: u8, members: Mask, presume_commit: Mask },
+    CommitEnd { transaction: u8 },
+    AbortEnd { transaction: u8 },
+    Prepared { transaction: u8, presumption: u8 },
+    Committed { transaction: u8 },
+    Aborted { transaction: u8 },
+}
+
+/// Length of a record by its kind (kind 0 does not exist).
+const LENGTH: [usize; 8] = [0, 4, 4, 2, 2, 3, 2, 2];
+
+impl LogRecord {
+    pub fn kind(&self) -> u8 {
+        self.bytes()[0]
+    }
+
+    pub fn transaction(&self) -> u8 {
+        self.bytes()[1]
+    }
+
+    pub fn bytes(&self) -> Vec<u8> {
+        match *self {
+            LogRecord::Init { transaction, members, presume_commit } => vec![1, transaction, members, presume_commit],
+            LogRecord::Commit { transaction, members, presume_commit } => vec![2, transaction, members, presume_commit],
+            LogRecord::CommitEnd { transaction } => vec![3, transaction],
+            LogRecord::AbortEnd { transaction } => vec![4, transaction],
+            LogRecord::Prepared { transaction, presumption } => vec![5, transaction, presumption],
+            LogRecord::Committed { transaction } => vec![6, transaction],
+            LogRecord::Aborted { transaction } => vec![7, transaction],
+        }
+    }
+
+    /// 23: kind not one of that site's, wrong length or field.
+    pub fn parse(site: u8, bytes: &[u8]) -> Result<LogRecord, u8> {
+        let Some(&kind) = bytes.first() else { return Err(23) };
+        let of_site = if site == COORDINATOR { 1..=4 } else { 5..=7 };
+        if !of_site.contains(&kind) || bytes.len() != LENGTH[kind as usize] {
+            return Err(23);
+        }
+        let transaction = bytes[1];
+        if transaction >= TRANSACTIONS {
+            return Err(23);
+        }
+        let record = match kind {
+            1 | 2 => {
+                let (members, presume_commit) = (bytes[2], bytes[3]);
+                if members == 0 || !is_part(presume_commit, members) {
+                    return Err(23);
+                }
+                if kind == 1 {
+                    if presume_commit == 0 {
+                        return Err(23);
+                    }
+                    LogRecord::Init { transaction, members, presume_commit }
+                } else {
+                    LogRecord::Commit { transaction, members, presume_commit }
+                }
+            }
+            3 => LogRecord::CommitEnd { transaction },
+            4 => LogRecord::AbortEnd { transaction },
+            5 => {
+                let presumption = bytes[2];
+                if presumption > 1 {
+                    return Err(23);
+                }
+                LogRecord::Prepared { transaction, presumption }
+            }
+            6 => LogRecord::Committed { transaction },
+            _ => LogRecord::Aborted { transaction },
+        };
+        Ok(record)
+    }
+}
+
+/// May the records of one transaction at one site stand in this order?
+/// Every beginning of a legal row is legal, so a reader can ask record by record.
+pub fn legal_sequence(of_one: &[LogRecord]) -> bool {
+    use LogRecord::*;
+    let has_pra = |members: Mask, presume_commit: Mask| members & !presume_commit != 0;
+    match *of_one {
+        [] => true,
+        // coordinator
+        [Init { .. }] | [Commit { .. }] | [CommitEnd { .. }] | [AbortEnd { .. }] => true,
+        [Init { .. }, AbortEnd { .. }] => true,
+        [Commit { members, presume_commit, .. }, CommitEnd { .. }] => has_pra(members, presume_commit),
+        [Init { members: m1, presume_commit: p1, .. }, Commit { members: m2, presume_commit: p2, .. }] => {
+            m1 == m2 && p1 == p2
+        }
+        [Init { members: m1, presume_commit: p1, .. }, Commit { members: m2, presume_commit: p2, .. }, CommitEnd { .. }] => {
+            m1 == m2 && p1 == p2 && has_pra(m2, p2)
+        }
+        // participant
+        [Prepared { .. }] | [Committed { .. }] | [Aborted { .. }] => true,
+        [Prepared { .. }, Committed { .. }] | [Prepared { .. }, Aborted { .. }] => true,
+        _ => false,
+    }
+}
+
+pub const OPENING: [u8; 4] = [0x44, 0x50, 0x52, 0x4C];
+
+/// 21: site above 8, or too many records for that site.
+fn check_site_and_count(site: u64, count: usize) -> Result<u8, u8> {
+    if site > 8 {
+        return Err(21);
+    }
+    let most = if site == 0 { 24 } else { 16 };
+    if count > most {
+        return Err(21);
+    }
+    Ok(site as u8)
+}
+
+/// 23 before 24 at each record in turn.
+fn check_records(site: u8, raw: &[&[u8]]) -> Result<Vec<LogRecord>, u8> {
+    let mut log: Vec<LogRecord> = Vec::new();
+    for bytes in raw {
+        let record = LogRecord::parse(site, bytes)?;
+        log.push(record);
+        let of_one: Vec<LogRecord> =
+            log.iter().copied().filter(|r| r.transaction() == record.transaction()).collect();
+        if !legal_sequence(&of_one) {
+            return Err(24);
+        }
+    }
+    Ok(log)
+}
+
+/// Site and log of an image, or 20 to 24.
+pub fn read_image(image: &[u8]) -> Result<(u8, Vec<LogRecord>), u8> {
+    if image.len() < 6 || image[..4] != OPENING {
+        return Err(20);
+    }
+    let count = image[5] as usize;
+    let site = check_site_and_count(image[4] as u64, count)?;
+    let first = 6 + 4 * count;
+    if image.len() < first {
+        return Err(22);
+    }
+    // Each record starts where the one before ended, the last one ends at the end.
+    let mut expected = first;
+    let mut places = Vec::new();
+    for pair in image[6..first].chunks(4) {
+        let offset = pair[0] as usize + 256 * pair[1] as usize;
+        let length = pair[2] as usize + 256 * pair[3] as usize;
+        if offset != expected {
+            return Err(22);
+        }
+        expected = offset + length;
+        places.push((offset, expected));
+    }
+    if expected != image.len() {
+        return Err(22);
+    }
+    let raw: Vec<&[u8]> = places.iter().map(|&(from, to)| &image[from..to]).collect();
+    Ok((site, check_records(site, &raw)?))
+}
+
+/// The image of a legal log.
+pub fn image(site: u8, log: &[LogRecord]) -> Vec<u8> {
+    let mut table = Vec::new();
+    let mut body = Vec::new();
+    for record in log {
+        let bytes = record.bytes();
+        let offset = (6 + 4 * log.len() + body.len()) as u16;
+        table.extend(offset.to_le_bytes());
+        table.extend((bytes.len() as u16).to_le_bytes());
+        body.extend(bytes);
+    }
+    let mut out = OPENING.to_vec();
+    out.push(site);
+    out.push(log.len() as u8);
+    out.extend(table);
+    out.extend(body);
+    out
+}
+
+/// Writes the image of a log, records given as bytes, at the offset of the lent buffer.
+/// Answers the image's length, or 21, 23, 24, 25; a refusal leaves the buffer alone.
+pub fn write_image(site: u64, records: &[Vec<u8>], buffer: &mut [u8], offset: u64) -> Result<usize, u8> {
+    let site = check_site_and_count(site, records.len())?;
+    let raw: Vec<&[u8]> = records.iter().map(|r| r.as_slice()).collect();
+    let log = check_records(site, &raw)?;
+    let bytes = image(site, &log);
+    let room = (buffer.len() as u64).checked_sub(offset).ok_or(25u8)?;
+    if room < bytes.len() as u64 {
+        return Err(25);
+    }
+    let from = offset as usize;
+    buffer[from..from + bytes.len()].copy_from_slice(&bytes);
+    Ok(bytes.len())
+}
+
+#[cfg(test)]
+mod tests {
+    use super::*;
+
+    #[test]
+    fn message_numbers_round_trip() {
+        for n in 0..=447 {
+            let m = Message::from_number(n).unwrap();
+            assert!(m.transaction < 8 && (1..=8).contains(&m.participant) && m.kind < 7);
+            assert_eq!(m.number(), n);
+        }
+        for n in 448..=65535 {
+            assert_eq!(Message::from_number(n), Err(26));
+        }
+        assert_eq!(Message::from_number(447), Ok(Message { transaction: 7, participant: 8, kind: 6 }));
+    }
+
+    #[test]
+    fn a_length_cannot_wrap() {
+        // 14 + FFFF + .. would come round to the end in 16 bits.
+        let mut bytes = vec![0x44, 0x50, 0x52, 0x4C, 1, 2, 14, 0, 0xFF, 0xFF, 13, 0, 4, 0, 5, 0, 1];
+        assert_eq!(read_image(&bytes), Err(22));
+        bytes[10] = 17;
+        assert_eq!(read_image(&bytes), Err(22));
+    }
+
+    #[test]
+    fn seventeen_records_at_a_participant() {
+        let log = vec![vec![9, 9]; 17];
+        assert_eq!(write_image(1, &log, &mut [0; 200], 0), Err(21));
+        assert_eq!(write_image(0, &log, &mut [0; 200], 0), Err(23));
+    }
+}

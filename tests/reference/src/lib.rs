@@ -1,0 +1,9 @@
+//! Reference model of document 01 for tests, written from its text and docs/DECISIONS.md and from no Rattle file.
+//! 01's words in the field's names: hub = coordinator, box = participant,
+//! handover = transaction, PC = presume_commit.
+
+pub mod codec;
+pub mod joint;
+pub mod monitor;
+pub mod random;
+pub mod step;

@@ -1,0 +1,171 @@
+//! One request per line on stdin, one answer line on stdout.
+
+use reference::codec::*;
+use reference::joint::*;
+use reference::random::*;
+use reference::step::*;
+use reference::{joint, monitor};
+use std::io::{self, BufRead, BufWriter, Write};
+
+const USAGE: &str = "usage: reference drill|dump|read|write|step|message|safe|facts
+       reference random SEED COUNT MAXLEN
+       reference random-images SEED COUNT
+       reference random-steps SEED COUNT";
+
+/// Hex bytes separated by blanks; `;` counts as a blank.
+fn hex(line: &str) -> Option<Vec<u8>> {
+    let mut bytes = Vec::new();
+    for token in line.split(|c: char| c.is_whitespace() || c == ';').filter(|t| !t.is_empty()) {
+        if !token.is_ascii() || token.len() % 2 != 0 {
+            return None;
+        }
+        for i in (0..token.len()).step_by(2) {
+            bytes.push(u8::from_str_radix(&token[i..i + 2], 16).ok()?);
+        }
+    }
+    Some(bytes)
+}
+
+fn to_hex(bytes: &[u8]) -> String {
+    let tokens: Vec<String> = bytes.iter().map(|b| format!("{b:02X}")).collect();
+    tokens.join(" ")
+}
+
+fn decimals(record: &[u8]) -> String {
+    let tokens: Vec<String> = record.iter().map(|b| b.to_string()).collect();
+    tokens.join(",")
+}
+
+fn answer_drill(line: &str) -> Option<String> {
+    Some(drill(&hex(line)?).join("|"))
+}
+
+fn answer_dump(line: &str) -> Option<String> {
+    let mut run = Run::fresh();
+    for event in joint::drill_events(&hex(line)?) {
+        run.event(event);
+    }
+    Some(run.dump().join("|"))
+}
+
+fn answer_read(line: &str) -> Option<String> {
+    Some(match read_image(&hex(line)?) {
+        Err(number) => number.to_string(),
+        Ok((site, log)) => {
+            let mut out = format!("0 {} {}", site, log.len());
+            for record in log {
+                out += " ";
+                out += &decimals(&record.bytes());
+            }
+            out
+        }
+    })
+}
+
+/// `site buffer_len offset rec rec ..`
+fn answer_write(line: &str) -> Option<String> {
+    let mut tokens = line.split_whitespace();
+    let site: u64 = tokens.next()?.parse().ok()?;
+    let length: usize = tokens.next()?.parse().ok()?;
+    let offset: u64 = tokens.next()?.parse().ok()?;
+    if length > 1_000_000 {
+        return None;
+    }
+    let mut records = Vec::new();
+    for token in tokens {
+        let record: Result<Vec<u8>, _> = token.split(',').map(|n| n.parse::<u8>()).collect();
+        records.push(record.ok()?);
+    }
+    let mut buffer = vec![0xEE; length];
+    Some(match write_image(site, &records, &mut buffer, offset) {
+        Ok(written) => format!("0 {} {}", written, to_hex(&buffer)),
+        Err(number) => {
+            assert!(buffer.iter().all(|&b| b == 0xEE));
+            number.to_string()
+        }
+    })
+}
+
+/// Nine numbers; one too large for 64 bits is as good as any other too large one.
+fn answer_step(line: &str) -> Option<String> {
+    let mut arguments = [0u64; 9];
+    let mut tokens = line.split_whitespace();
+    for a in &mut arguments {
+        let token = tokens.next()?;
+        if !token.bytes().all(|b| b.is_ascii_digit()) {
+            return None;
+        }
+        *a = token.parse().unwrap_or(u64::MAX);
+    }
+    if tokens.next().is_some() {
+        return None;
+    }
+    let s = step_on_numbers(arguments);
+    Some(format!(
+        "{} {} {} {} {} {} {} {}",
+        s.answer, s.phase, s.waiting, s.record, s.forced, s.entered, s.message, s.to
+    ))
+}
+
+/// A message number: `transaction participant kind`, or 26.
+fn answer_message(line: &str) -> Option<String> {
+    let number: u16 = line.trim().parse().ok()?;
+    Some(match Message::from_number(number) {
+        Ok(m) => format!("{} {} {}", m.transaction, m.participant, m.kind),
+        Err(number) => number.to_string(),
+    })
+}
+
+fn verdict(result: Result<(), String>) -> String {
+    match result {
+        Ok(()) => "ok".to_string(),
+        Err(what) => format!("broken: {what}"),
+    }
+}
+
+fn answer_lines(answer: impl Fn(&str) -> Option<String>) -> io::Result<()> {
+    let mut out = BufWriter::new(io::stdout().lock());
+    for line in io::stdin().lock().lines() {
+        let line = line?;
+        writeln!(out, "{}", answer(&line).unwrap_or_else(|| "bad request".to_string()))?;
+    }
+    out.flush()
+}
+
+fn generate(count: u64, seed: u64, one: impl Fn(&mut Rng) -> String) -> io::Result<()> {
+    let mut out = BufWriter::new(io::stdout().lock());
+    let mut rng = Rng::new(seed);
+    for _ in 0..count {
+        writeln!(out, "{}", one(&mut rng))?;
+    }
+    out.flush()
+}
+
+fn main() -> io::Result<()> {
+    let arguments: Vec<String> = std::env::args().skip(1).collect();
+    let words: Vec<&str> = arguments.iter().map(|s| s.as_str()).collect();
+    let numbers: Vec<u64> = words.iter().skip(1).filter_map(|w| w.parse().ok()).collect();
+    match (words.as_slice(), numbers.as_slice()) {
+        (["drill"], _) => answer_lines(answer_drill),
+        (["dump"], _) => answer_lines(answer_dump),
+        (["read"], _) => answer_lines(answer_read),
+        (["write"], _) => answer_lines(answer_write),
+        (["step"], _) => answer_lines(answer_step),
+        (["message"], _) => answer_lines(answer_message),
+        (["safe"], _) => answer_lines(|line| Some(verdict(monitor::safe(&hex(line)?)))),
+        (["facts"], _) => answer_lines(|line| Some(verdict(monitor::facts(&hex(line)?)))),
+        (["random", _, _, _], &[seed, count, most]) => generate(count, seed, |rng| {
+            let list: Vec<String> = event_list(rng, most as usize).iter().map(|e| to_hex(e)).collect();
+            list.join("; ")
+        }),
+        (["random-images", _, _], &[seed, count]) => generate(count, seed, |rng| to_hex(&random_image(rng))),
+        (["random-steps", _, _], &[seed, count]) => generate(count, seed, |rng| {
+            let numbers: Vec<String> = random_step(rng).iter().map(|n| n.to_string()).collect();
+            numbers.join(" ")
+        }),
+        _ => {
+            eprintln!("{USAGE}");
+            std::process::exit(2)
+        }
+    }
+}
