@@ -20,13 +20,22 @@ unfoldable pub endRecord : Outcome → ℕ
 endRecord commit = 3
 endRecord abort = 4
 
-module _ (M C : ℕ) where
-  unfoldable pub presumptionOf : ℕ → Presumption
-  presumptionOf p = cond (member p C) presumedCommit presumedAbort
+-- the presumption of participant p, by the set that presumes commit
+unfoldable pub presumptionOf : ℕ → ℕ → Presumption
+presumptionOf C p = cond (member p C) presumedCommit presumedAbort
 
+-- acks of w are missing; if none is, Unknown
+unfoldable pub awaiting : Outcome → ℕ → Coordinator
+awaiting o w = cond (empty w) unknown (deciding o w)
+
+-- the outcome is told to p again, and the phase stays
+unfoldable pub telling : Outcome → ℕ → Coordinator → Row Coordinator
+telling o p c = record { effects = send (tell o) p ∷ []; phase = c }
+
+module _ (M C : ℕ) where
   -- the members that owe an ack for an outcome: for commit the PrA members, for abort the PrC members
   unfoldable pub owing : Outcome → ℕ
-  owing o = those λ p. member p M && acks (presumptionOf p) o
+  owing o = those λ p. member p M && acks (presumptionOf C p) o
 
   -- the order of sending: first those that owe an ack for the outcome, ties to the lowest
   unfoldable pub inOrder : Outcome → ℕ → List ℕ
@@ -34,10 +43,6 @@ module _ (M C : ℕ) where
 
   unfoldable pub tellAll : Outcome → ℕ → List Effect
   tellAll o to = map (send (tell o)) (inOrder o to)
-
-  -- acks of w are missing; if none is, Unknown
-  unfoldable pub awaiting : Outcome → ℕ → Coordinator
-  awaiting o w = cond (empty w) unknown (deciding o w)
 
   -- ---- begin
 
@@ -63,15 +68,11 @@ module _ (M C : ℕ) where
   voted true w = committing
   voted false w = record { effects = []; phase = collecting w }
 
-  -- the outcome is told to p again
-  unfoldable pub telling : Outcome → ℕ → Coordinator → Row Coordinator
-  telling o p c = record { effects = send (tell o) p ∷ []; phase = c }
-
   unfoldable pub onYes : ℕ → Coordinator → Option (Row Coordinator)
   onYes p ready = none
   onYes p (collecting w) = some (voted (empty (without p w)) (without p w))
   onYes p (deciding o w) = some (telling o p (deciding o w))
-  onYes p unknown = some (telling (silence (presumptionOf p)) p unknown)
+  onYes p unknown = some (telling (silence (presumptionOf C p)) p unknown)
 
   -- ---- No, and the timer
 
@@ -93,32 +94,33 @@ module _ (M C : ℕ) where
   coordinatorTimer (deciding o w) = some (record { effects = tellAll o w; phase = deciding o w })
   coordinatorTimer unknown = none
 
-  -- ---- CommitAck, AbortAck
+-- ---- CommitAck, AbortAck
 
-  -- acks of w are missing; whether none is
-  unfoldable pub acked : Outcome → Bool → ℕ → Row Coordinator
-  acked o true w = record { effects = append (endRecord o) [] ∷ []; phase = unknown }
-  acked o false w = record { effects = []; phase = deciding o w }
+-- acks of w are missing; whether none is
+unfoldable pub acked : Outcome → Bool → ℕ → Row Coordinator
+acked o true w = record { effects = append (endRecord o) [] ∷ []; phase = unknown }
+acked o false w = record { effects = []; phase = deciding o w }
 
-  -- an ack of the outcome that is being told, or of the other one
-  unfoldable pub ackedIf : Bool → Outcome → ℕ → Option (Row Coordinator)
-  ackedIf true o w = some (acked o (empty w) w)
-  ackedIf false o w = none
+-- an ack of the outcome that is being told, or of the other one
+unfoldable pub ackedIf : Bool → Outcome → ℕ → Option (Row Coordinator)
+ackedIf true o w = some (acked o (empty w) w)
+ackedIf false o w = none
 
-  unfoldable pub onAck : Outcome → ℕ → Coordinator → Option (Row Coordinator)
-  onAck a p ready = none
-  onAck a p (collecting w) = none
-  onAck a p (deciding o w) = ackedIf (sameOutcome a o) o (without p w)
-  onAck a p unknown = none
+unfoldable pub onAck : Outcome → ℕ → Coordinator → Option (Row Coordinator)
+onAck a p ready = none
+onAck a p (collecting w) = none
+onAck a p (deciding o w) = ackedIf (sameOutcome a o) o (without p w)
+onAck a p unknown = none
 
+module _ (M C : ℕ) where
   -- ---- the step: `none` is no row
 
   unfoldable pub coordinatorStep : Input → Coordinator → Option (Row Coordinator)
-  coordinatorStep begin c = onBegin c
-  coordinatorStep timer c = coordinatorTimer c
+  coordinatorStep begin c = onBegin M C c
+  coordinatorStep timer c = coordinatorTimer M C c
   coordinatorStep (received prepare p) c = none
-  coordinatorStep (received voteYes p) c = onYes p c
-  coordinatorStep (received voteNo p) c = onNo p c
+  coordinatorStep (received voteYes p) c = onYes M C p c
+  coordinatorStep (received voteNo p) c = onNo M C p c
   coordinatorStep (received (tell o) p) c = none
   coordinatorStep (received (ack o) p) c = onAck o p c
 
@@ -126,8 +128,10 @@ module _ (M C : ℕ) where
 
   -- whether Commit stands without CommitEnd; whether Init stands without 2 or 4
   unfoldable pub restartFrom : Bool → Bool → Row Coordinator
-  restartFrom true i = record { effects = enter commit ∷ given (not (empty (owing commit))) (tellAll commit M); phase = awaiting commit (owing commit) }
-  restartFrom false true = record { effects = enter abort ∷ tellAll abort M; phase = awaiting abort (owing abort) }
+  restartFrom true i =
+      let w = owing M C commit in
+      record { effects = enter commit ∷ given (not (empty w)) (tellAll M C commit M); phase = awaiting commit w }
+  restartFrom false true = record { effects = enter abort ∷ tellAll M C abort M; phase = awaiting abort (owing M C abort) }
   restartFrom false false = record { effects = []; phase = unknown }
 
   -- by the kinds of record that the stable log has of the transaction

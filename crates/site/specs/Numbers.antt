@@ -78,7 +78,7 @@ waitingInRange M C phase w =
 -- a member, with its presumption
 unfoldable pub isMember : Arguments → Bool
 isMember a =
-    member (a .participant) (a .members) && eqb (a .presumption) (presumptionNumber (presumptionOf (a .members) (a .presumeCommit) (a .participant)))
+    member (a .participant) (a .members) && eqb (a .presumption) (presumptionNumber (presumptionOf (a .presumeCommit) (a .participant)))
 
 -- begin and the coordinator's timer name no participant
 unfoldable pub namesNone : Arguments → Bool
@@ -98,7 +98,7 @@ argumentsInRange a =
 -- ---- what a row does, as numbers
 
 -- the kind of the record appended (0: none); whether the log is forced; the outcome entered (0: none, 1 commit, 2 abort);
--- the kind of message sent (0 also where none is), and the set that it goes to
+-- the kind of message sent (0 also where none is), and the participants whose message it is (0: none is sent): a coordinator's goes to each of them, a participant's is its own
 pub record Summary : Type 0 where
   pub appended : ℕ
   pub forced : ℕ
@@ -145,7 +145,7 @@ unfoldable pub stepAt : ℕ → Arguments → List ℕ
 stepAt zero a =
     coordinatorReply a (coordinatorStep (a .members) (a .presumeCommit) (inputOf (a .kind) (a .participant)) (coordinatorOf (a .phase) (a .waiting)))
 stepAt (suc n) a =
-    participantReply a (participantStep (presumptionOf (a .members) (a .presumeCommit) (suc n)) (suc n) (inputOf (a .kind) (suc n)) (participantOf (a .phase)))
+    participantReply a (participantStep (presumptionOf (a .presumeCommit) (suc n)) (suc n) (inputOf (a .kind) (suc n)) (participantOf (a .phase)))
 
 -- a refusal is 1 alone
 unfoldable pub siteStep : Arguments → List ℕ
