@@ -18,6 +18,11 @@ unfoldable pub all {ℓ} : {A : Type ℓ} → (A → Bool) → List A → Bool
 all f [] = true
 all f (x ∷ xs) = f x && all f xs
 
+-- tests that all hold
+unfoldable pub every : List Bool → Bool
+every [] = true
+every (b ∷ bs) = b && every bs
+
 unfoldable pub concat {ℓ} : {A : Type ℓ} → List (List A) → List A
 concat [] = []
 concat (x ∷ xs) = x ++ concat xs

@@ -1,9 +1,10 @@
 -- Message numbers: 16 bits for a message of kind k to or from participant p on transaction t.
 use Prim.Native.Nat.{ℕ, _+_, _-_, _*_, _/_, _%_}
-use mathlib.Core.Bool.{Bool, _&&_}
+use mathlib.Core.Bool.{Bool}
+use mathlib.Core.List.{[], _∷_}
 use mathlib.Core.Option.{Option}
 use lib.Dec.{leb}
-use Rattle.codec.specs.Lists.{onlyIf}
+use Rattle.codec.specs.Lists.{every, onlyIf}
 
 pub record Parts : Type 0 where
   pub transaction : ℕ
@@ -19,7 +20,7 @@ messageParts n = onlyIf (leb n 447) (record { transaction = n / 56; participant 
 
 -- the way back; parts that no message has are refused by 26 too
 unfoldable pub isMessage : Parts → Bool
-isMessage m = leb (m .transaction) 7 && leb 1 (m .participant) && leb (m .participant) 8 && leb (m .kind) 6
+isMessage m = every (leb (m .transaction) 7 ∷ leb 1 (m .participant) ∷ leb (m .participant) 8 ∷ leb (m .kind) 6 ∷ [])
 
 unfoldable pub numberOf : Parts → Option ℕ
 numberOf m = onlyIf (isMessage m) (messageNumber m)

@@ -5,7 +5,7 @@ use mathlib.Core.Bool.{Bool, true, false, not, _&&_, _||_}
 use mathlib.Core.List.{List, [], _∷_, _++_, map}
 use lib.ListN.{length, getD, drop}
 use lib.Dec.{eqb, leb}
-use Rattle.codec.specs.Lists.{select, any, all, same}
+use Rattle.codec.specs.Lists.{select, any, all, every, same}
 use Rattle.codec.specs.Sets.{empty, less, part}
 
 pub record LogRecord : Type 0 where
@@ -46,7 +46,7 @@ kindAt (suc n) kind = leb 5 kind && leb kind 7
 
 -- members not 0, PC a part of members
 unfoldable pub masksInRange : LogRecord → Bool
-masksInRange x = leb 1 (membersIn x) && leb (membersIn x) 255 && part (presumeCommitIn x) (membersIn x)
+masksInRange x = every (leb 1 (membersIn x) ∷ leb (membersIn x) 255 ∷ part (presumeCommitIn x) (membersIn x) ∷ [])
 
 -- the fields behind the transaction, by kind: Init has PC not empty; a presumption is 0 or 1
 unfoldable pub fieldsInRange : LogRecord → Bool
@@ -68,7 +68,7 @@ fieldsInRange x =
 unfoldable pub isRecord : ℕ → List ℕ → Bool
 isRecord s bytes =
     let x = recordOf bytes in
-    kindAt s (x .kind) && eqb (length bytes) (lengthOf (x .kind)) && leb (x .transaction) 7 && fieldsInRange x
+    every (kindAt s (x .kind) ∷ eqb (length bytes) (lengthOf (x .kind)) ∷ leb (x .transaction) 7 ∷ fieldsInRange x ∷ [])
 
 -- ---- refusal 24: the sequence per transaction
 

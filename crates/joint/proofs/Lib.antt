@@ -1,2 +1,6 @@
 mod Open
 mod Cases
+mod History
+mod View
+mod Carry
+mod DownEmpty

@@ -5,7 +5,7 @@ use mathlib.Core.List.{List, [], _∷_}
 use mathlib.Core.Option.{Option, none, some}
 use lib.ListN.{length, getD}
 use lib.Dec.{eqb, leb}
-use Rattle.codec.specs.Lists.{any, onlyIf}
+use Rattle.codec.specs.Lists.{any, every, onlyIf}
 use Rattle.codec.specs.Sets.{part}
 use Rattle.site.specs.Step.{Message, prepare, messages}
 
@@ -52,13 +52,19 @@ ranges =
 unfoldable pub bytesInRange : ℕ → ℕ → ℕ → ℕ → Bool
 bytesInRange code x y z =
     let row = getD ranges code [] in
-    leb code 7 && leb x (getD row 0 0) && leb (getD row 1 0) y && leb y (getD row 2 0) && leb z (getD row 3 0)
-    && (not (eqb code 0) || part z y)
+    every
+    (leb code 7
+    ∷ leb x (getD row 0 0)
+    ∷ leb (getD row 1 0) y
+    ∷ leb y (getD row 2 0)
+    ∷ leb z (getD row 3 0)
+    ∷ (not (eqb code 0) || part z y)
+    ∷ [])
 
 -- Cut is 255 for none; a smaller one stands on codes 1, 2, 3, 7. Keep is 0 but on a cut or a crash
 unfoldable pub cutInRange : ℕ → ℕ → ℕ → Bool
 cutInRange code cut keep =
-    leb cut 255 && leb keep 255 && (eqb cut 255 || any (eqb code) (1 ∷ 2 ∷ 3 ∷ 7 ∷ [])) && (eqb keep 0 || not (eqb cut 255) || eqb code 6)
+    every (leb cut 255 ∷ leb keep 255 ∷ (eqb cut 255 || any (eqb code) (1 ∷ 2 ∷ 3 ∷ 7 ∷ [])) ∷ (eqb keep 0 || not (eqb cut 255) || eqb code 6) ∷ [])
 
 -- where power goes: after so many effects, with so many unforced records kept. A crash is an event of no effects, cut there
 unfoldable pub cutAt : Bool → Bool → ℕ → ℕ → Option (ℕ × ℕ)
@@ -82,4 +88,4 @@ parse bytes =
     let z = getD bytes 3 0 in
     let cut = getD bytes 4 0 in
     let keep = getD bytes 5 0 in
-    onlyIf (eqb (length bytes) 6 && bytesInRange code x y z && cutInRange code cut keep) (record { event = eventOf code x y z; cut = cutOf code cut keep })
+    onlyIf (every (eqb (length bytes) 6 ∷ bytesInRange code x y z ∷ cutInRange code cut keep ∷ [])) (record { event = eventOf code x y z; cut = cutOf code cut keep })

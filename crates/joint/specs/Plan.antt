@@ -19,7 +19,7 @@ pub record Plan : Type 0 where
   pub settle : Run → Run
 
 -- an event without effects
-unfoldable pub settling : ℕ → (Run → Run) → Plan
+abbrev pub settling : ℕ → (Run → Run) → Plan
 settling s f = record { site = s; acts = []; settle = f }
 
 -- ---- rows
@@ -85,6 +85,10 @@ dropOldest f (x ∷ xs) = cond (f x) xs (x ∷ dropOldest f xs)
 unfoldable pub trimmed : ℕ → Site → Site
 trimmed t x = record { up = x .up; stable = dropOldest (ofTransaction t) (x .stable); unforced = x .unforced }
 
+-- a site has a record of t
+unfoldable pub remembers : ℕ → Site → Bool
+remembers t x = any (ofTransaction t) (x .stable ++ x .unforced)
+
 -- with the last one gone a participant is Unknown: whether one is left, or the site is the coordinator
 unfoldable pub forgottenUnless : Bool → ℕ → ℕ → Run → Run
 forgottenUnless true t s r = r
@@ -93,7 +97,7 @@ forgottenUnless false t s r = atTransaction t (withParticipant s Participant.unk
 unfoldable pub discard : ℕ → ℕ → Run → Run
 discard t s r =
     let r′ = atSite s (trimmed t) r in
-    forgottenUnless (eqb s 0 || any (ofTransaction t) (r′ .site s .stable ++ r′ .site s .unforced)) t s r′
+    forgottenUnless (eqb s 0 || remembers t (r′ .site s)) t s r′
 
 -- ---- restart: each opened transaction in rising order
 

@@ -1,11 +1,11 @@
 -- The plain run: each event gets the run that the one before it left, and a refused one leaves it as it was.
 use Prim.Native.Nat.{ℕ, zero, suc}
-use mathlib.Core.Bool.{Bool, true, false, _&&_}
+use mathlib.Core.Bool.{Bool, true, false}
 use mathlib.Core.List.{List, [], _∷_}
 use mathlib.Core.Option.{Option, none, some}
 use lib.ListN.{length, take}
 use lib.Dec.{leb}
-use Rattle.codec.specs.Lists.{select, first}
+use Rattle.codec.specs.Lists.{every, select, first}
 use Rattle.site.specs.Step.{Effect, append, force, enter, send}
 use Rattle.joint.specs.State.{Run, Act, down, performAll}
 use Rattle.joint.specs.Event.{Parsed, parse}
@@ -28,7 +28,7 @@ partly r p n = performAll (p .site) (take n (p .acts)) r
 
 -- there are n effects, and k unforced records after them
 unfoldable pub canCut : Run → Plan → ℕ → ℕ → Bool
-canCut r p n k = leb n (length (p .acts)) && leb k (length (partly r p n .site (p .site) .unforced))
+canCut r p n k = every (leb n (length (p .acts)) ∷ leb k (length (partly r p n .site (p .site) .unforced)) ∷ [])
 
 -- cut: the first n effects happen, then the site is down, with k unforced records kept. 9: cut above the effects, keep above the unforced records then there
 unfoldable pub cutShort : Bool → Run → Plan → ℕ → ℕ → Result

@@ -2,11 +2,11 @@
 -- Nothing here reads the run's own entries or messages: the history is made from the list of events, effect by effect.
 use Prim.Native.Nat.{ℕ}
 use mathlib.Core.Path.{_≡_}
-use mathlib.Core.Bool.{Bool, true, false, cond, not, _&&_, _||_}
+use mathlib.Core.Bool.{Bool, true, false, cond, not, _&&_}
 use mathlib.Core.List.{List, [], _∷_, _++_, map}
 use lib.ListN.{take}
 use lib.Dec.{T, eqb}
-use Rattle.codec.specs.Lists.{any, same}
+use Rattle.codec.specs.Lists.{any, every, same}
 use Rattle.codec.specs.Sets.{member}
 use Rattle.site.specs.Presumption.{Outcome, commit, abort, sameOutcome}
 use Rattle.site.specs.Step.{Message, voteYes, tell, messageKind, Effect, append, force, enter, send}
@@ -65,26 +65,30 @@ sends m p (send n q) = eqb (messageKind m) (messageKind n) && eqb p q
 
 -- an entry: outcome o of transaction t is entered, at whichever site
 unfoldable pub isEntry : ℕ → Outcome → Moment → Bool
-isEntry t o m = eqb (m .act .transaction) t && enters o (m .act .effect)
+isEntry t o m = every (eqb (m .act .transaction) t ∷ enters o (m .act .effect) ∷ [])
 
 -- participant p votes Yes on t from a stable record: it sends a Yes while its stable log holds its record 5 of t
 unfoldable pub isVote : ℕ → ℕ → Moment → Bool
-isVote t p m = eqb (m .site) p && eqb (m .act .transaction) t && sends voteYes p (m .act .effect) && holds t 5 (m .before .site p .stable)
+isVote t p m = every (eqb (m .site) p ∷ eqb (m .act .transaction) t ∷ sends voteYes p (m .act .effect) ∷ holds t 5 (m .before .site p .stable) ∷ [])
 
 -- a reply: upon p's delivered Yes on t the coordinator sends p the outcome o
 unfoldable pub isReply : ℕ → ℕ → Outcome → Moment → Bool
 isReply t p o m =
-    same (take 4 (m .event)) (2 ∷ t ∷ p ∷ messageKind voteYes ∷ []) && eqb (m .site) 0 && eqb (m .act .transaction) t && sends (tell o) p (m .act .effect)
+    every (same (take 4 (m .event)) (2 ∷ t ∷ p ∷ messageKind voteYes ∷ []) ∷ eqb (m .site) 0 ∷ eqb (m .act .transaction) t ∷ sends (tell o) p (m .act .effect) ∷ [])
 
 -- in its stable log p has voted on t and has no outcome
 unfoldable pub inDoubt : Run → ℕ → ℕ → Bool
 inDoubt r t p =
     let log = r .site p .stable in
-    holds t 5 log && not (holds t 6 log || holds t 7 log)
+    every (holds t 5 log ∷ not (holds t 6 log) ∷ not (holds t 7 log) ∷ [])
+
+-- site 0's record 2 of t is stable
+unfoldable pub commitStable : ℕ → Run → Bool
+commitStable t r = holds t 2 (r .site 0 .stable)
 
 -- the outcome of t: commit if site 0's record 2 of it was stable at any moment of the list, trimmed since or not, else abort
 unfoldable pub outcome : List (List ℕ) → ℕ → Outcome
-outcome es t = cond (any (λ r. holds t 2 (r .site 0 .stable)) (along fresh es)) commit abort
+outcome es t = cond (any (commitStable t) (along fresh es)) commit abort
 
 -- ---- the claim
 

@@ -5,7 +5,7 @@ use mathlib.Core.List.{List, [], _∷_}
 use mathlib.Core.Option.{Option, none, some}
 use lib.ListN.{getD}
 use lib.Dec.{eqb, leb}
-use Rattle.codec.specs.Lists.{any}
+use Rattle.codec.specs.Lists.{any, every}
 use Rattle.codec.specs.Sets.{member, empty, part}
 use Rattle.site.specs.Presumption.{Outcome, commit, abort, presumptionNumber}
 use Rattle.site.specs.Step.{prepare, messages, messageKind, Input, begin, timer, received, Effect, append, force, enter, send, Row}
@@ -88,12 +88,20 @@ namesNone a = eqb (a .participant) 0 && eqb (a .presumption) 0
 unfoldable pub inRangeAt : ℕ → Arguments → Bool
 inRangeAt zero a =
     waitingInRange (a .members) (a .presumeCommit) (a .phase) (a .waiting) && cond (leb 16 (a .kind)) (namesNone a) (isMember a)
-inRangeAt (suc n) a = eqb (a .waiting) 0 && eqb (a .participant) (suc n) && isMember a
+inRangeAt (suc n) a = every (eqb (a .waiting) 0 ∷ eqb (a .participant) (suc n) ∷ isMember a ∷ [])
 
 unfoldable pub argumentsInRange : Arguments → Bool
 argumentsInRange a =
-    leb (a .site) 8 && any (eqb (a .kind)) (kindsAt (a .site)) && leb (a .transaction) 7 && leb (a .phase) 4
-    && leb 1 (a .members) && leb (a .members) 255 && part (a .presumeCommit) (a .members) && inRangeAt (a .site) a
+    every
+    (leb (a .site) 8
+    ∷ any (eqb (a .kind)) (kindsAt (a .site))
+    ∷ leb (a .transaction) 7
+    ∷ leb (a .phase) 4
+    ∷ leb 1 (a .members)
+    ∷ leb (a .members) 255
+    ∷ part (a .presumeCommit) (a .members)
+    ∷ inRangeAt (a .site) a
+    ∷ [])
 
 -- ---- what a row does, as numbers
 
