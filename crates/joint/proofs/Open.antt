@@ -13,7 +13,7 @@ use Rattle.joint.specs.Event.{eventOf, ranges, bytesInRange, cutInRange,
 use Rattle.joint.specs.Refusals.{unopened, stranger, isDown, refusals}
 use Rattle.joint.specs.Plan.{acting, rowPlan, planned, step, orNothing, openedAs, closes, newest, mayDiscard, dropOldest, trimmed, remembers, forgottenUnless, discard, transactions, restarting, joined, restartAll, plan}
 use Rattle.joint.specs.Run.{refuse, partly, canCut, cutShort, carry, carryPlan, carryUnless, eventParsed, event, after, isAppend, isForce, isSend, count, answerOf, answers}
-use Rattle.joint.specs.Drill.{sixes, eventsIn, space, newline, decimal, line, eventLines, ascii, letter, transactionLine, drill}
+use Rattle.joint.specs.Drill.{sixes, eventsIn, space, newline, decimal, line, eventLines, ascii, letter, entryLetter, transactionLine, drill}
 
 unfoldable pub codec-opens : Unit {0}
 unfolding select any all every concat same onlyIf first participants member empty listed bits those without both less part bytesOf recordOf lengths lengthOf membersIn presumeCommitIn awaitsAcks kindAt masksInRange fieldsInRange isRecord sequences agrees ofTransaction inSequence recordRefusals opening headLength word pairTable image pairsOf siteIn countIn pairsIn recordsIn most overLimit exact tableExact imageRefusals readUnless readImage logRefusals writeRefusals stored writeUnless writeImage
@@ -24,5 +24,5 @@ unfolding sameOutcome acks silence presumptionNumber messages messageKind receiv
 site-opens = tt
 
 unfoldable pub joint-opens : Unit {0}
-unfolding fresh update atSite atTransaction opened takesPart holds appended forced stopped started withCoordinator withParticipant withSent withEntered forgotten down perform performAll eventOf ranges bytesInRange cutInRange cutAt cutOf parse unopened stranger isDown refusals acting rowPlan planned step orNothing openedAs closes newest mayDiscard dropOldest trimmed remembers forgottenUnless discard transactions restarting joined restartAll plan refuse partly canCut cutShort carry carryPlan carryUnless eventParsed event after isAppend isForce isSend count answerOf answers sixes eventsIn space newline decimal line eventLines ascii letter transactionLine drill
+unfolding fresh update atSite atTransaction opened takesPart holds appended forced stopped started withCoordinator withParticipant withSent withEntered forgotten down perform performAll eventOf ranges bytesInRange cutInRange cutAt cutOf parse unopened stranger isDown refusals acting rowPlan planned step orNothing openedAs closes newest mayDiscard dropOldest trimmed remembers forgottenUnless discard transactions restarting joined restartAll plan refuse partly canCut cutShort carry carryPlan carryUnless eventParsed event after isAppend isForce isSend count answerOf answers sixes eventsIn space newline decimal line eventLines ascii letter entryLetter transactionLine drill
 joint-opens = tt

@@ -8,8 +8,9 @@ use mathlib.Core.List.{List, [], _∷_, _++_, map}
 use lib.ListN.{length, take, drop}
 use lib.Dec.{ltb}
 use Rattle.codec.specs.Lists.{select, concat}
-use Rattle.site.specs.Presumption.{Outcome, commit, abort}
-use Rattle.joint.specs.State.{Run, fresh, opened}
+use Rattle.codec.specs.Sets.{participants}
+use Rattle.site.specs.Presumption.{commit, abort}
+use Rattle.joint.specs.State.{Run, Transaction, fresh, opened}
 use Rattle.joint.specs.Plan.{transactions}
 use Rattle.joint.specs.Run.{Answer, after, answers}
 
@@ -62,12 +63,14 @@ letter false true = 65
 letter true true = 88
 letter false false = 45
 
+-- what site s has entered
+unfoldable pub entryLetter : Transaction → ℕ → ℕ
+entryLetter x s = letter (x .entered s commit) (x .entered s abort)
+
 -- a line for an opened transaction: the word HANDOVER, its number, and a letter for each site
 unfoldable pub transactionLine : Run → ℕ → List ℕ
 transactionLine r t =
-    let x = r .transaction t in
-    ascii "HANDOVER" ++ space ∷ decimal 0 t ++ space ∷ map (λ s. letter (x .entered s commit) (x .entered s abort)) (0 ∷ 1 ∷ 2 ∷ 3 ∷ 4 ∷ 5 ∷ 6 ∷ 7 ∷ 8 ∷ [])
-    ++ (newline ∷ [])
+    ascii "HANDOVER" ++ space ∷ decimal 0 t ++ space ∷ map (entryLetter (r .transaction t)) (0 ∷ participants) ++ (newline ∷ [])
 
 unfoldable pub drill : List ℕ → List ℕ
 drill input =

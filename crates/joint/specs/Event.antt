@@ -1,6 +1,6 @@
 -- Events: six bytes, code, x, y, z, cut, keep.
 use Prim.Native.Nat.{ℕ}
-use mathlib.Core.Bool.{Bool, true, false, not, _&&_, _||_}
+use mathlib.Core.Bool.{Bool, true, false, not, _||_}
 use mathlib.Core.List.{List, [], _∷_}
 use mathlib.Core.Option.{Option, none, some}
 use lib.ListN.{length, getD}
@@ -38,13 +38,21 @@ eventOf code x y z =
 -- by code: the largest x, the least and the largest y, the largest z. Unused x, y, z are 0
 unfoldable pub ranges : List (List ℕ)
 ranges =
+    -- 0 open: transaction, members, PC
     (7 ∷ 1 ∷ 255 ∷ 255 ∷ [])
+    -- 1 begin: transaction
     ∷ (7 ∷ 0 ∷ 0 ∷ 0 ∷ [])
+    -- 2 deliver: transaction, participant, kind
     ∷ (7 ∷ 1 ∷ 8 ∷ 6 ∷ [])
+    -- 3 timer: transaction, site
     ∷ (7 ∷ 0 ∷ 8 ∷ 0 ∷ [])
+    -- 4 force: site in y
     ∷ (0 ∷ 0 ∷ 8 ∷ 0 ∷ [])
+    -- 5 discard: transaction, site
     ∷ (7 ∷ 0 ∷ 8 ∷ 0 ∷ [])
+    -- 6 crash: site in y
     ∷ (0 ∷ 0 ∷ 8 ∷ 0 ∷ [])
+    -- 7 restart: site in y
     ∷ (0 ∷ 0 ∷ 8 ∷ 0 ∷ [])
     ∷ []
 
@@ -64,7 +72,12 @@ bytesInRange code x y z =
 -- Cut is 255 for none; a smaller one stands on codes 1, 2, 3, 7. Keep is 0 but on a cut or a crash
 unfoldable pub cutInRange : ℕ → ℕ → ℕ → Bool
 cutInRange code cut keep =
-    every (leb cut 255 ∷ leb keep 255 ∷ (eqb cut 255 || any (eqb code) (1 ∷ 2 ∷ 3 ∷ 7 ∷ [])) ∷ (eqb keep 0 || not (eqb cut 255) || eqb code 6) ∷ [])
+    every
+    (leb cut 255
+    ∷ leb keep 255
+    ∷ (eqb cut 255 || any (eqb code) (1 ∷ 2 ∷ 3 ∷ 7 ∷ []))
+    ∷ (eqb keep 0 || not (eqb cut 255) || eqb code 6)
+    ∷ [])
 
 -- where power goes: after so many effects, with so many unforced records kept. A crash is an event of no effects, cut there
 unfoldable pub cutAt : Bool → Bool → ℕ → ℕ → Option (ℕ × ℕ)
@@ -88,4 +101,6 @@ parse bytes =
     let z = getD bytes 3 0 in
     let cut = getD bytes 4 0 in
     let keep = getD bytes 5 0 in
-    onlyIf (every (eqb (length bytes) 6 ∷ bytesInRange code x y z ∷ cutInRange code cut keep ∷ [])) (record { event = eventOf code x y z; cut = cutOf code cut keep })
+    onlyIf
+    (every (eqb (length bytes) 6 ∷ bytesInRange code x y z ∷ cutInRange code cut keep ∷ []))
+    (record { event = eventOf code x y z; cut = cutOf code cut keep })

@@ -42,7 +42,8 @@ step r t zero i =
     planned 0 t withCoordinator (coordinatorStep (x .members) (x .presumeCommit) i (x .coordinator))
 step r t (suc n) i =
     let x = r .transaction t in
-    planned (suc n) t (withParticipant (suc n)) (participantStep (presumptionOf (x .presumeCommit) (suc n)) (suc n) i (x .participant (suc n)))
+    planned (suc n) t (withParticipant (suc n))
+    (participantStep (presumptionOf (x .presumeCommit) (suc n)) (suc n) i (x .participant (suc n)))
 
 -- a message that finds no row has no effect
 unfoldable pub orNothing : ℕ → Option Plan → Plan
@@ -111,7 +112,8 @@ restarting r zero t =
     rowPlan 0 t withCoordinator (coordinatorRestart (x .members) (x .presumeCommit) (λ k. holds t k (r .site 0 .stable)))
 restarting r (suc n) t =
     let x = r .transaction t in
-    rowPlan (suc n) t (withParticipant (suc n)) (participantRestart (presumptionOf (x .presumeCommit) (suc n)) (suc n) (λ k. holds t k (r .site (suc n) .stable)))
+    rowPlan (suc n) t (withParticipant (suc n))
+    (participantRestart (presumptionOf (x .presumeCommit) (suc n)) (suc n) (λ k. holds t k (r .site (suc n) .stable)))
 
 unfoldable pub joined : Plan → Plan → Plan
 joined a b = record { site = a .site; acts = a .acts ++ b .acts; settle = λ r. b .settle (a .settle r) }

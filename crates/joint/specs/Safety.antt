@@ -2,7 +2,7 @@
 -- Nothing here reads the run's own entries or messages: the history is made from the list of events, effect by effect.
 use Prim.Native.Nat.{ℕ}
 use mathlib.Core.Path.{_≡_}
-use mathlib.Core.Bool.{Bool, true, false, cond, not, _&&_}
+use mathlib.Core.Bool.{Bool, false, cond, not, _&&_}
 use mathlib.Core.List.{List, [], _∷_, _++_, map}
 use lib.ListN.{take}
 use lib.Dec.{T, eqb}
@@ -12,7 +12,7 @@ use Rattle.site.specs.Presumption.{Outcome, commit, abort, sameOutcome}
 use Rattle.site.specs.Step.{Message, voteYes, tell, messageKind, Effect, append, force, enter, send}
 use Rattle.site.specs.Coordinator.{Coordinator}
 use Rattle.joint.specs.State.{Run, Act, fresh, holds, perform}
-use Rattle.joint.specs.Run.{event, after}
+use Rattle.joint.specs.Run.{event}
 
 -- ---- history
 
@@ -69,12 +69,23 @@ isEntry t o m = every (eqb (m .act .transaction) t ∷ enters o (m .act .effect)
 
 -- participant p votes Yes on t from a stable record: it sends a Yes while its stable log holds its record 5 of t
 unfoldable pub isVote : ℕ → ℕ → Moment → Bool
-isVote t p m = every (eqb (m .site) p ∷ eqb (m .act .transaction) t ∷ sends voteYes p (m .act .effect) ∷ holds t 5 (m .before .site p .stable) ∷ [])
+isVote t p m =
+    every
+    (eqb (m .site) p
+    ∷ eqb (m .act .transaction) t
+    ∷ sends voteYes p (m .act .effect)
+    ∷ holds t 5 (m .before .site p .stable)
+    ∷ [])
 
 -- a reply: upon p's delivered Yes on t the coordinator sends p the outcome o
 unfoldable pub isReply : ℕ → ℕ → Outcome → Moment → Bool
 isReply t p o m =
-    every (same (take 4 (m .event)) (2 ∷ t ∷ p ∷ messageKind voteYes ∷ []) ∷ eqb (m .site) 0 ∷ eqb (m .act .transaction) t ∷ sends (tell o) p (m .act .effect) ∷ [])
+    every
+    (same (take 4 (m .event)) (2 ∷ t ∷ p ∷ messageKind voteYes ∷ [])
+    ∷ eqb (m .site) 0
+    ∷ eqb (m .act .transaction) t
+    ∷ sends (tell o) p (m .act .effect)
+    ∷ [])
 
 -- in its stable log p has voted on t and has no outcome
 unfoldable pub inDoubt : Run → ℕ → ℕ → Bool

@@ -6,7 +6,7 @@ use mathlib.Core.Option.{Option, none, some}
 use Rattle.codec.specs.Lists.{select}
 use Rattle.codec.specs.Sets.{member, empty, listed, those, without, both}
 use Rattle.site.specs.Presumption.{Outcome, commit, abort, sameOutcome, Presumption, presumedAbort, presumedCommit, acks, silence}
-use Rattle.site.specs.Step.{Message, prepare, voteYes, voteNo, tell, ack, Input, begin, timer, received, Effect, append, force, enter, send, Row, given}
+use Rattle.site.specs.Step.{prepare, voteYes, voteNo, tell, ack, Input, begin, timer, received, Effect, append, force, enter, send, Row, given}
 
 -- `ready` is 01's Open; `deciding commit` its Committing, `deciding abort` its Aborting. The number is the set still waited for.
 pub data Coordinator : Type 0 where

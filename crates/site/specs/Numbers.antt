@@ -1,6 +1,6 @@
 -- One site's step on numbers, as the lock controllers' firmware calls it. Phases count from 0 in 01's order.
 use Prim.Native.Nat.{ℕ, zero, suc, _+_, _*_, _^_, _-_}
-use mathlib.Core.Bool.{Bool, true, false, cond, not, _&&_, _||_}
+use mathlib.Core.Bool.{Bool, false, cond, not, _&&_}
 use mathlib.Core.List.{List, [], _∷_}
 use mathlib.Core.Option.{Option, none, some}
 use lib.ListN.{getD}
@@ -62,7 +62,8 @@ unfoldable pub kindsAt : ℕ → List ℕ
 kindsAt zero = 1 ∷ 2 ∷ 5 ∷ 6 ∷ 16 ∷ 17 ∷ []
 kindsAt (suc n) = 0 ∷ 3 ∷ 4 ∷ 17 ∷ []
 
--- the coordinator's waiting set: a part of the members, not empty in Collecting, Committing (PrA members only) and Aborting (PrC members only), and 0 in Open and Unknown
+-- the coordinator's waiting set: a part of the members, not empty in Collecting, Committing (PrA members only)
+-- and Aborting (PrC members only), and 0 in Open and Unknown
 unfoldable pub waitingInRange : ℕ → ℕ → ℕ → ℕ → Bool
 waitingInRange M C phase w =
     getD
@@ -106,7 +107,8 @@ argumentsInRange a =
 -- ---- what a row does, as numbers
 
 -- the kind of the record appended (0: none); whether the log is forced; the outcome entered (0: none, 1 commit, 2 abort);
--- the kind of message sent (0 also where none is), and the participants whose message it is (0: none is sent): a coordinator's goes to each of them, a participant's is its own
+-- the kind of message sent (0 also where none is), and the participants whose message it is (0: none is sent):
+-- a coordinator's message goes to each of them, a participant's is its own
 pub record Summary : Type 0 where
   pub appended : ℕ
   pub forced : ℕ

@@ -1,5 +1,5 @@
 -- Outcomes, and what a participant states beforehand about silence.
-use Prim.Native.Nat.{ℕ, zero, suc}
+use Prim.Native.Nat.{ℕ}
 use mathlib.Core.Bool.{Bool, true, false}
 
 pub data Outcome : Type 0 where

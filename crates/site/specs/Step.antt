@@ -2,10 +2,10 @@
 use Prim.Native.Nat.{ℕ}
 use mathlib.Core.Bool.{Bool, cond}
 use mathlib.Core.List.{List, [], _∷_}
-use mathlib.Core.Option.{Option}
 use Rattle.site.specs.Presumption.{Outcome, commit, abort}
 
--- `voteYes` is 01's Yes, `voteNo` its No, `tell` its Commit and Abort, `ack` its CommitAck and AbortAck. A message is of one participant, to which or from which it goes.
+-- `voteYes` is 01's Yes, `voteNo` its No, `tell` its Commit and Abort, `ack` its CommitAck and AbortAck.
+-- A message is of one participant, to which or from which it goes.
 pub data Message : Type 0 where
   prepare voteYes voteNo : Message
   tell ack : Outcome → Message
