@@ -1,4 +1,4 @@
-//! The joint run: events, refusals 1 to 9, cuts, crashes, trimming, the drill.
+//! The joint run: events, refusals 1 to 9, cuts, crashes, trimming.
 
 use crate::codec::*;
 use crate::step::*;
@@ -413,48 +413,6 @@ impl Run {
             Phase::Participant(phase) => t.participants[site as usize - 1] = phase,
         }
     }
-
-    /// The dump: phases of each opened transaction, then each site's log.
-    pub fn dump(&self) -> Vec<String> {
-        let mut lines = Vec::new();
-        for t in self.transactions.iter().flatten() {
-            let h = t.names.transaction;
-            lines.push(format!("H {} {} {}", h, t.coordinator.number(), t.coordinator.waiting()));
-            let mut line = format!("B {h}");
-            for b in 1..=PARTICIPANTS {
-                if has(t.names.members, b) {
-                    line += &format!(" {}", t.participants[b as usize - 1] as u8);
-                } else {
-                    line += " .";
-                }
-            }
-            lines.push(line);
-        }
-        for (site, log) in self.logs.iter().enumerate() {
-            let mut line = format!("L {} {}:", site, log.stable);
-            for record in &log.records {
-                let bytes: Vec<String> = record.bytes().iter().map(|b| b.to_string()).collect();
-                line += " ";
-                line += &bytes.join(",");
-            }
-            lines.push(line);
-        }
-        lines
-    }
-
-    pub fn handover_lines(&self) -> Vec<String> {
-        let letter = |e: &Entries| match (e.commit, e.abort) {
-            (true, true) => 'X',
-            (true, false) => 'C',
-            (false, true) => 'A',
-            (false, false) => '-',
-        };
-        let line = |t: &Transaction| {
-            let letters: String = t.entries.iter().map(letter).collect();
-            format!("HANDOVER {} {}", t.names.transaction, letters)
-        };
-        self.transactions.iter().flatten().map(line).collect()
-    }
 }
 
 impl Transaction {
@@ -465,23 +423,6 @@ impl Transaction {
             Phase::Participant(self.participants[site as usize - 1])
         }
     }
-}
-
-/// The drill looks at the first 60,000 bytes and cuts them in sixes.
-pub fn drill_events(input: &[u8]) -> std::slice::Chunks<'_, u8> {
-    input[..input.len().min(60_000)].chunks(6)
-}
-
-/// The drill's output lines.
-pub fn drill(input: &[u8]) -> Vec<String> {
-    let mut run = Run::fresh();
-    let mut lines = Vec::new();
-    for (i, event) in drill_events(input).enumerate() {
-        let a = run.event(event);
-        lines.push(format!("{} {} {} {} {}", i + 1, a.number, a.records, a.forces, a.sends));
-    }
-    lines.extend(run.handover_lines());
-    lines
 }
 
 #[cfg(test)]

@@ -3,7 +3,11 @@
 //! handover = transaction, PC = presume_commit.
 
 pub mod codec;
+pub mod drill;
 pub mod joint;
 pub mod monitor;
+pub mod numbers;
 pub mod random;
+pub mod random_images;
+pub mod random_steps;
 pub mod step;

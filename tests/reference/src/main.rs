@@ -1,10 +1,13 @@
 //! One request per line on stdin, one answer line on stdout.
 
 use reference::codec::*;
+use reference::drill::*;
 use reference::joint::*;
+use reference::monitor;
+use reference::numbers::*;
 use reference::random::*;
-use reference::step::*;
-use reference::{joint, monitor};
+use reference::random_images::*;
+use reference::random_steps::*;
 use std::io::{self, BufRead, BufWriter, Write};
 
 const USAGE: &str = "usage: reference drill|dump|read|write|step|message|safe|facts
@@ -42,7 +45,7 @@ fn answer_drill(line: &str) -> Option<String> {
 
 fn answer_dump(line: &str) -> Option<String> {
     let mut run = Run::fresh();
-    for event in joint::drill_events(&hex(line)?) {
+    for event in drill_events(&hex(line)?) {
         run.event(event);
     }
     Some(run.dump().join("|"))

@@ -2,6 +2,7 @@
 //! The logs are rebuilt here from the history, so that each moment between two effects is seen.
 
 use crate::codec::*;
+use crate::drill::*;
 use crate::joint::*;
 use crate::step::*;
 
