@@ -1,18 +1,19 @@
 -- The log image of a site: its stable records as bytes, read, and written at an offset of a lent buffer.
 use Prim.Native.Nat.{ℕ, zero, suc, _+_, _*_, _/_, _%_}
 use mathlib.Core.Bool.{Bool, not, _&&_, _||_}
-use mathlib.Core.List.{List, [], _∷_, _++_, map}
+use mathlib.Core.List.{List, [], _∷_, _++_, map, flatten}
 use lib.ListN.{length, getD, take, drop}
 use lib.Dec.{eqb, leb, ltb}
-use Rattle.codec.specs.Lists.{same, concat, first}
+use Rattle.codec.specs.Lists.{same, first}
 use Rattle.codec.specs.Records.{LogRecord, bytesOf, recordOf, recordRefusals}
 
 -- ---- layout
 
-unfoldable pub opening : List ℕ
-opening = 0x44 ∷ 0x50 ∷ 0x52 ∷ 0x4C ∷ []
+-- (01: the opening)
+unfoldable pub magic : List ℕ
+magic = 0x44 ∷ 0x50 ∷ 0x52 ∷ 0x4C ∷ []
 
--- opening, site, count, and a pair for each record
+-- the opening, site, count, and a pair for each record
 unfoldable pub headLength : ℕ → ℕ
 headLength n = 6 + 4 * n
 
@@ -28,7 +29,7 @@ pairTable at (bytes ∷ rest) = word at ++ word (length bytes) ++ pairTable (at 
 unfoldable pub image : ℕ → List LogRecord → List ℕ
 image s log =
     let records = map bytesOf log in
-    opening ++ s ∷ length log ∷ pairTable (headLength (length log)) records ++ concat records
+    magic ++ s ∷ length log ∷ pairTable (headLength (length log)) records ++ flatten records
 
 -- ---- reading
 
@@ -53,7 +54,7 @@ pairsIn bytes = pairsOf (take (4 * countIn bytes) (drop 6 bytes))
 unfoldable pub recordsIn : List ℕ → List (List ℕ)
 recordsIn bytes = map (λ p. take (p .1) (drop (p .0) bytes)) (pairsIn bytes)
 
--- records up to a count: 24 at the coordinator, 16 at a participant
+-- the most records that an image of a site holds
 unfoldable pub most : ℕ → ℕ
 most zero = 24
 most (suc n) = 16
@@ -73,7 +74,7 @@ tableExact bytes = leb (headLength (countIn bytes)) (length bytes) && exact (hea
 
 unfoldable pub imageRefusals : List ℕ → List (ℕ × Bool)
 imageRefusals bytes =
-    (20, ltb (length bytes) 6 || not (same (take 4 bytes) opening))
+    (20, ltb (length bytes) 6 || not (same (take 4 bytes) magic))
     ∷ (21, overLimit (siteIn bytes) (countIn bytes))
     ∷ (22, not (tableExact bytes))
     ∷ recordRefusals (siteIn bytes) [] (recordsIn bytes)
@@ -82,6 +83,11 @@ imageRefusals bytes =
 pub data Reading : Type 0 where
   accepted : ℕ → List LogRecord → Reading
   refused : ℕ → Reading
+
+-- its number: 0, or the refusal
+unfoldable pub readingNumber : Reading → ℕ
+readingNumber (accepted s log) = 0
+readingNumber (refused n) = n
 
 unfoldable pub readUnless : ℕ → List ℕ → Reading
 readUnless zero bytes = accepted (siteIn bytes) (map recordOf (recordsIn bytes))

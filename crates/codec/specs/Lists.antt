@@ -1,7 +1,7 @@
 -- What the definitions need of lists.
 use Prim.Native.Nat.{ℕ}
 use mathlib.Core.Bool.{Bool, true, false, cond, _&&_, _||_}
-use mathlib.Core.List.{List, [], _∷_, _++_}
+use mathlib.Core.List.{List, [], _∷_}
 use mathlib.Core.Option.{Option, none, some}
 use lib.Dec.{eqb}
 
@@ -22,10 +22,6 @@ all f (x ∷ xs) = f x && all f xs
 unfoldable pub every : List Bool → Bool
 every [] = true
 every (b ∷ bs) = b && every bs
-
-unfoldable pub concat {ℓ} : {A : Type ℓ} → List (List A) → List A
-concat [] = []
-concat (x ∷ xs) = x ++ concat xs
 
 -- two lists of the same numbers
 unfoldable pub same : List ℕ → List ℕ → Bool

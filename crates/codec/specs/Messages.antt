@@ -1,8 +1,8 @@
 -- Message numbers: 16 bits for a message of kind k to or from participant p on transaction t.
 use Prim.Native.Nat.{ℕ, _+_, _-_, _*_, _/_, _%_}
 use mathlib.Core.Bool.{Bool}
-use mathlib.Core.List.{[], _∷_}
-use mathlib.Core.Option.{Option}
+use mathlib.Core.List.{List, [], _∷_}
+use mathlib.Core.Option.{Option, none, some}
 use lib.Dec.{leb}
 use Rattle.codec.specs.Lists.{every, onlyIf}
 
@@ -14,9 +14,14 @@ pub record Parts : Type 0 where
 unfoldable pub messageNumber : Parts → ℕ
 messageNumber m = 56 * m .transaction + 7 * (m .participant - 1) + m .kind
 
--- `none`: refused by 26
+-- `none`: refused by 26, message number above 447
 unfoldable pub messageParts : ℕ → Option Parts
 messageParts n = onlyIf (leb n 447) (record { transaction = n / 56; participant = n % 56 / 7 + 1; kind = n % 7 })
+
+-- the answer in numbers: 0, transaction, participant and kind; or 26
+unfoldable pub messageAnswer : Option Parts → List ℕ
+messageAnswer none = 26 ∷ []
+messageAnswer (some m) = 0 ∷ m .transaction ∷ m .participant ∷ m .kind ∷ []
 
 -- the way back; parts that no message has are refused by 26 too
 unfoldable pub isMessage : Parts → Bool

@@ -6,7 +6,7 @@ use mathlib.Core.List.{List, [], _∷_, _++_, map}
 use lib.ListN.{length, getD, drop}
 use lib.Dec.{eqb, leb}
 use Rattle.codec.specs.Lists.{select, any, all, every, same}
-use Rattle.codec.specs.Sets.{empty, less, part}
+use Rattle.codec.specs.Sets.{empty, minus, part}
 
 pub record LogRecord : Type 0 where
   pub kind : ℕ
@@ -36,13 +36,13 @@ presumeCommitIn x = getD (x .fields) 1 0
 
 -- a record 2 with a PrA member: its commit is not closed before record 3
 unfoldable pub awaitsAcks : LogRecord → Bool
-awaitsAcks x = not (empty (less (membersIn x) (presumeCommitIn x)))
+awaitsAcks x = not (empty (minus (membersIn x) (presumeCommitIn x)))
 
 -- ---- refusal 23: a record's kind not one of that site's, wrong length or field
 
-unfoldable pub kindAt : ℕ → ℕ → Bool
-kindAt zero kind = leb 1 kind && leb kind 4
-kindAt (suc n) kind = leb 5 kind && leb kind 7
+unfoldable pub recordKindAt : ℕ → ℕ → Bool
+recordKindAt zero kind = leb 1 kind && leb kind 4
+recordKindAt (suc n) kind = leb 5 kind && leb kind 7
 
 -- members not 0, PC a part of members
 unfoldable pub masksInRange : LogRecord → Bool
@@ -68,7 +68,7 @@ fieldsInRange x =
 unfoldable pub isRecord : ℕ → List ℕ → Bool
 isRecord s bytes =
     let x = recordOf bytes in
-    every (kindAt s (x .kind) ∷ eqb (length bytes) (lengthOf (x .kind)) ∷ leb (x .transaction) 7 ∷ fieldsInRange x ∷ [])
+    every (recordKindAt s (x .kind) ∷ eqb (length bytes) (lengthOf (x .kind)) ∷ leb (x .transaction) 7 ∷ fieldsInRange x ∷ [])
 
 -- ---- refusal 24: the sequence per transaction
 
@@ -105,8 +105,12 @@ inSequence before x =
     let own = select (ofTransaction (x .transaction)) before in
     any (same (map (λ y. y .kind) own ++ (x .kind ∷ []))) sequences && all (λ y. agrees y x) own
 
--- the records in turn, 23 before 24 at each
+-- ---- 23 before 24 at each record in turn
+
+-- one record, behind the records before it
+unfoldable pub recordTests : ℕ → List LogRecord → List ℕ → List (ℕ × Bool)
+recordTests s before bytes = (23, not (isRecord s bytes)) ∷ (24, not (inSequence before (recordOf bytes))) ∷ []
+
 unfoldable pub recordRefusals : ℕ → List LogRecord → List (List ℕ) → List (ℕ × Bool)
 recordRefusals s before [] = []
-recordRefusals s before (bytes ∷ rest) =
-    (23, not (isRecord s bytes)) ∷ (24, not (inSequence before (recordOf bytes))) ∷ recordRefusals s (before ++ (recordOf bytes ∷ [])) rest
+recordRefusals s before (bytes ∷ rest) = recordTests s before bytes ++ recordRefusals s (before ++ (recordOf bytes ∷ [])) rest

@@ -34,8 +34,8 @@ unfoldable pub both : ℕ → ℕ → ℕ
 both a b = those λ p. member p a && member p b
 
 -- the members of a that are not in b
-unfoldable pub less : ℕ → ℕ → ℕ
-less a b = those λ p. member p a && not (member p b)
+unfoldable pub minus : ℕ → ℕ → ℕ
+minus a b = those λ p. member p a && not (member p b)
 
 -- a is a part of b
 unfoldable pub part : ℕ → ℕ → Bool

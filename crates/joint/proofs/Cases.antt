@@ -7,10 +7,9 @@ use mathlib.Core.Path.{_≡_, refl}
 use mathlib.Core.Bool.{cond}
 use mathlib.Core.List.{List, [], _∷_, map}
 use lib.Dec.{leb}
-use Rattle.codec.specs.Image.{image}
 use Rattle.site.specs.Numbers.{coordinatorPhase, waitingSet, participantPhase}
 use Rattle.joint.specs.State.{Run, fresh}
-use Rattle.joint.specs.Run.{after}
+use Rattle.joint.specs.Run.{after, siteImage}
 use Rattle.joint.specs.Drill.{eventsIn, ascii, drill}
 use Rattle.joint.proofs.Open.{codec-opens, site-opens, joint-opens}
 
@@ -57,7 +56,7 @@ cases =
       phases = 4 ∷ 0 ∷ 2 ∷ [];
       image-of-1 = "44 50 52 4C 01 02 0E 00 03 00 11 00 02 00 05 00 00 06 00";
     }
-    -- K3: after K2 deliver Yes: an Abort is sent (so that it can be delivered), and the box ignores it
+    -- K3: after K2 deliver Yes: an Abort is sent, and the box ignores it. (Event 7: before that no Abort can be delivered.)
     ∷ record {
       input = "00 00 01 00 FF 00 / 01 00 00 00 FF 00 / 02 00 01 00 FF 00 / 02 00 01 01 FF 00 / 02 00 01 03 FF 00 / 02 00 01 05 FF 00 / 02 00 01 04 FF 00 / 02 00 01 01 FF 00 / 02 00 01 04 FF 00";
       output = "1 0 0 0 0\n2 0 0 0 1\n3 0 1 1 1\n4 0 1 1 1\n5 0 1 1 1\n6 0 1 0 0\n7 7 0 0 0\n8 0 0 0 1\n9 0 0 0 0\nHANDOVER 0 CC-------\n";
@@ -73,7 +72,7 @@ cases =
       phases = 3 ∷ 1 ∷ 1 ∷ [];
       image-of-1 = "44 50 52 4C 01 01 0A 00 03 00 05 00 01";
     }
-    -- K5: with keep 1: hub enters commit, sends nothing; the box's Yes brings Commit
+    -- K5: with keep 1: hub enters commit, sends nothing; the box's Yes brings Commit. (Event 6: before that no Commit can be delivered.)
     ∷ record {
       input = "00 00 01 01 FF 00 / 01 00 00 00 FF 00 / 02 00 01 00 FF 00 / 02 00 01 01 01 01 / 07 00 00 00 FF 00 / 02 00 01 03 FF 00 / 02 00 01 01 FF 00 / 02 00 01 03 FF 00";
       output = "1 0 0 0 0\n2 0 1 1 1\n3 0 1 1 1\n4 0 1 0 0\n5 0 0 0 0\n6 7 0 0 0\n7 0 0 0 1\n8 0 1 0 0\nHANDOVER 0 CC-------\n";
@@ -133,7 +132,7 @@ phasesOf r t =
 pub observed : Case → List (List ℕ)
 observed c =
     let r = after fresh (eventsIn (hex (c .input))) in
-    drill (hex (c .input)) ∷ phasesOf r (c .transaction) ∷ image 1 (r .site 1 .stable) ∷ []
+    drill (hex (c .input)) ∷ phasesOf r (c .transaction) ∷ siteImage r 1 ∷ []
 
 pub expected : Case → List (List ℕ)
 expected c = ascii (c .output) ∷ c .phases ∷ hex (c .image-of-1) ∷ []

@@ -12,6 +12,7 @@ use borrow.Author.Tests.{eqb-true, not-false}
 use Rattle.codec.specs.Lists.{first, onlyIf}
 use Rattle.site.specs.Presumption.{Outcome, commit, abort, Presumption}
 use Rattle.site.specs.Step.{Message, receiver, tell, Input, begin, timer, received, Effect, append, force, enter, send, Row, given}
+use Rattle.site.specs.Cohort.{Cohort}
 use Rattle.site.specs.Coordinator.{inOrder, tellAll, restartFrom, coordinatorRestart}
 use Rattle.site.specs.Participant.{voting, restartWith, participantRestart}
 use Rattle.joint.specs.State.{Run, Site, Transaction, Act, fresh, update, atSite, atTransaction, appended, forced, stopped, started, down, perform, performAll}
@@ -87,20 +88,20 @@ module _ (t : ℕ) where
   logless-sends m [] = tt
   logless-sends m (p ∷ l) = (tt, logless-sends m l)
 
-  logless-all : (M C : ℕ) (o : Outcome) (to : ℕ) → AllLogless (acting t (tellAll M C o to))
+  logless-all : (g : Cohort) (o : Outcome) (to : ℕ) → AllLogless (acting t (tellAll g o to))
   unfolding tellAll
-  logless-all M C o to = logless-sends (tell o) (inOrder M C o to)
+  logless-all g o to = logless-sends (tell o) (inOrder g o to)
 
   logless-given : (b : Bool) (es : List Effect) → AllLogless (acting t es) → AllLogless (acting t (given b es))
   unfolding acting given
   logless-given true es h = h
   logless-given false es h = tt
 
-  logless-from : (M C : ℕ) (c i : Bool) → AllLogless (acting t (restartFrom M C c i .effects))
+  logless-from : (g : Cohort) (c i : Bool) → AllLogless (acting t (restartFrom g c i .effects))
   unfolding acting restartFrom
-  logless-from M C true i = (tt, logless-given _ _ (logless-all M C commit M))
-  logless-from M C false true = (tt, logless-all M C abort M)
-  logless-from M C false false = tt
+  logless-from g true i = (tt, logless-given _ _ (logless-all g commit (g .members)))
+  logless-from g false true = (tt, logless-all g abort (g .members))
+  logless-from g false false = tt
 
   logless-with : (c : Presumption) (p : ℕ) (a b v : Bool) → AllLogless (acting t (restartWith c p a b v .effects))
   unfolding acting restartWith voting
@@ -111,7 +112,7 @@ module _ (t : ℕ) where
 
 pub restarting-logless : (r : Run) (s t : ℕ) → AllLogless (restarting r s t .acts)
 unfolding restarting rowPlan coordinatorRestart participantRestart
-restarting-logless r zero t = logless-from t _ _ _ _
+restarting-logless r zero t = logless-from t _ _ _
 restarting-logless r (suc n) t = logless-with t _ _ _ _ _
 
 restart-logless : (r : Run) (s : ℕ) (ts : List ℕ) → AllLogless (restartAll r s ts .acts)

@@ -1,31 +1,32 @@
 -- What the drill program writes: its output as bytes, from its input as bytes.
-use Prim.Native.Nat.{ℕ, zero, suc, _+_, _/_, _%_}
+use Prim.Native.Nat.{ℕ, zero, suc, _+_, _-_, _/_, _%_}
 use Prim.Native.Char.{code}
 use Prim.Native.String.{String}
 use Prim.Native.String
 use mathlib.Core.Bool.{Bool, true, false}
-use mathlib.Core.List.{List, [], _∷_, _++_, map}
+use mathlib.Core.List.{List, [], _∷_, _++_, map, flatten}
 use lib.ListN.{length, take, drop}
 use lib.Dec.{ltb}
-use Rattle.codec.specs.Lists.{select, concat}
+use Rattle.codec.specs.Lists.{select}
 use Rattle.codec.specs.Sets.{participants}
 use Rattle.site.specs.Presumption.{commit, abort}
 use Rattle.joint.specs.State.{Run, Transaction, fresh, opened}
+use Rattle.joint.specs.Event.{eventLength}
 use Rattle.joint.specs.Plan.{transactions}
 use Rattle.joint.specs.Run.{Answer, after, answers}
 
 -- ---- input
 
--- n events of six bytes each; the last may be broken
-unfoldable pub sixes : ℕ → List ℕ → List (List ℕ)
-sixes zero bytes = []
-sixes (suc n) bytes = take 6 bytes ∷ sixes n (drop 6 bytes)
+-- n events; the last may be broken
+unfoldable pub chunks : ℕ → List ℕ → List (List ℕ)
+chunks zero bytes = []
+chunks (suc n) bytes = take eventLength bytes ∷ chunks n (drop eventLength bytes)
 
 -- the first 60,000 bytes and no more
 unfoldable pub eventsIn : List ℕ → List (List ℕ)
 eventsIn input =
     let bytes = take 60000 input in
-    sixes ((length bytes + 5) / 6) bytes
+    chunks ((length bytes + (eventLength - 1)) / eventLength) bytes
 
 -- ---- output
 
@@ -76,4 +77,4 @@ unfoldable pub drill : List ℕ → List ℕ
 drill input =
     let events = eventsIn input in
     let r = after fresh events in
-    eventLines 1 (answers fresh events) ++ concat (map (transactionLine r) (select (opened r) transactions))
+    eventLines 1 (answers fresh events) ++ flatten (map (transactionLine r) (select (opened r) transactions))

@@ -9,6 +9,9 @@ use Rattle.codec.specs.Lists.{any, every, onlyIf}
 use Rattle.codec.specs.Sets.{part}
 use Rattle.site.specs.Step.{Message, prepare, messages}
 
+unfoldable pub eventLength : ℕ
+eventLength = 6
+
 -- in the order of the codes, 0 to 7. t is a transaction, s a site, p a participant
 pub data Event : Type 0 where
   opening : (t members presumeCommit : ℕ) → Event
@@ -33,6 +36,7 @@ eventOf code x y z =
     ∷ restart y
     ∷ [])
     code
+    -- (a code above 7 is refused)
     (crash y)
 
 -- by code: the largest x, the least and the largest y, the largest z. Unused x, y, z are 0
@@ -102,5 +106,5 @@ parse bytes =
     let cut = getD bytes 4 0 in
     let keep = getD bytes 5 0 in
     onlyIf
-    (every (eqb (length bytes) 6 ∷ bytesInRange code x y z ∷ cutInRange code cut keep ∷ []))
+    (every (eqb (length bytes) eventLength ∷ bytesInRange code x y z ∷ cutInRange code cut keep ∷ []))
     (record { event = eventOf code x y z; cut = cutOf code cut keep })

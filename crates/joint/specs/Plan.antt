@@ -8,7 +8,8 @@ use Rattle.codec.specs.Lists.{select, any, onlyIf}
 use Rattle.codec.specs.Sets.{member}
 use Rattle.codec.specs.Records.{LogRecord, ofTransaction, awaitsAcks}
 use Rattle.site.specs.Step.{receiver, Input, begin, timer, received, Effect, force, Row}
-use Rattle.site.specs.Coordinator.{Coordinator, presumptionOf, coordinatorStep, coordinatorRestart}
+use Rattle.site.specs.Cohort.{Cohort, presumptionOf}
+use Rattle.site.specs.Coordinator.{Coordinator, coordinatorStep, coordinatorRestart}
 use Rattle.site.specs.Participant.{Participant, participantStep, participantRestart}
 use Rattle.joint.specs.State.{Run, Site, Transaction, Act, atSite, atTransaction, opened, holds, started, withCoordinator, withParticipant}
 use Rattle.joint.specs.Event.{Event, opening, beginning, delivery, timeout, forcing, discarding, crash, restart}
@@ -39,11 +40,11 @@ planned s t g (some row) = some (rowPlan s t g row)
 unfoldable pub step : Run → ℕ → ℕ → Input → Option Plan
 step r t zero i =
     let x = r .transaction t in
-    planned 0 t withCoordinator (coordinatorStep (x .members) (x .presumeCommit) i (x .coordinator))
+    planned 0 t withCoordinator (coordinatorStep (x .cohort) i (x .coordinator))
 step r t (suc n) i =
     let x = r .transaction t in
     planned (suc n) t (withParticipant (suc n))
-    (participantStep (presumptionOf (x .presumeCommit) (suc n)) (suc n) i (x .participant (suc n)))
+    (participantStep (presumptionOf (x .cohort) (suc n)) (suc n) i (x .participant (suc n)))
 
 -- a message that finds no row has no effect
 unfoldable pub orNothing : ℕ → Option Plan → Plan
@@ -52,13 +53,12 @@ orNothing s (some p) = p
 
 -- ---- open: hub Open, members Working
 
-unfoldable pub openedAs : ℕ → ℕ → Transaction → Transaction
-openedAs M C x =
+unfoldable pub openedAs : Cohort → Transaction → Transaction
+openedAs g x =
     record {
-      members = M;
-      presumeCommit = C;
-      coordinator = Coordinator.ready;
-      participant = λ p. cond (member p M) Participant.working (x .participant p);
+      cohort = g;
+      coordinator = Coordinator.initial;
+      participant = λ p. cond (member p (g .members)) Participant.working (x .participant p);
       sent = x .sent;
       entered = x .entered;
     }
@@ -109,11 +109,11 @@ transactions = 0 ∷ 1 ∷ 2 ∷ 3 ∷ 4 ∷ 5 ∷ 6 ∷ 7 ∷ []
 unfoldable pub restarting : Run → ℕ → ℕ → Plan
 restarting r zero t =
     let x = r .transaction t in
-    rowPlan 0 t withCoordinator (coordinatorRestart (x .members) (x .presumeCommit) (λ k. holds t k (r .site 0 .stable)))
+    rowPlan 0 t withCoordinator (coordinatorRestart (x .cohort) (λ k. holds t k (r .site 0 .stable)))
 restarting r (suc n) t =
     let x = r .transaction t in
     rowPlan (suc n) t (withParticipant (suc n))
-    (participantRestart (presumptionOf (x .presumeCommit) (suc n)) (suc n) (λ k. holds t k (r .site (suc n) .stable)))
+    (participantRestart (presumptionOf (x .cohort) (suc n)) (suc n) (λ k. holds t k (r .site (suc n) .stable)))
 
 unfoldable pub joined : Plan → Plan → Plan
 joined a b = record { site = a .site; acts = a .acts ++ b .acts; settle = λ r. b .settle (a .settle r) }
@@ -125,7 +125,7 @@ restartAll r s (t ∷ ts) = joined (restarting r s t) (restartAll r s ts)
 -- ---- the plan of an event; `none`: refused by 8
 
 unfoldable pub plan : Run → Event → Option Plan
-plan r (opening t M C) = some (settling 0 (atTransaction t (openedAs M C)))
+plan r (opening t M C) = some (settling 0 (atTransaction t (openedAs (record { members = M; presumeCommit = C }))))
 plan r (beginning t) = step r t 0 begin
 plan r (delivery t p m) = some (orNothing (receiver m p) (step r t (receiver m p) (received m p)))
 plan r (timeout t s) = step r t s timer

@@ -6,6 +6,7 @@ use mathlib.Core.Option.{Option, none, some}
 use lib.ListN.{length, take}
 use lib.Dec.{leb}
 use Rattle.codec.specs.Lists.{every, select, first}
+use Rattle.codec.specs.Image.{image}
 use Rattle.site.specs.Step.{Effect, append, force, enter, send}
 use Rattle.joint.specs.State.{Run, Act, down, performAll}
 use Rattle.joint.specs.Event.{Parsed, parse}
@@ -60,6 +61,10 @@ event r bytes = eventParsed r (parse bytes)
 unfoldable pub after : Run → List (List ℕ) → Run
 after r [] = r
 after r (e ∷ es) = after (event r e .run) es
+
+-- the log image of a site: its stable records, in log order
+unfoldable pub siteImage : Run → ℕ → List ℕ
+siteImage r s = image s (r .site s .stable)
 
 -- ---- answers, with the counts of the effects that happened
 

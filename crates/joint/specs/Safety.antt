@@ -113,7 +113,7 @@ pub record Safe (es : List (List ℕ)) : Type 0 where
   -- commit is entered nowhere before every member had voted Yes from a stable record
   pub votes : (earlier : List Moment) (m : Moment) → Happens es earlier m
       → (t : ℕ) → T (isEntry t commit m)
-      → (p : ℕ) → T (member p (m .before .transaction t .members)) → T (any (isVote t p) earlier)
+      → (p : ℕ) → T (member p (m .before .transaction t .cohort .members)) → T (any (isVote t p) earlier)
   -- each reply from a coordinator in Unknown to a participant in doubt is the outcome; both are taken just before the event
   pub replies : (earlier : List Moment) (m : Moment) → Happens es earlier m
       → (t p : ℕ) (o : Outcome) → T (isReply t p o m)

@@ -9,6 +9,7 @@ use Rattle.codec.specs.Lists.{any}
 use Rattle.codec.specs.Sets.{member, empty}
 use Rattle.codec.specs.Records.{LogRecord, ofTransaction}
 use Rattle.site.specs.Presumption.{Outcome, sameOutcome}
+use Rattle.site.specs.Cohort.{Cohort}
 use Rattle.site.specs.Step.{messageKind, Effect, append, force, enter, send}
 use Rattle.site.specs.Coordinator.{Coordinator}
 use Rattle.site.specs.Participant.{Participant}
@@ -19,11 +20,10 @@ pub record Site : Type 0 where
   pub stable : List LogRecord
   pub unforced : List LogRecord
 
--- a transaction (01: handover); its members are 0 until it is opened. `presumeCommit` is 01's PC.
+-- a transaction (01: handover); its members are 0 until it is opened
 -- `sent p k`: a message of kind k, to participant p or from it, was sent. `entered s o`: site s entered outcome o
 pub record Transaction : Type 0 where
-  pub members : ℕ
-  pub presumeCommit : ℕ
+  pub cohort : Cohort
   pub coordinator : Coordinator
   pub participant : ℕ → Participant
   pub sent : ℕ → ℕ → Bool
@@ -41,8 +41,7 @@ fresh =
       site = λ s. record { up = true; stable = []; unforced = [] };
       transaction =
           λ t. record {
-            members = 0;
-            presumeCommit = 0;
+            cohort = record { members = 0; presumeCommit = 0 };
             coordinator = Coordinator.unknown;
             participant = λ p. Participant.unknown;
             sent = λ p k. false;
@@ -61,12 +60,12 @@ unfoldable pub atTransaction : ℕ → (Transaction → Transaction) → Run →
 atTransaction t g r = record { site = r .site; transaction = update t g (r .transaction) }
 
 unfoldable pub opened : Run → ℕ → Bool
-opened r t = not (empty (r .transaction t .members))
+opened r t = not (empty (r .transaction t .cohort .members))
 
 -- the coordinator takes part in each transaction, a participant in those that it is a member of
 unfoldable pub takesPart : Run → ℕ → ℕ → Bool
 takesPart r t zero = true
-takesPart r t (suc n) = member (suc n) (r .transaction t .members)
+takesPart r t (suc n) = member (suc n) (r .transaction t .cohort .members)
 
 -- a log has a record of kind k of transaction t
 unfoldable pub holds : ℕ → ℕ → List LogRecord → Bool
@@ -92,13 +91,12 @@ started s = record { up = true; stable = s .stable; unforced = s .unforced }
 
 unfoldable pub withCoordinator : Coordinator → Transaction → Transaction
 withCoordinator c x =
-    record { members = x .members; presumeCommit = x .presumeCommit; coordinator = c; participant = x .participant; sent = x .sent; entered = x .entered }
+    record { cohort = x .cohort; coordinator = c; participant = x .participant; sent = x .sent; entered = x .entered }
 
 unfoldable pub withParticipant : ℕ → Participant → Transaction → Transaction
 withParticipant p c x =
     record {
-      members = x .members;
-      presumeCommit = x .presumeCommit;
+      cohort = x .cohort;
       coordinator = x .coordinator;
       participant = update p (λ _. c) (x .participant);
       sent = x .sent;
@@ -109,8 +107,7 @@ withParticipant p c x =
 unfoldable pub withSent : ℕ → ℕ → Transaction → Transaction
 withSent p k x =
     record {
-      members = x .members;
-      presumeCommit = x .presumeCommit;
+      cohort = x .cohort;
       coordinator = x .coordinator;
       participant = x .participant;
       sent = λ q j. (eqb q p && eqb j k) || x .sent q j;
@@ -121,8 +118,7 @@ withSent p k x =
 unfoldable pub withEntered : ℕ → Outcome → Transaction → Transaction
 withEntered s o x =
     record {
-      members = x .members;
-      presumeCommit = x .presumeCommit;
+      cohort = x .cohort;
       coordinator = x .coordinator;
       participant = x .participant;
       sent = x .sent;

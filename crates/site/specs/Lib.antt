@@ -1,4 +1,5 @@
 pub mod Presumption
+pub mod Cohort
 pub mod Step
 pub mod Coordinator
 pub mod Participant

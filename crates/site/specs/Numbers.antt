@@ -9,26 +9,27 @@ use Rattle.codec.specs.Lists.{any, every}
 use Rattle.codec.specs.Sets.{member, empty, part}
 use Rattle.site.specs.Presumption.{Outcome, commit, abort, presumptionNumber}
 use Rattle.site.specs.Step.{prepare, messages, messageKind, Input, begin, timer, received, Effect, append, force, enter, send, Row}
-use Rattle.site.specs.Coordinator.{Coordinator, ready, collecting, deciding, presumptionOf, owing, coordinatorStep}
+use Rattle.site.specs.Cohort.{Cohort, presumptionOf, owing}
+use Rattle.site.specs.Coordinator.{Coordinator, initial, collecting, awaitingAcks, coordinatorStep}
 use Rattle.site.specs.Participant.{Participant, working, prepared, decided, participantStep}
 
 -- ---- phases, waiting sets and inputs as numbers
 
 unfoldable pub coordinatorPhase : Coordinator → ℕ
-coordinatorPhase ready = 0
+coordinatorPhase initial = 0
 coordinatorPhase (collecting w) = 1
-coordinatorPhase (deciding commit w) = 2
-coordinatorPhase (deciding abort w) = 3
+coordinatorPhase (awaitingAcks commit w) = 2
+coordinatorPhase (awaitingAcks abort w) = 3
 coordinatorPhase Coordinator.unknown = 4
 
 unfoldable pub waitingSet : Coordinator → ℕ
-waitingSet ready = 0
+waitingSet initial = 0
 waitingSet (collecting w) = w
-waitingSet (deciding o w) = w
+waitingSet (awaitingAcks o w) = w
 waitingSet Coordinator.unknown = 0
 
 unfoldable pub coordinatorOf : ℕ → ℕ → Coordinator
-coordinatorOf phase w = getD (ready ∷ collecting w ∷ deciding commit w ∷ deciding abort w ∷ []) phase Coordinator.unknown
+coordinatorOf phase w = getD (initial ∷ collecting w ∷ awaitingAcks commit w ∷ awaitingAcks abort w ∷ []) phase Coordinator.unknown
 
 unfoldable pub participantPhase : Participant → ℕ
 participantPhase working = 0
@@ -44,7 +45,7 @@ participantOf phase = getD (working ∷ prepared ∷ decided commit ∷ decided 
 unfoldable pub inputOf : ℕ → ℕ → Input
 inputOf kind p = cond (eqb kind 16) begin (cond (eqb kind 17) timer (received (getD messages kind prepare) p))
 
--- ---- the arguments, in the order of the call
+-- ---- the arguments, in the order of the call; the last are members and PC
 
 pub record Arguments : Type 0 where
   pub site : ℕ
@@ -54,23 +55,22 @@ pub record Arguments : Type 0 where
   pub presumption : ℕ
   pub phase : ℕ
   pub waiting : ℕ
-  pub members : ℕ
-  pub presumeCommit : ℕ
+  pub cohort : Cohort
 
 -- the kinds that a site receives
-unfoldable pub kindsAt : ℕ → List ℕ
-kindsAt zero = 1 ∷ 2 ∷ 5 ∷ 6 ∷ 16 ∷ 17 ∷ []
-kindsAt (suc n) = 0 ∷ 3 ∷ 4 ∷ 17 ∷ []
+unfoldable pub kindsReceived : ℕ → List ℕ
+kindsReceived zero = 1 ∷ 2 ∷ 5 ∷ 6 ∷ 16 ∷ 17 ∷ []
+kindsReceived (suc n) = 0 ∷ 3 ∷ 4 ∷ 17 ∷ []
 
 -- the coordinator's waiting set: a part of the members, not empty in Collecting, Committing (PrA members only)
 -- and Aborting (PrC members only), and 0 in Open and Unknown
-unfoldable pub waitingInRange : ℕ → ℕ → ℕ → ℕ → Bool
-waitingInRange M C phase w =
+unfoldable pub waitingInRange : Cohort → ℕ → ℕ → Bool
+waitingInRange g phase w =
     getD
     (empty w
-    ∷ (not (empty w) && part w M)
-    ∷ (not (empty w) && part w (owing M C commit))
-    ∷ (not (empty w) && part w (owing M C abort))
+    ∷ (not (empty w) && part w (g .members))
+    ∷ (not (empty w) && part w (owing g commit))
+    ∷ (not (empty w) && part w (owing g abort))
     ∷ empty w
     ∷ [])
     phase
@@ -79,7 +79,7 @@ waitingInRange M C phase w =
 -- a member, with its presumption
 unfoldable pub isMember : Arguments → Bool
 isMember a =
-    member (a .participant) (a .members) && eqb (a .presumption) (presumptionNumber (presumptionOf (a .presumeCommit) (a .participant)))
+    member (a .participant) (a .cohort .members) && eqb (a .presumption) (presumptionNumber (presumptionOf (a .cohort) (a .participant)))
 
 -- begin and the coordinator's timer name no participant
 unfoldable pub namesNone : Arguments → Bool
@@ -88,19 +88,19 @@ namesNone a = eqb (a .participant) 0 && eqb (a .presumption) 0
 -- at the coordinator; at a participant, which is named itself and waits for nobody
 unfoldable pub inRangeAt : ℕ → Arguments → Bool
 inRangeAt zero a =
-    waitingInRange (a .members) (a .presumeCommit) (a .phase) (a .waiting) && cond (leb 16 (a .kind)) (namesNone a) (isMember a)
+    waitingInRange (a .cohort) (a .phase) (a .waiting) && cond (leb 16 (a .kind)) (namesNone a) (isMember a)
 inRangeAt (suc n) a = every (eqb (a .waiting) 0 ∷ eqb (a .participant) (suc n) ∷ isMember a ∷ [])
 
 unfoldable pub argumentsInRange : Arguments → Bool
 argumentsInRange a =
     every
     (leb (a .site) 8
-    ∷ any (eqb (a .kind)) (kindsAt (a .site))
+    ∷ any (eqb (a .kind)) (kindsReceived (a .site))
     ∷ leb (a .transaction) 7
     ∷ leb (a .phase) 4
-    ∷ leb 1 (a .members)
-    ∷ leb (a .members) 255
-    ∷ part (a .presumeCommit) (a .members)
+    ∷ leb 1 (a .cohort .members)
+    ∷ leb (a .cohort .members) 255
+    ∷ part (a .cohort .presumeCommit) (a .cohort .members)
     ∷ inRangeAt (a .site) a
     ∷ [])
 
@@ -137,27 +137,27 @@ summary (send m p ∷ es) =
 
 -- ---- the step: answer, phase, waiting set, and the row's numbers
 
-unfoldable pub reply : ℕ → ℕ → List Effect → List ℕ
-reply phase w es =
+unfoldable pub stepResult : ℕ → ℕ → List Effect → List ℕ
+stepResult phase w es =
     let x = summary es in
     0 ∷ phase ∷ w ∷ x .appended ∷ x .forced ∷ x .entered ∷ x .message ∷ x .to ∷ []
 
 -- a row, or none: answer 0 with nothing changed
-unfoldable pub coordinatorReply : Arguments → Option (Row Coordinator) → List ℕ
-coordinatorReply a none = reply (a .phase) (a .waiting) []
-coordinatorReply a (some row) = reply (coordinatorPhase (row .phase)) (waitingSet (row .phase)) (row .effects)
+unfoldable pub coordinatorResult : Arguments → Option (Row Coordinator) → List ℕ
+coordinatorResult a none = stepResult (a .phase) (a .waiting) []
+coordinatorResult a (some row) = stepResult (coordinatorPhase (row .phase)) (waitingSet (row .phase)) (row .effects)
 
-unfoldable pub participantReply : Arguments → Option (Row Participant) → List ℕ
-participantReply a none = reply (a .phase) 0 []
-participantReply a (some row) = reply (participantPhase (row .phase)) 0 (row .effects)
+unfoldable pub participantResult : Arguments → Option (Row Participant) → List ℕ
+participantResult a none = stepResult (a .phase) 0 []
+participantResult a (some row) = stepResult (participantPhase (row .phase)) 0 (row .effects)
 
 unfoldable pub stepAt : ℕ → Arguments → List ℕ
 stepAt zero a =
-    coordinatorReply a (coordinatorStep (a .members) (a .presumeCommit) (inputOf (a .kind) (a .participant)) (coordinatorOf (a .phase) (a .waiting)))
+    coordinatorResult a (coordinatorStep (a .cohort) (inputOf (a .kind) (a .participant)) (coordinatorOf (a .phase) (a .waiting)))
 stepAt (suc n) a =
-    participantReply a (participantStep (presumptionOf (a .presumeCommit) (suc n)) (suc n) (inputOf (a .kind) (suc n)) (participantOf (a .phase)))
+    participantResult a (participantStep (presumptionOf (a .cohort) (suc n)) (suc n) (inputOf (a .kind) (suc n)) (participantOf (a .phase)))
 
--- a refusal is 1 alone
+-- a refusal is 1, and zeros
 unfoldable pub siteStep : Arguments → List ℕ
 siteStep a = cond (argumentsInRange a) (stepAt (a .site) a) (1 ∷ 0 ∷ 0 ∷ 0 ∷ 0 ∷ 0 ∷ 0 ∷ 0 ∷ [])
 

@@ -17,14 +17,14 @@ unfoldable pub outcomeRecord : Outcome → ℕ
 outcomeRecord commit = 6
 outcomeRecord abort = 7
 
-module _ (c : Presumption) (p : ℕ) where
+module _ (presumption : Presumption) (p : ℕ) where
   -- ---- Prepare
 
   unfoldable pub voting : Participant → Message → Row Participant
   voting phase vote = record { effects = send vote p ∷ []; phase = phase }
 
   unfoldable pub onPrepare : Participant → Option (Row Participant)
-  onPrepare working = some (record { effects = append 5 (presumptionNumber c ∷ []) ∷ force ∷ send voteYes p ∷ []; phase = prepared })
+  onPrepare working = some (record { effects = append 5 (presumptionNumber presumption ∷ []) ∷ force ∷ send voteYes p ∷ []; phase = prepared })
   onPrepare prepared = some (voting prepared voteYes)
   onPrepare (decided commit) = none
   onPrepare (decided abort) = some (voting (decided abort) voteNo)
@@ -33,11 +33,11 @@ module _ (c : Presumption) (p : ℕ) where
   -- ---- Commit, Abort
 
   unfoldable pub acking : Outcome → List Effect
-  acking o = given (acks c o) (send (ack o) p ∷ [])
+  acking o = given (acks presumption o) (send (ack o) p ∷ [])
 
   -- the outcome is new
   unfoldable pub finish : Outcome → Row Participant
-  finish o = record { effects = append (outcomeRecord o) [] ∷ given (acks c o) (force ∷ []) ++ enter o ∷ acking o; phase = decided o }
+  finish o = record { effects = append (outcomeRecord o) [] ∷ given (acks presumption o) (force ∷ []) ++ enter o ∷ acking o; phase = decided o }
 
   -- the outcome that it has already, or the other one
   unfoldable pub ackingIf : Bool → Outcome → Option (Row Participant)
@@ -62,13 +62,13 @@ module _ (c : Presumption) (p : ℕ) where
   -- ---- the step: `none` is no row
 
   unfoldable pub participantStep : Input → Participant → Option (Row Participant)
-  participantStep begin s = none
-  participantStep timer s = participantTimer s
-  participantStep (received prepare q) s = onPrepare s
-  participantStep (received voteYes q) s = none
-  participantStep (received voteNo q) s = none
-  participantStep (received (tell o) q) s = onTell o s
-  participantStep (received (ack o) q) s = none
+  participantStep begin x = none
+  participantStep timer x = participantTimer x
+  participantStep (received prepare q) x = onPrepare x
+  participantStep (received voteYes q) x = none
+  participantStep (received voteNo q) x = none
+  participantStep (received (tell o) q) x = onTell o x
+  participantStep (received (ack o) q) x = none
 
   -- ---- restart
 
