@@ -9,7 +9,7 @@ use Rattle.codec.specs.Records.{LogRecord, bytesOf, recordOf, recordRefu
 
 -- ---- layout
 
--- (01: the opening)
+-- the four bytes at the start (01: the opening)
 unfoldable pub magic : List ℕ
 magic = 0x44 ∷ 0x50 ∷ 0x52 ∷ 0x4C ∷ []
 
