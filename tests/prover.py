@@ -14,14 +14,15 @@ TYPES = {
     "Presumption": ["Outcome", "commit", "abort"],
     "Coordinator": ["Coordinator", "initial", "collecting", "awaitingAcks"],
     "State": ["Run"],
-    "Safety": ["Moment"],
+    "Step": ["force"],
+    "Safety": ["Moment", "Safe"],
 }
-HEAD = """use Prim.Native.Nat.{ℕ}
-use mathlib.Core.Path.{_≡_, refl}
-use mathlib.Core.Bool.{Bool, true, false, not, _&&_, _||_}
+HEAD = """use Prim.Native.Nat.{ℕ, zero, suc}
+use mathlib.Core.Path.{_≡_, refl, ap, subst}
+use mathlib.Core.Bool.{Bool, true, false, cond, not, _&&_, _||_}
 use mathlib.Core.List.{List, [], _∷_, _++_, map, flatten}
-use lib.ListN.{length, take, replicate}
-use lib.Dec.{eqb}
+use lib.ListN.{length, getD, take, drop, replicate}
+use lib.Dec.{T, eqb}
 """
 
 
@@ -73,15 +74,15 @@ def definitions(edit):
 
 
 def refused(support, equations, edit=None):
-    """The labels of the equations that the prover refuses; `support` are definitions that they use."""
+    """The labels of the claims that the prover refuses: each is a label, a type and its proof; `support` are definitions that they use."""
     shutil.rmtree(OUT, ignore_errors=True)
     root = HEAD + definitions(edit) + support
     opened = " ".join(re.findall(r"^(\w+) :", support, re.M))
     labels = {}
-    for label, claim in equations:
+    for label, claim, proof in equations:
         name = "v" + re.sub(r"\W", "-", label)
         labels[name] = label
-        root += f"\n{name} : {claim}\nunfolding codec-opens site-opens joint-opens {opened}\n{name} = refl\n"
+        root += f"\n{name} : {claim}\nunfolding codec-opens site-opens joint-opens {opened}\n{name} = {proof}\n"
     crate_folder("vectors", root)
     with open(os.path.join(OUT, "crates.txt"), "w") as f:
         f.write("codec:\nsite: codec\njoint: codec site\nvectors: codec site joint\n")
