@@ -120,3 +120,12 @@ writeUnless (suc n) s log at buffer = record { answer = suc n; buffer = buffer }
 
 unfoldable pub writeImage : ℕ → List LogRecord → ℕ → List ℕ → Written
 writeImage s log at buffer = writeUnless (first (writeRefusals s log at buffer)) s log at buffer
+
+-- ---- an image read, and its log written again at an offset of another buffer
+
+unfoldable pub copyReading : Reading → ℕ → List ℕ → Written
+copyReading (accepted s log) at buffer = writeImage s log at buffer
+copyReading (refused n) at buffer = record { answer = n; buffer = buffer }
+
+unfoldable pub copyImage : List ℕ → ℕ → List ℕ → Written
+copyImage bytes at buffer = copyReading (readImage bytes) at buffer

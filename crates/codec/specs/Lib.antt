@@ -3,3 +3,4 @@ pub mod Sets
 pub mod Records
 pub mod Image
 pub mod Messages
+pub mod Answers

@@ -3,8 +3,10 @@ use Prim.Native.Nat.{ℕ, _+_, _-_, _*_, _/_, _%_}
 use mathlib.Core.Bool.{Bool}
 use mathlib.Core.List.{List, [], _∷_}
 use mathlib.Core.Option.{Option, none, some}
+use lib.ListN.{set}
 use lib.Dec.{leb}
 use Rattle.codec.specs.Lists.{every, onlyIf}
+use Rattle.codec.specs.Image.{Written}
 
 pub record Parts : Type 0 where
   pub transaction : ℕ
@@ -23,9 +25,19 @@ unfoldable pub messageAnswer : Option Parts → List ℕ
 messageAnswer none = 26 ∷ []
 messageAnswer (some m) = 0 ∷ m .transaction ∷ m .participant ∷ m .kind ∷ []
 
+-- the same in three lent bytes, which a refusal leaves as they were
+unfoldable pub partsWritten : Option Parts → List ℕ → Written
+partsWritten none parts = record { answer = 26; buffer = parts }
+partsWritten (some m) parts = record { answer = 0; buffer = set (set (set parts 0 (m .transaction)) 1 (m .participant)) 2 (m .kind) }
+
 -- the way back; parts that no message has are refused by 26 too
 unfoldable pub isMessage : Parts → Bool
 isMessage m = every (leb (m .transaction) 7 ∷ leb 1 (m .participant) ∷ leb (m .participant) 8 ∷ leb (m .kind) 6 ∷ [])
 
 unfoldable pub numberOf : Parts → Option ℕ
 numberOf m = onlyIf (isMessage m) (messageNumber m)
+
+-- in numbers: 0 and the message's number; or 26
+unfoldable pub numberAnswer : Option ℕ → List ℕ
+numberAnswer none = 26 ∷ []
+numberAnswer (some n) = 0 ∷ n ∷ []

@@ -1,1 +1,8 @@
-// The definitions stand in specs/.
+// Log records, log images and message numbers.
+pub mod firmware;
+pub mod log;
+pub mod message;
+pub mod reader;
+pub mod record;
+pub mod sets;
+pub mod writer;

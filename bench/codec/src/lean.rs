@@ -1,0 +1,137 @@
+//! Log images in plain Rust without a heap: what the proved codec is measured against.
+//! A `Log` is made by `read` alone, so `write` need not check it again.
+
+#[derive(Clone, Copy)]
+enum Record {
+    Init { transaction: u8, members: u8, presume_commit: u8 },
+    Commit { transaction: u8, members: u8, presume_commit: u8 },
+    CommitEnd { transaction: u8 },
+    AbortEnd { transaction: u8 },
+    Prepared { transaction: u8, presumption: u8 },
+    Committed { transaction: u8 },
+    Aborted { transaction: u8 },
+}
+use Record::*;
+
+impl Record {
+    /// A record of the site, or none: 23.
+    fn parse(site: u8, bytes: &[u8]) -> Option<Record> {
+        let record = match (site, bytes) {
+            (0, &[1, transaction, members, presume_commit])
+                if presume_commit != 0 && presume_commit & !members == 0 =>
+            {
+                Init { transaction, members, presume_commit }
+            }
+            (0, &[2, transaction, members, presume_commit]) if members != 0 && presume_commit & !members == 0 => {
+                Commit { transaction, members, presume_commit }
+            }
+            (0, &[3, transaction]) => CommitEnd { transaction },
+            (0, &[4, transaction]) => AbortEnd { transaction },
+            (1.., &[5, transaction, presumption @ 0..=1]) => Prepared { transaction, presumption },
+            (1.., &[6, transaction]) => Committed { transaction },
+            (1.., &[7, transaction]) => Aborted { transaction },
+            _ => return None,
+        };
+        (bytes[1] < 8).then_some(record)
+    }
+
+    /// May it come after the newest record of its transaction?
+    fn may_follow(self, newest: Option<Record>) -> bool {
+        match (newest, self) {
+            (None, _) => true,
+            (
+                Some(Init { members, presume_commit, .. }),
+                Commit { members: members_now, presume_commit: presume_commit_now, .. },
+            ) => members == members_now && presume_commit == presume_commit_now,
+            (Some(Init { .. }), AbortEnd { .. }) => true,
+            (Some(Commit { members, presume_commit, .. }), CommitEnd { .. }) => members & !presume_commit != 0,
+            (Some(Prepared { .. }), Committed { .. } | Aborted { .. }) => true,
+            _ => false,
+        }
+    }
+
+    /// Writes its bytes at the start of `to`, and answers how many they are.
+    fn write(self, to: &mut [u8]) -> usize {
+        match self {
+            Init { transaction, members, presume_commit } => put(to, [1, transaction, members, presume_commit]),
+            Commit { transaction, members, presume_commit } => put(to, [2, transaction, members, presume_commit]),
+            CommitEnd { transaction } => put(to, [3, transaction]),
+            AbortEnd { transaction } => put(to, [4, transaction]),
+            Prepared { transaction, presumption } => put(to, [5, transaction, presumption]),
+            Committed { transaction } => put(to, [6, transaction]),
+            Aborted { transaction } => put(to, [7, transaction]),
+        }
+    }
+}
+
+fn put<const N: usize>(to: &mut [u8], bytes: [u8; N]) -> usize {
+    to[..N].copy_from_slice(&bytes);
+    N
+}
+
+pub struct Log {
+    site: u8,
+    count: usize,
+    /// Bytes of the image.
+    length: usize,
+    records: [Record; 24],
+}
+
+fn word(low: u8, high: u8) -> usize {
+    u16::from_le_bytes([low, high]) as usize
+}
+
+/// The log of an image, or 20 to 24.
+pub fn read(image: &[u8]) -> Result<Log, u8> {
+    let &[b'D', b'P', b'R', b'L', site, count, ref rest @ ..] = image else { return Err(20) };
+    let count = count as usize;
+    if site > 8 || count > if site == 0 { 24 } else { 16 } {
+        return Err(21);
+    }
+    let (table, mut body) = rest.split_at_checked(4 * count).ok_or(22)?;
+    let mut end = 6 + 4 * count;
+    for pair in table.chunks_exact(4) {
+        if word(pair[0], pair[1]) != end {
+            return Err(22);
+        }
+        end += word(pair[2], pair[3]);
+    }
+    if end != image.len() {
+        return Err(22);
+    }
+    let mut log = Log { site, count, length: image.len(), records: [CommitEnd { transaction: 0 }; 24] };
+    let mut newest = [None; 8];
+    for (pair, place) in table.chunks_exact(4).zip(&mut log.records) {
+        let (bytes, rest) = body.split_at(word(pair[2], pair[3]));
+        let record = Record::parse(site, bytes).ok_or(23)?;
+        let newest = &mut newest[bytes[1] as usize];
+        if !record.may_follow(*newest) {
+            return Err(24);
+        }
+        *newest = Some(record);
+        *place = record;
+        body = rest;
+    }
+    Ok(log)
+}
+
+/// Writes the image of the log at the offset of the buffer, or refuses by 25.
+pub fn write(log: &Log, buffer: &mut [u8], offset: usize) -> Result<(), u8> {
+    let image = buffer.get_mut(offset..).and_then(|rest| rest.get_mut(..log.length)).ok_or(25)?;
+    let (head, rest) = image.split_at_mut(6);
+    head.copy_from_slice(&[b'D', b'P', b'R', b'L', log.site, log.count as u8]);
+    let (table, body) = rest.split_at_mut(4 * log.count);
+    let start = 6 + 4 * log.count;
+    let mut at = 0;
+    for (record, pair) in log.records.iter().zip(table.chunks_exact_mut(4)) {
+        let length = record.write(&mut body[at..]);
+        pair[..2].copy_from_slice(&((start + at) as u16).to_le_bytes());
+        pair[2..].copy_from_slice(&(length as u16).to_le_bytes());
+        at += length;
+    }
+    Ok(())
+}
+
+pub fn image_copy(image: &[u8], buffer: &mut [u8], offset: usize) -> u8 {
+    read(image).and_then(|log| write(&log, buffer, offset)).err().unwrap_or(0)
+}

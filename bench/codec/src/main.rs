@@ -1,0 +1,126 @@
+//! The functions of libcodec.a beside two codecs in plain Rust, for bench/run-codec.
+//! `check`: do the plain ones agree? `measure N`: N calls of each, to be counted by callgrind under the names below.
+
+#[allow(dead_code)]
+#[path = "../../../tests/reference/src/codec.rs"]
+mod codec;
+#[allow(dead_code)]
+#[path = "../../../tests/codec/src/images.rs"]
+mod images;
+mod lean;
+#[path = "../../../tests/codec/src/random.rs"]
+mod random;
+
+use std::hint::black_box;
+use std::slice::{from_raw_parts, from_raw_parts_mut};
+
+#[link(name = "codec", kind = "static")]
+extern "C" {
+    fn dpr_message_parts(number: u16, parts: *mut [u8; 3]) -> u8;
+    fn dpr_image_copy(image: *const u8, image_len: usize, buffer: *mut u8, buffer_len: usize, offset: usize) -> u8;
+}
+
+type ImageCopy = unsafe extern "C" fn(*const u8, usize, *mut u8, usize, usize) -> u8;
+
+#[no_mangle]
+#[inline(never)]
+unsafe extern "C" fn lean_image_copy(
+    image: *const u8,
+    length: usize,
+    buffer: *mut u8,
+    room: usize,
+    offset: usize,
+) -> u8 {
+    lean::image_copy(from_raw_parts(image, length), from_raw_parts_mut(buffer, room), offset)
+}
+
+#[no_mangle]
+#[inline(never)]
+unsafe extern "C" fn reference_image_copy(
+    image: *const u8,
+    length: usize,
+    buffer: *mut u8,
+    room: usize,
+    offset: usize,
+) -> u8 {
+    let (site, log) = match codec::read_image(from_raw_parts(image, length)) {
+        Ok(read) => read,
+        Err(number) => return number,
+    };
+    let records: Vec<Vec<u8>> = log.iter().map(|record| record.bytes()).collect();
+    codec::write_image(site as u64, &records, from_raw_parts_mut(buffer, room), offset as u64).err().unwrap_or(0)
+}
+
+#[no_mangle]
+#[inline(never)]
+unsafe extern "C" fn reference_message_parts(number: u16, parts: *mut [u8; 3]) -> u8 {
+    match codec::Message::from_number(number) {
+        Err(refusal) => refusal,
+        Ok(message) => {
+            *parts = [message.transaction, message.participant, message.kind];
+            0
+        }
+    }
+}
+
+/// Answer and buffer of a copy to a buffer of so many bytes.
+fn copied(copy: ImageCopy, image: &[u8], room: usize, offset: usize) -> (u8, Vec<u8>) {
+    let mut buffer = vec![0xEE; room];
+    let answer = unsafe { copy(image.as_ptr(), image.len(), buffer.as_mut_ptr(), room, offset) };
+    (answer, buffer)
+}
+
+/// The lean codec against the reference model's: accepted images, their prefixes and their single-byte changes.
+fn check() {
+    let mut compared = 0;
+    let mut compare = |image: &[u8], room: usize, offset: usize| {
+        let (lean, reference) =
+            (copied(lean_image_copy, image, room, offset), copied(reference_image_copy, image, room, offset));
+        assert_eq!(lean, reference, "image {image:02X?}, buffer of {room} bytes, offset {offset}");
+        compared += 1;
+    };
+    for image in images::accepted(&mut random::Random(7)) {
+        for room in 0..image.len() + 8 {
+            compare(&image, room, room / 8);
+            compare(&image, room, 0);
+            compare(&image[..room.min(image.len())], 200, 9);
+        }
+        for i in 0..image.len() {
+            for value in 0..=255 {
+                let mut changed = image.clone();
+                changed[i] = value;
+                compare(&changed, 200, 9);
+            }
+        }
+    }
+    println!("the two codecs in plain Rust agree on {compared} copies");
+}
+
+fn measure(calls: usize) {
+    // the largest: 24 records at the coordinator
+    let image = images::accepted(&mut random::Random(7)).into_iter().max_by_key(Vec::len).unwrap();
+    assert_eq!((image[4], image[5], image.len()), (0, 24, 182));
+    let mut wanted = vec![0xEE; 200];
+    wanted[9..9 + image.len()].copy_from_slice(&image);
+    for copy in [dpr_image_copy as ImageCopy, lean_image_copy, reference_image_copy] {
+        for _ in 0..calls {
+            let (answer, buffer) = black_box(copied(copy, black_box(&image), 200, 9));
+            assert!(answer == 0 && buffer == wanted);
+        }
+    }
+    for i in 0..calls {
+        let number = black_box((i % 448) as u16);
+        let (mut proved, mut plain) = ([0; 3], [0; 3]);
+        let answers = unsafe { [dpr_message_parts(number, &mut proved), reference_message_parts(number, &mut plain)] };
+        assert!(answers == [0, 0] && proved == plain);
+    }
+}
+
+fn main() {
+    let words: Vec<String> = std::env::args().skip(1).collect();
+    match words.iter().map(String::as_str).collect::<Vec<_>>()[..] {
+        ["check"] => check(),
+        ["measure", calls] => measure(calls.parse().unwrap()),
+        _ => panic!("check, or measure and the number of calls"),
+    }
+}

@@ -1,0 +1,82 @@
+-- The records of a log, checked one after the other before they are written. Assumes nothing.
+use mathlib.Core.Path.{_≡_, refl, ap, sym, _∙_}
+use mathlib.Core.Bool.{true, false}
+use mathlib.Core.List.{List, [], _∷_, map}
+use Prim.Native.Nat.{ℕ, zero, suc, _+_, _<_, _≤_}
+use native.Mathlib.Nat.{not-suc-le-zero, le-of-suc-le-suc}
+use native.Mathlib.Omega.{arith}
+use lib.ListN.{length, getD, set, take, length-map, length-take}
+use lib.Seq.{getD-take}
+use Rattle.codec.specs.Lists.{first}
+use Rattle.codec.specs.Records.{LogRecord, bytesOf, recordOf, isRecord, recordRefusals}
+use Rattle.codec.specs.Image.{overLimit, logRefusals}
+use Rattle.codec.specs.Answers.{recordIn, noRecord, logIn, mayFollow, recordNumber, answerTo}
+use Rattle.codec.specs.declared.record.Record.{Record}
+use Rattle.codec.specs.declared.record.RecordAnswer.the-variants.{Accepted}
+use Rattle.codec.specs.declared.log.Log.{Log}
+use Rattle.codec.proofs.Passed.{Passed, passed-next, passed-all, stopped}
+
+pub getD-map-below : {A B : Type 0} (f : A → B) (l : List A) (i : ℕ) (a : A) (b : B) → i < length l → getD (map f l) i b ≡ f (getD l i a)
+getD-map-below f [] i a b h = absurd (not-suc-le-zero h)
+getD-map-below f (x ∷ l) zero a b h = refl
+getD-map-below f (x ∷ l) (suc i) a b h = getD-map-below f l i a b (le-of-suc-le-suc h)
+
+pub map-set : {A B : Type 0} (f : A → B) (l : List A) (i : ℕ) (y : A) → map f (set l i y) ≡ set (map f l) i (f y)
+map-set f [] i y = refl
+map-set f (x ∷ l) zero y = refl
+map-set f (x ∷ l) (suc i) y = ap (f x ∷_) (map-set f l i y)
+
+take-taken : {A : Type 0} (n : ℕ) (l : List A) → take (length (take n l)) l ≡ take n l
+take-taken zero l = refl
+take-taken (suc n) [] = refl
+take-taken (suc n) (x ∷ l) = ap (x ∷_) (take-taken n l)
+
+-- the first `count` records of an array, as bytes
+abbrev pub recordsOf : ℕ → List Record → List (List ℕ)
+recordsOf count records = map bytesOf (take count (map recordIn records))
+
+pub records-length : (count : ℕ) (records : List Record) → count ≤ length records → length (recordsOf count records) ≡ count
+records-length count records h = simp (length-map, length-take) (omega arith)
+
+-- a log counts no more records than there are
+pub log-few : (l : Log) → length (l .records) ≡ 24 → length (logIn l) ≤ 24
+unfolding logIn
+log-few l h = simp (length-take, length-map) (omega arith)
+
+pub log-counted : (l : Log) → recordsOf (length (logIn l)) (l .records) ≡ map bytesOf (logIn l)
+unfolding logIn
+log-counted l = ap (map bytesOf) (take-taken (l .count) (map recordIn (l .records)))
+
+pub refused-limit : (s : ℕ) (log : List LogRecord) → overLimit s (length log) ≡ true → first (logRefusals s log) ≡ 21
+unfolding logRefusals first
+refused-limit s log e = rw e
+
+pub refused-record : (s : ℕ) (log : List LogRecord) → overLimit s (length log) ≡ false → first (logRefusals s log) ≡ first (recordRefusals s [] (map bytesOf log))
+unfolding logRefusals first
+refused-record s log e = rw e
+
+module _ (s count : ℕ) (records newest : List Record) (i : ℕ) (p : Passed s (recordsOf count records) newest i) (more : i < count) (few : count ≤ length records) where
+  abbrev x : Record
+  x = getD records i noRecord
+
+  here-is : getD (recordsOf count records) i [] ≡ bytesOf (recordIn x)
+  here-is =
+      getD-map-below bytesOf (take count (map recordIn records)) i (recordIn noRecord) [] (simp (length-take, length-map) (omega arith))
+      ∙ ap bytesOf (getD-take count (map recordIn records) i (recordIn noRecord) more ∙ getD-map-below recordIn records i noRecord (recordIn noRecord) (omega arith))
+
+  there : i < length (recordsOf count records)
+  there = rw (records-length count records few) more
+
+  record-is : isRecord s (getD (recordsOf count records) i []) ≡ true → recordIn x ≡ recordOf (getD (recordsOf count records) i [])
+  unfolding recordOf bytesOf
+  record-is e = rw here-is
+
+  pub log-stopped : (recordNumber (answerTo (isRecord s (bytesOf (recordIn x))) (mayFollow (recordIn (getD newest (x .transaction) noRecord)) (recordIn x)) x) ≡ 0 → ⊥)
+      → recordNumber (answerTo (isRecord s (bytesOf (recordIn x))) (mayFollow (recordIn (getD newest (x .transaction) noRecord)) (recordIn x)) x) ≡ first (recordRefusals s [] (recordsOf count records))
+  unfolding recordOf bytesOf
+  log-stopped = rw here-is at (stopped s (recordsOf count records) newest i p there x record-is)
+
+  pub log-next : (r : Record) → answerTo (isRecord s (bytesOf (recordIn x))) (mayFollow (recordIn (getD newest (x .transaction) noRecord)) (recordIn x)) x ≡ Accepted r
+      → (r .transaction < 8) × Passed s (recordsOf count records) (set newest (r .transaction) r) (i + 1)
+  unfolding recordOf bytesOf
+  log-next = rw here-is at (passed-next s (recordsOf count records) newest i p there x record-is)

@@ -1,0 +1,27 @@
+-- What the reader's answer tells the copier. Assumes nothing.
+use mathlib.Core.Path.{_≡_, refl, ap, sym, _∙_}
+use mathlib.Core.List.{List}
+use Prim.Native.Nat.{ℕ, zero, suc}
+use native.Mathlib.Omega.{arith}
+use Rattle.codec.specs.Lists.{first}
+use Rattle.codec.specs.Records.{LogRecord}
+use Rattle.codec.specs.Image.{imageRefusals, readUnless, readImage, writeImage, copyReading, copyImage}
+use Rattle.codec.specs.Answers.{Values, logIn, values, imageValues, written}
+use Rattle.codec.specs.declared.reader.ImageAnswer.{ImageAnswer}
+
+module _ (bytes : List ℕ) (r : ImageAnswer) (e : imageValues r ≡ values (readImage bytes)) (at : ℕ) (buffer : List ℕ) where
+  pub copy-refused : (r .answer ≡ 0 → ⊥) → copyImage bytes at buffer ≡ written (r .answer) buffer
+  unfolding copyImage copyReading readImage readUnless imageValues values
+  copy-refused h = by (first (imageRefusals bytes)) (ap (λ (v : Values). v .answer) e)
+    where
+      by : (n : ℕ) → r .answer ≡ values (readUnless n bytes) .answer → copyReading (readUnless n bytes) at buffer ≡ written (r .answer) buffer
+      by zero a = absurd (h a)
+      by (suc n) a = rw a
+
+  pub copy-accepted : r .answer ≡ 0 → copyImage bytes at buffer ≡ writeImage (r .log .site) (logIn (r .log)) at buffer
+  unfolding copyImage copyReading readImage readUnless imageValues values
+  copy-accepted h = by (first (imageRefusals bytes)) e
+    where
+      by : (n : ℕ) → imageValues r ≡ values (readUnless n bytes) → copyReading (readUnless n bytes) at buffer ≡ writeImage (r .log .site) (logIn (r .log)) at buffer
+      by zero e = rw (ap (λ (v : Values). v .log) e, ap (λ (v : Values). v .site) e)
+      by (suc n) e = absurd (omega (arith, ap (λ (v : Values). v .answer) e))

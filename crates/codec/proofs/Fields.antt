@@ -1,0 +1,204 @@
+-- One record: its length, the tests on it, and its bytes. Assumes nothing.
+use mathlib.Core.Path.{_≡_, refl, ap, sym, _∙_}
+use mathlib.Core.Bool.{Bool, true, false, not, _&&_, and-eq-true-iff, false≢true}
+use mathlib.Core.List.{List, [], _∷_}
+use mathlib.Core.Logic.{⊎-elim}
+use Prim.Native.Nat.{ℕ, zero, suc, _+_, _-_, _<_, _≤_, min}
+use native.Mathlib.Omega.{arith}
+use borrow.Author.Tests.{le-leb, lt-leb, eq-eqb, ne-eqb, eqb-true}
+use lib.Dec.{T, eqb, leb, leb→le, eqb→eq, eqb·suc-zero}
+use lib.ListN.{length, getD, take, drop, List·getD-eq-default}
+use Rattle.codec.specs.Lists.{every}
+use Rattle.codec.specs.Records.{LogRecord, bytesOf, recordOf, lengths, lengthOf, membersIn, presumeCommitIn, recordKindAt, masksInRange, fieldsInRange, isRecord}
+use Rattle.codec.specs.Sets.{empty, part}
+use Rattle.codec.specs.Answers.{recordIn, recordFrom, noRecord, mayFollow, answerTo}
+use Rattle.codec.specs.declared.record.Record.{Record}
+use Rattle.codec.proofs.Tests.{below, below-at, and-left, and-right, of-true, lt-or-le}
+
+pub and-false : (b : Bool) → (b && false) ≡ false
+and-false true = refl
+and-false false = refl
+
+-- ---- lengths
+
+-- a rule of every length holds at each kind, and at 0 for what is no kind
+lengths-all : (f : ℕ → Bool) → T (below 8 (λ k. f (lengthOf k))) → T (f 0) → (k : ℕ) → T (f (lengthOf k))
+unfolding lengthOf lengths
+lengths-all f t z k =
+    ⊎-elim (λ h. below-at 8 (λ k. f (lengthOf k)) t k h)
+    (λ h. rw (List·getD-eq-default lengths 0 {n = k} h) z)
+    (lt-or-le k 8)
+
+pub length-most : (k : ℕ) → lengthOf k ≤ 4
+unfolding lengthOf lengths
+length-most k = leb→le _ _ (lengths-all (λ n. leb n 4) tt tt k)
+
+not-one : (k : ℕ) → lengthOf k ≡ 1 → ⊥
+unfolding lengthOf lengths
+not-one k e = eqb-false-one (lengthOf k) (lengths-all (λ n. not (eqb n 1)) tt tt k) e
+  where
+    eqb-false-one : (n : ℕ) → T (not (eqb n 1)) → n ≡ 1 → ⊥
+    eqb-false-one n t e = rw e at t
+
+-- how many bytes a record has
+pub bytes-length : (x : Record) → length (bytesOf (recordIn x)) ≡ 2 + (lengthOf (x .kind) - 2)
+unfolding bytesOf recordIn
+bytes-length x = omega (arith, by (lengthOf (x .kind) - 2) (omega (arith, length-most (x .kind))))
+  where
+    by : (n : ℕ) → n ≤ 2 → length (take n (x .first ∷ x .second ∷ [])) ≡ n
+    by zero h = refl
+    by (suc zero) h = refl
+    by (suc (suc n)) h = let e : n ≡ 0 = omega arith in rw e
+
+-- ---- kinds of a site
+
+pub at-coordinator : (s k : ℕ) → 1 ≤ k → k ≤ 4 → eqb s 0 ≡ recordKindAt s k
+unfolding recordKindAt
+at-coordinator zero k h g = sym (simp (le-leb 1 k h, le-leb k 4 g))
+at-coordinator (suc s) k h g = eqb·suc-zero s ∙ sym (rw (lt-leb 5 k (omega arith)))
+
+pub at-participant : (s k : ℕ) → 5 ≤ k → k ≤ 7 → not (eqb s 0) ≡ recordKindAt s k
+unfolding recordKindAt
+at-participant zero k h g = sym (simp (lt-leb k 4 (omega arith)) (and-false (leb 1 k)))
+at-participant (suc s) k h g = ap not (eqb·suc-zero s) ∙ sym (simp (le-leb 5 k h, le-leb k 7 g))
+
+pub no-kind-low : (s k : ℕ) → k < 1 → recordKindAt s k ≡ false
+unfolding recordKindAt
+no-kind-low zero k h = rw (lt-leb 1 k h)
+no-kind-low (suc s) k h = rw (lt-leb 5 k (omega arith))
+
+pub no-kind-high : (s k : ℕ) → 7 < k → recordKindAt s k ≡ false
+unfolding recordKindAt
+no-kind-high zero k h = rw (lt-leb k 4 (omega arith)) (and-false (leb 1 k))
+no-kind-high (suc s) k h = rw (lt-leb k 7 h) (and-false (leb 5 k))
+
+-- ---- the tests on a record
+
+-- a kind has a length of at least 2
+kind-length : (s k : ℕ) → recordKindAt s k ≡ true → 2 ≤ lengthOf k
+unfolding lengthOf lengths
+kind-length s k e = ⊎-elim by-low (λ h. absurd (rw (no-kind-high s k h) at (of-true e))) (lt-or-le k 8)
+  where
+    long : (k : ℕ) → 1 ≤ k → k < 8 → 2 ≤ lengthOf k
+    long zero g h = absurd (omega arith)
+    long (suc k) g h = leb→le _ _ (below-at 7 (λ k. leb 2 (lengthOf (suc k))) tt k (omega arith))
+
+    by-low : k < 8 → 2 ≤ lengthOf k
+    by-low h = ⊎-elim (λ z. absurd (rw (no-kind-low s k z) at (of-true e))) (λ g. long k g h) (lt-or-le k 1)
+
+module _ (s : ℕ) (x : Record) where
+  -- the length is that of the kind, so three tests are left
+  pub is-record : isRecord s (bytesOf (recordIn x)) ≡ every (recordKindAt s (x .kind) ∷ leb (x .transaction) 7 ∷ fieldsInRange (recordIn x) ∷ [])
+  unfolding isRecord recordOf bytesOf every recordIn
+  is-record = by (recordKindAt s (x .kind)) refl
+    where
+      by : (b : Bool) → recordKindAt s (x .kind) ≡ b → isRecord s (bytesOf (recordIn x)) ≡ every (recordKindAt s (x .kind) ∷ leb (x .transaction) 7 ∷ fieldsInRange (recordIn x) ∷ [])
+      by false e = rw e
+      by true e =
+          let two : 2 ≤ lengthOf (x .kind) = kind-length s (x .kind) e in
+          let size : length (bytesOf (recordIn x)) ≡ lengthOf (x .kind) = omega (arith, bytes-length x) in
+          rw (e, eq-eqb _ _ size)
+
+-- the other kinds have no fields
+fieldless : (a b c : Bool) (k : ℕ) → 1 ≤ k → k < 8 → (k ≡ 1 → ⊥) → (k ≡ 2 → ⊥) → (k ≡ 5 → ⊥)
+    → getD (false ∷ a ∷ b ∷ true ∷ true ∷ c ∷ true ∷ true ∷ []) k false ≡ true
+fieldless a b c zero low high n1 n2 n5 = absurd (omega arith)
+fieldless a b c (suc zero) low high n1 n2 n5 = absurd (n1 refl)
+fieldless a b c (suc (suc zero)) low high n1 n2 n5 = absurd (n2 refl)
+fieldless a b c (suc (suc (suc zero))) low high n1 n2 n5 = refl
+fieldless a b c (suc (suc (suc (suc zero)))) low high n1 n2 n5 = refl
+fieldless a b c (suc (suc (suc (suc (suc zero))))) low high n1 n2 n5 = absurd (n5 refl)
+fieldless a b c (suc (suc (suc (suc (suc (suc zero)))))) low high n1 n2 n5 = refl
+fieldless a b c (suc (suc (suc (suc (suc (suc (suc zero))))))) low high n1 n2 n5 = refl
+fieldless a b c (suc (suc (suc (suc (suc (suc (suc (suc k)))))))) low high n1 n2 n5 = absurd (omega arith)
+
+past : (a b c : Bool) (k : ℕ) → 8 ≤ k → getD (false ∷ a ∷ b ∷ true ∷ true ∷ c ∷ true ∷ true ∷ []) k false ≡ false
+past a b c k h = List·getD-eq-default (false ∷ a ∷ b ∷ true ∷ true ∷ c ∷ true ∷ true ∷ []) false h
+
+module _ (x : Record) where
+  pub fields-other : 1 ≤ x .kind → x .kind < 8 → (x .kind ≡ 1 → ⊥) → (x .kind ≡ 2 → ⊥) → (x .kind ≡ 5 → ⊥) → fieldsInRange (recordIn x) ≡ true
+  unfolding fieldsInRange recordIn
+  fields-other = fieldless _ _ _ (x .kind)
+
+  pub fields-zero : x .kind < 1 → fieldsInRange (recordIn x) ≡ false
+  unfolding fieldsInRange recordIn
+  fields-zero h = let e : x .kind ≡ 0 = omega arith in rw e
+
+  pub fields-high : 8 ≤ x .kind → fieldsInRange (recordIn x) ≡ false
+  unfolding fieldsInRange recordIn
+  fields-high h = past _ _ _ (x .kind) h
+
+no-record : (s : ℕ) (bytes : List ℕ) → getD bytes 0 0 ≡ 0 → isRecord s bytes ≡ false
+unfolding isRecord recordOf every
+no-record s bytes e = rw (e, no-kind-low s 0 (omega arith))
+
+module _ (s : ℕ) (x : Record) where
+  pub wrong-kind : recordKindAt s (x .kind) ≡ false → isRecord s (bytesOf (recordIn x)) ≡ false
+  unfolding every
+  wrong-kind e = rw (is-record s x, e)
+
+  pub wrong-transaction : 7 < x .transaction → isRecord s (bytesOf (recordIn x)) ≡ false
+  unfolding every
+  wrong-transaction h = rw (is-record s x, lt-leb (x .transaction) 7 h) (and-false (recordKindAt s (x .kind)))
+
+  pub wrong-fields : fieldsInRange (recordIn x) ≡ false → isRecord s (bytesOf (recordIn x)) ≡ false
+  unfolding every
+  wrong-fields e = rw (is-record s x, e, and-false (leb (x .transaction) 7)) (and-false (recordKindAt s (x .kind)))
+
+  pub right-record : recordKindAt s (x .kind) ≡ true → x .transaction ≤ 7 → fieldsInRange (recordIn x) ≡ true → isRecord s (bytesOf (recordIn x)) ≡ true
+  unfolding every
+  right-record e h f = rw (is-record s x, e, le-leb (x .transaction) 7 h, f)
+
+pub and-true : (b : Bool) → (b && true) ≡ b
+and-true true = refl
+and-true false = refl
+
+module _ (x : Record) (h : x .first < 256) where
+  masks : every (leb 1 (x .first) ∷ leb (x .first) 255 ∷ part (x .second) (x .first) ∷ []) ≡ (leb 1 (x .first) && part (x .second) (x .first))
+  unfolding every
+  masks = rw (le-leb (x .first) 255 (omega arith), and-true (part (x .second) (x .first)))
+
+  pub fields-init : x .kind ≡ 1 → fieldsInRange (recordIn x) ≡ ((leb 1 (x .first) && part (x .second) (x .first)) && not (eqb (x .second) 0))
+  unfolding fieldsInRange masksInRange membersIn presumeCommitIn recordIn lengthOf lengths empty
+  fields-init e = rw (e, masks)
+
+  pub fields-commit : x .kind ≡ 2 → fieldsInRange (recordIn x) ≡ (leb 1 (x .first) && part (x .second) (x .first))
+  unfolding fieldsInRange masksInRange membersIn presumeCommitIn recordIn lengthOf lengths
+  fields-commit e = rw (e, masks)
+
+pub fields-prepared : (x : Record) → x .kind ≡ 5 → fieldsInRange (recordIn x) ≡ leb (x .first) 1
+unfolding fieldsInRange recordIn lengthOf lengths
+fields-prepared x e = rw e
+
+pub wrong-length : (s : ℕ) (bytes : List ℕ) → (length bytes ≡ lengthOf (getD bytes 0 0) → ⊥) → isRecord s bytes ≡ false
+unfolding isRecord recordOf every
+wrong-length s bytes h = rw (ne-eqb (length bytes) (lengthOf (getD bytes 0 0)) h) (and-false (recordKindAt s (getD bytes 0 0)))
+
+-- bytes of their kind's length are those of the record read from them
+from : (bytes : List ℕ) → 1 ≤ length bytes → length bytes ≡ lengthOf (getD bytes 0 0) → recordIn (recordFrom bytes) ≡ recordOf bytes
+unfolding recordFrom recordIn recordOf
+from [] h e = absurd (omega arith)
+from (a ∷ []) h e = absurd (not-one a (sym e))
+from (a ∷ b ∷ []) h e = rw (← e)
+from (a ∷ b ∷ c ∷ []) h e = rw (← e)
+from (a ∷ b ∷ c ∷ d ∷ []) h e = rw (← e)
+from (a ∷ b ∷ c ∷ d ∷ f ∷ bytes) h e = absurd (omega (arith, length-most a))
+
+module _ (s : ℕ) where
+  pub read-as : (newest : List Record) (bytes : List ℕ) → length bytes ≡ lengthOf (getD bytes 0 0)
+      → answerTo (isRecord s (bytesOf (recordIn (recordFrom bytes)))) (mayFollow (recordIn (getD newest (recordFrom bytes .transaction) noRecord)) (recordIn (recordFrom bytes))) (recordFrom bytes)
+      ≡ answerTo (isRecord s bytes) (mayFollow (recordIn (getD newest (recordFrom bytes .transaction) noRecord)) (recordOf bytes)) (recordFrom bytes)
+  unfolding recordFrom recordIn bytesOf recordOf answerTo
+  read-as newest [] e = rw (no-record s (0 ∷ 0 ∷ take (lengthOf 0 - 2) (0 ∷ 0 ∷ [])) refl, no-record s [] refl)
+  read-as newest (a ∷ []) e = absurd (not-one a (sym e))
+  read-as newest (a ∷ b ∷ bytes) e =
+      ap (λ (y : LogRecord). answerTo (isRecord s (bytesOf y)) (mayFollow (recordIn (getD newest b noRecord)) y) (recordFrom (a ∷ b ∷ bytes)))
+      (from (a ∷ b ∷ bytes) (omega arith) e)
+
+  pub from-bytes : (bytes : List ℕ) → isRecord s bytes ≡ true → recordIn (recordFrom bytes) ≡ recordOf bytes
+  unfolding isRecord recordOf every
+  from-bytes [] e = absurd (false≢true (sym (no-record s [] refl) ∙ e))
+  from-bytes (a ∷ bytes) e =
+      let kind = and-eq-true-iff (recordKindAt s a) _ .0 e in
+      let size = and-eq-true-iff (eqb (length (a ∷ bytes)) (lengthOf a)) _ .0 (kind .1) in
+      from (a ∷ bytes) (omega arith) (eqb-true (length (a ∷ bytes)) (lengthOf a) (size .0))

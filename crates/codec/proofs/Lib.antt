@@ -1,0 +1,17 @@
+mod Tests
+mod Masks
+mod Fields
+mod Behind
+mod Refusals
+mod Tables
+mod Sequence
+mod Kept
+mod Passed
+mod Checked
+mod Pairs
+mod Filled
+mod Stored
+mod Opened
+mod Numbered
+mod Copied
+mod RoundTrip

@@ -1,0 +1,130 @@
+-- The sequence of a transaction's records is kept by looking at its newest record alone. Assumes nothing.
+use mathlib.Core.Path.{_≡_, refl, ap, sym, _∙_, subst}
+use mathlib.Core.Bool.{Bool, true, false, cond, not, _&&_, _||_, and-false}
+use mathlib.Core.List.{List, [], _∷_, _++_, map}
+use mathlib.Core.Logic.{⊎-elim}
+use Prim.Native.Nat.{ℕ, zero, suc, _/_, _%_, _^_, _<_, _≤_}
+use native.Mathlib.Omega.{arith}
+use borrow.Author.Tests.{le-leb, eq-eqb, ne-eqb, eqb-true, eqb-false}
+use lib.Dec.{T, eqb, leb, leb→le}
+use lib.ListN.{length, getD, set, replicate, getD-replicate, length-set}
+use lib.Seq.{getD-set-same, getD-set-other}
+use Rattle.codec.specs.Lists.{select, any, all, every, same}
+use Rattle.codec.specs.Records.{LogRecord, sequences, agrees, ofTransaction, inSequence}
+use Rattle.codec.specs.Answers.{recordIn, noRecord, nextKinds, mayFollow}
+use Rattle.codec.specs.declared.record.Record.{Record}
+use Rattle.codec.proofs.Tests.{alike, alike-eq, below, below-at, and-left, and-right, true-of, of-true}
+use Rattle.codec.proofs.Refusals.{same-list}
+use Rattle.codec.proofs.Fields.{and-true}
+
+-- ---- kinds
+
+abbrev pub kinds : List LogRecord → List ℕ
+kinds = map (λ x. x .kind)
+
+abbrev pub legal : List ℕ → Bool
+legal ks = any (same ks) ([] ∷ sequences)
+
+-- what holds of each of some lists holds of one that is among them
+among : (f : List ℕ → Bool) (qs : List (List ℕ)) (ks : List ℕ) → T (all f qs) → any (same ks) qs ≡ true → T (f ks)
+unfolding any all
+among f [] ks t e = absurd (of-true e)
+among f (q ∷ qs) ks t e = by (same ks q) refl (λ h. among f qs ks (and-right (f q) (all f qs) t) (rw h at e))
+  where
+    by : (b : Bool) → same ks q ≡ b → (same ks q ≡ false → T (f ks)) → T (f ks)
+    by true h rest = subst (λ (l : List ℕ). T (f l)) (sym (same-list ks q h)) (and-left (f q) (all f qs) t)
+    by false h rest = rest h
+
+-- the last of some elements, or z
+abbrev pub lastOr {ℓ} : {A : Type ℓ} → A → List A → A
+lastOr z [] = z
+lastOr z (x ∷ xs) = lastOr x xs
+
+-- all but the last
+abbrev front : List ℕ → List ℕ
+front [] = []
+front (x ∷ []) = []
+front (x ∷ y ∷ xs) = x ∷ front (y ∷ xs)
+
+-- the program's table
+abbrev next : ℕ → ℕ → Bool
+next j k = eqb (getD nextKinds j 0 / 2 ^ k % 2) 1
+
+-- a record of kind j asks nothing of one of kind k behind it
+abbrev unbound : ℕ → ℕ → Bool
+unbound j k = not (eqb j 1 && eqb k 2) && not (eqb j 2 && eqb k 3)
+
+-- kind k behind some kinds: it makes a sequence just if the table has it behind the last of them, and then only that one asks
+abbrev byLast : List ℕ → ℕ → Bool
+byLast ks k =
+    alike (any (same (ks ++ (k ∷ []))) sequences) (next (lastOr 0 ks) k)
+    && (not (next (lastOr 0 ks) k) || all (λ j. unbound j k) (front (0 ∷ ks)))
+
+abbrev known : List ℕ → Bool
+known ks = leb (lastOr 0 ks) 7 && below 8 (byLast ks)
+
+sequences-known : (ks : List ℕ) → legal ks ≡ true → T (known ks)
+unfolding any all same sequences nextKinds
+sequences-known ks e = among known ([] ∷ sequences) ks tt e
+
+-- ---- records
+
+abbrev pub none : LogRecord
+none = recordIn noRecord
+
+agrees-unbound : (y x : LogRecord) → T (unbound (y .kind) (x .kind)) → agrees y x ≡ true
+unfolding agrees
+agrees-unbound y x t = by (eqb (y .kind) 1 && eqb (x .kind) 2) (eqb (y .kind) 2 && eqb (x .kind) 3) _ _ t
+  where
+    by : (a b c d : Bool) → T (not a && not b) → ((not a || c) && (not b || d)) ≡ true
+    by true b c d t = absurd t
+    by false true c d t = absurd t
+    by false false c d t = refl
+
+-- of z and the records behind it only the last asks
+only-last : (x z : LogRecord) (own : List LogRecord) → T (all (λ j. unbound j (x .kind)) (front (z .kind ∷ kinds own)))
+    → (agrees z x && all (λ y. agrees y x) own) ≡ agrees (lastOr z own) x
+unfolding all
+only-last x z [] t = and-true (agrees z x)
+only-last x z (y ∷ own) t =
+    rw (agrees-unbound z x (and-left (unbound (z .kind) (x .kind)) _ t))
+    (only-last x y own (and-right (unbound (z .kind) (x .kind)) _ t))
+
+last-kind : (z : LogRecord) (own : List LogRecord) → lastOr z own .kind ≡ lastOr (z .kind) (kinds own)
+last-kind z [] = refl
+last-kind z (y ∷ own) = last-kind y own
+
+may-next : (y x : LogRecord) → y .kind ≤ 7 → x .kind ≤ 7 → mayFollow y x ≡ (next (y .kind) (x .kind) && agrees y x)
+unfolding mayFollow every
+may-next y x h g = rw (le-leb (y .kind) 7 h, le-leb (x .kind) 7 g, and-true (agrees y x))
+
+module _ (x : LogRecord) (low : x .kind ≤ 7) (own : List LogRecord) (ok : legal (kinds own) ≡ true) where
+  abbrev made : Bool
+  made = any (same (kinds own ++ (x .kind ∷ []))) sequences
+
+  abbrev tabled : Bool
+  tabled = next (lastOr 0 (kinds own)) (x .kind)
+
+  last-low : lastOr none own .kind ≤ 7
+  unfolding recordIn
+  last-low = rw last-kind (leb→le _ _ (and-left (leb (lastOr 0 (kinds own)) 7) _ (sequences-known (kinds own) ok)))
+
+  by-last : T (byLast (kinds own) (x .kind))
+  by-last =
+      below-at 8 (byLast (kinds own)) (and-right (leb (lastOr 0 (kinds own)) 7) _ (sequences-known (kinds own) ok)) (x .kind) (omega arith)
+
+  table : made ≡ tabled
+  table = alike-eq made tabled (and-left (alike made tabled) _ by-last)
+
+  agreed : tabled ≡ true → all (λ y. agrees y x) own ≡ agrees (lastOr none own) x
+  unfolding recordIn agrees
+  agreed e = only-last x none own (rw e at (and-right (alike made tabled) (not tabled || all (λ j. unbound j (x .kind)) (front (0 ∷ kinds own))) by-last))
+
+  -- the sequence rule asks the newest record alone
+  pub by-newest : (made && all (λ y. agrees y x) own) ≡ mayFollow (lastOr none own) x
+  unfolding recordIn
+  by-newest = rw (may-next (lastOr none own) x last-low low, last-kind, table) (by tabled refl)
+    where
+      by : (b : Bool) → tabled ≡ b → (b && all (λ y. agrees y x) own) ≡ (b && agrees (lastOr none own) x)
+      by false e = refl
+      by true e = agreed e

@@ -1,0 +1,38 @@
+use Rattle.codec.specs.declared.record.Record.{Record}
+use denote.Ref.{now}
+use mathlib.Core.Path.{_≡_, sym, _∙_, ap}
+use mathlib.Core.Bool.{Bool}
+use lib.ListN.{length, getD}
+use Rattle.codec.specs.Records.{lengthOf}
+use Rattle.codec.specs.Answers.{answerTo, recordFrom}
+use Rattle.codec.proofs.Fields.{wrong-length, read-as}
+use borrow.Author.Needs.{needs}
+use Rattle.codec.proofs.record.Record.read.Statement.{statement}
+use Rattle.codec.proofs.record.Record.read.Tie as tie
+
+from-bytes-requires : tie.Need-from-bytes-requires
+from-bytes-requires c κs = search needs
+
+length-of-requires : tie.Need-length-of-requires
+length-of-requires c κs = search needs
+
+returns : tie.Need-returns
+unfolding answerTo recordFrom
+returns c = let w = c .before .before in
+    let a = w .before .before .args in
+    let size = c .before .length-of .ensures ∙ ap (λ (x : Record). lengthOf (x .kind)) (w .from-bytes .ensures) in
+    rw (wrong-length (a .site) (now (a .bytes)) (λ e. c .if1 .taken (e ∙ sym size)))
+
+judged-requires : tie.Need-judged-requires
+judged-requires c κs = search needs
+
+returns-2 : tie.Need-returns-2
+unfolding recordFrom
+returns-2 c = let w = c .before .before .before in
+    let a = w .before .before .args in
+    let size = c .before .before .length-of .ensures ∙ ap (λ (x : Record). lengthOf (x .kind)) (w .from-bytes .ensures) in
+    c .judged .ensures ∙ rw (w .from-bytes .ensures) (read-as (a .site) (a .newest) (now (a .bytes)) (c .before .if1 .left ∙ size))
+
+pub read-spec : {M : Type 1} → statement M
+read-spec =
+    tie.close (tie.spec from-bytes-requires length-of-requires returns judged-requires returns-2)

@@ -1,0 +1,107 @@
+// The stable records of a site, as an image holds them.
+use crate::record::Record;
+use crate::record::RecordAnswer;
+ghost use mathlib.Core.Path.{_≡_};
+ghost use mathlib.Core.List.{[]};
+ghost use lib.ListN.{length};
+ghost use Rattle.codec.specs.Lists.{first};
+ghost use Rattle.codec.specs.Image.{image, overLimit, logRefusals};
+ghost use Rattle.codec.specs.Answers.{logIn};
+
+// The first `count` of `records`, in log order.
+pub struct Log {
+    pub site: u8,
+    pub count: usize,
+    pub records: [Record; 24],
+}
+
+impl Log {
+    // The four bytes that open an image, 44 50 52 4C.
+    pub const OPENING: [u8; 4] = *b"DPRL";
+    // The opening, site and count; and one pair of offset and length.
+    pub const FIXED: usize = 6;
+
+    pub const PAIR: usize = 4;
+
+    pub const COORDINATOR: u8 = 0;
+
+    pub const LAST_SITE: u8 = 8;
+
+    pub const COORDINATOR_MOST: usize = 24;
+
+    pub const PARTICIPANT_MOST: usize = 16;
+
+    pub fn new(site: u8) -> Log
+        ensures { λ r. ⌜ (r .site ≡ site) × ((r .count ≡ 0) × (logIn r ≡ [])) ⌝ }
+    {
+        Log {
+            site,
+            count: 0,
+            records: [Record::NONE; 24],
+        }
+    }
+
+    // How many records it holds: a count above the 24 that there are counts for 24.
+    pub fn len(self) -> usize
+        ensures { λ r. ⌜ r ≡ length (logIn self) ⌝ }
+    {
+        if Log::COORDINATOR_MOST < self.count {
+            return Log::COORDINATOR_MOST;
+        }
+        self.count
+    }
+
+    // 21: site above 8, or more records than an image of the site holds.
+    pub fn over_limit(site: u8, count: usize) -> bool
+        ensures { λ r. ⌜ r ≡ overLimit site count ⌝ }
+    {
+        if Log::LAST_SITE < site {
+            return true;
+        }
+        if site == Log::COORDINATOR {
+            return Log::COORDINATOR_MOST < count;
+        }
+        Log::PARTICIPANT_MOST < count
+    }
+
+    // The number that refuses to write the log, 21, 23 or 24; or 0.
+    pub fn refusal(self) -> u8
+        ensures { λ r. ⌜ r ≡ first (logRefusals (self .site) (logIn self)) ⌝ }
+    {
+        let site = self.site;
+        let count = self.len();
+        if Log::over_limit(site, count) {
+            return 21;
+        }
+        let records = self.records;
+        let mut newest = [Record::NONE; 8];
+        let mut i = 0;
+        while i < count {
+            let next = records[i];
+            let answer = next.judged(site, newest);
+            let RecordAnswer::Accepted(record) = answer else {
+                return answer.number();
+            };
+            let transaction = record.transaction;
+            newest[transaction as usize] = record;
+            i += 1;
+        }
+        0
+    }
+
+    // The length of the log's image.
+    pub fn size(self) -> usize
+        ensures { λ r. ⌜ r ≡ length (image (self .site) (logIn self)) ⌝ }
+    {
+        let count = self.len();
+        let records = self.records;
+        let mut size = Log::FIXED + Log::PAIR * count;
+        let mut i = 0;
+        while i < count {
+            let record = records[i];
+            size += record.length();
+            i += 1;
+        }
+        size
+    }
+}

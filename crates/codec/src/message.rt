@@ -1,0 +1,69 @@
+// Message numbers: 16 bits for a message of a kind to or from a participant on a transaction.
+ghost use mathlib.Core.Path.{_≡_};
+ghost use Rattle.codec.specs.Messages.{messageParts, messageAnswer, numberOf, numberAnswer};
+ghost use Rattle.codec.specs.Answers.{partsIn, partsValues, numberValues};
+
+pub struct Parts {
+    pub transaction: u8,
+    pub participant: u8,
+    pub kind: u8,
+}
+
+pub enum PartsAnswer {
+    Message(Parts),
+    Refused,
+}
+
+pub enum NumberAnswer {
+    Number(u16),
+    Refused,
+}
+
+impl Parts {
+    // The largest message number, and the largest value of each part.
+    pub const LAST: u16 = 447;
+
+    pub const TRANSACTION: u8 = 7;
+
+    pub const PARTICIPANT: u8 = 8;
+
+    pub const KIND: u8 = 6;
+    // The number that refuses.
+    pub const REFUSED: u8 = 26;
+
+    pub fn from_number(number: u16) -> PartsAnswer
+        ensures { λ r. ⌜ partsValues r ≡ messageAnswer (messageParts number) ⌝ }
+    {
+        if Parts::LAST < number {
+            return PartsAnswer::Refused;
+        }
+        PartsAnswer::Message(Parts {
+            transaction: (number / 56) as u8,
+            participant: (number % 56 / 7 + 1) as u8,
+            kind: (number % 7) as u8,
+        })
+    }
+
+    pub fn number(self) -> NumberAnswer
+        ensures { λ r. ⌜ numberValues r ≡ numberAnswer (numberOf (partsIn self)) ⌝ }
+    {
+        let transaction = self.transaction;
+        let participant = self.participant;
+        let kind = self.kind;
+        if Parts::TRANSACTION < transaction {
+            return NumberAnswer::Refused;
+        }
+        if participant < 1 {
+            return NumberAnswer::Refused;
+        }
+        if Parts::PARTICIPANT < participant {
+            return NumberAnswer::Refused;
+        }
+        if Parts::KIND < kind {
+            return NumberAnswer::Refused;
+        }
+        NumberAnswer::Number(
+            56 * (transaction as u16) + 7 * ((participant - 1) as u16) + (kind as u16),
+        )
+    }
+}

@@ -1,0 +1,124 @@
+// Reading a log image.
+use crate::log::Log;
+use crate::record::Record;
+use crate::record::RecordAnswer;
+ghost use mathlib.Core.Path.{_≡_};
+ghost use Prim.Native.Nat.{_+_, _*_, _≤_, _<_};
+ghost use mathlib.Core.List.{[]};
+ghost use lib.ListN.{length, getD, take};
+ghost use Rattle.codec.specs.Lists.{first, same};
+ghost use Rattle.codec.specs.Records.{recordRefusals};
+ghost use Rattle.codec.specs.Image.{magic, siteIn, recordsIn, refused, readUnless, readImage, tableExact};
+ghost use Rattle.codec.specs.Answers.{values, imageValues, Readable};
+
+// 0 and the log, or the number that refuses and no log.
+pub struct ImageAnswer {
+    pub answer: u8,
+    pub log: Log,
+}
+
+impl ImageAnswer {
+    fn refused(answer: u8) -> ImageAnswer
+        ensures { λ r. ⌜ imageValues r ≡ values (refused answer) ⌝ }
+    {
+        ImageAnswer {
+            answer,
+            log: Log::new(0),
+        }
+    }
+}
+
+// Whether the opening stands at the start.
+fn opens(bytes: &[u8]) -> bool
+    requires { ⌜ 4 ≤ length (now bytes) ⌝ }
+    ensures { λ r. ⌜ r ≡ same (take 4 (now (bytes .entry))) magic ⌝ }
+{
+    (bytes[0] == Log::OPENING[0])
+        & (bytes[1] == Log::OPENING[1])
+        & (bytes[2] == Log::OPENING[2])
+        & (bytes[3] == Log::OPENING[3])
+}
+
+// 16 bits, low byte first.
+fn word(bytes: &[u8], at: usize) -> usize
+    requires { ⌜ at + 1 < length (now bytes) ⌝ }
+    ensures { λ r. ⌜ (r ≡ getD (now (bytes .entry)) at 0 + 256 * getD (now (bytes .entry)) (at + 1) 0) × (r < 65536) ⌝ }
+{
+    (bytes[at] as usize) + 256 * (bytes[at + 1] as usize)
+}
+
+// Whether the pair table is there whole, without gaps, up to the end.
+fn table_exact(bytes: &[u8]) -> bool
+    requires { ⌜ 6 ≤ length (now bytes) ⌝ }
+    ensures { λ r. ⌜ r ≡ tableExact (now (bytes .entry)) ⌝ }
+{
+    let count = bytes[5] as usize;
+    let mut at = Log::FIXED + Log::PAIR * count;
+    if bytes.len() < at {
+        return false;
+    }
+    let mut i = 0;
+    while i < count {
+        let pair = Log::FIXED + Log::PAIR * i;
+        if word(bytes, pair) != at {
+            return false;
+        }
+        at += word(bytes, pair + 2);
+        i += 1;
+    }
+    at == bytes.len()
+}
+
+// The records behind an exact table. The first that fails ends the reading.
+fn read_records(bytes: &[u8]) -> ImageAnswer
+    requires { ⌜ Readable (now bytes) ⌝ }
+    ensures { λ r. ⌜ imageValues r ≡ values (readUnless (first (recordRefusals (siteIn (now (bytes .entry))) [] (recordsIn (now (bytes .entry))))) (now (bytes .entry))) ⌝ }
+{
+    let site = bytes[4];
+    let count = bytes[5] as usize;
+    let mut records = [Record::NONE; 24];
+    let mut newest = [Record::NONE; 8];
+    let mut at = Log::FIXED + Log::PAIR * count;
+    let mut i = 0;
+    while i < count {
+        let end = at + word(bytes, Log::FIXED + Log::PAIR * i + 2);
+        let answer = Record::read(&bytes[at..end], site, newest);
+        let RecordAnswer::Accepted(record) = answer else {
+            return ImageAnswer::refused(answer.number());
+        };
+        let transaction = record.transaction;
+        newest[transaction as usize] = record;
+        records[i] = record;
+        at = end;
+        i += 1;
+    }
+    ImageAnswer {
+        answer: 0,
+        log: Log {
+            site,
+            count,
+            records,
+        },
+    }
+}
+
+// The log that an image holds, or the number that refuses it, 20 to 24.
+pub fn read_image(bytes: &[u8]) -> ImageAnswer
+    ensures { λ r. ⌜ imageValues r ≡ values (readImage (now (bytes .entry))) ⌝ }
+{
+    if bytes.len() < Log::FIXED {
+        return ImageAnswer::refused(20);
+    }
+    if !opens(bytes) {
+        return ImageAnswer::refused(20);
+    }
+    let site = bytes[4];
+    let count = bytes[5] as usize;
+    if Log::over_limit(site, count) {
+        return ImageAnswer::refused(21);
+    }
+    if !table_exact(bytes) {
+        return ImageAnswer::refused(22);
+    }
+    read_records(bytes)
+}

@@ -1,0 +1,220 @@
+// One log record: its fields, its length, and the tests on it (refusals 23 and 24).
+use crate::sets::minus;
+use crate::sets::part;
+ghost use mathlib.Core.Path.{_≡_};
+ghost use mathlib.Core.Bool.{_&&_};
+ghost use Prim.Native.Nat.{_≤_};
+ghost use lib.Dec.{leb};
+ghost use lib.ListN.{length, getD};
+ghost use Rattle.codec.specs.Records.{bytesOf, lengthOf, recordKindAt, fieldsInRange, isRecord, recordOf};
+ghost use Rattle.codec.specs.Image.{stored};
+ghost use Rattle.codec.specs.Sets as sets;
+ghost use Rattle.codec.specs.Answers.{recordIn, recordFrom, noRecord, mayFollow, recordNumber, answerTo};
+
+// The fields behind the transaction are members and PC in a record 1 or 2, and the presumption in a record 5.
+pub struct Record {
+    pub kind: u8,
+    pub transaction: u8,
+    pub first: u8,
+    pub second: u8,
+}
+
+// What reading one record gives: the record; 23; or 24.
+pub enum RecordAnswer {
+    Accepted(Record),
+    Wrong,
+    OutOfSequence,
+}
+
+// The byte at an index, 0 past the end.
+fn byte(bytes: &[u8], at: usize) -> u8
+    ensures { λ r. ⌜ r ≡ getD (now (bytes .entry)) at 0 ⌝ }
+{
+    if at < bytes.len() {
+        return bytes[at];
+    }
+    0
+}
+
+impl RecordAnswer {
+    pub fn number(self) -> u8
+        ensures { λ r. ⌜ r ≡ recordNumber self ⌝ }
+    {
+        match self {
+            RecordAnswer::Accepted(_) => 0,
+            RecordAnswer::Wrong => 23,
+            RecordAnswer::OutOfSequence => 24,
+        }
+    }
+}
+
+impl Record {
+    pub const INIT: u8 = 1;
+
+    pub const COMMIT: u8 = 2;
+
+    pub const COMMIT_END: u8 = 3;
+
+    pub const ABORT_END: u8 = 4;
+
+    pub const PREPARED: u8 = 5;
+
+    pub const COMMITTED: u8 = 6;
+
+    pub const ABORTED: u8 = 7;
+
+    pub const LAST_TRANSACTION: u8 = 7;
+    // Kind 0 is no record.
+    pub const NONE: Record = Record {
+        kind: 0,
+        transaction: 0,
+        first: 0,
+        second: 0,
+    };
+    // Length by kind.
+    const LENGTHS: [usize; 8] = [0, 4, 4, 2, 2, 3, 2, 2];
+    // The kinds that may stand behind a kind, of one transaction, as a mask: bit k is kind k.
+    const NEXT: [u8; 8] = [0xFE, 0x14, 0x08, 0, 0, 0xC0, 0, 0];
+
+    // How many bytes a record of a kind has; 0 for what is no kind.
+    pub fn length_of(kind: u8) -> usize
+        ensures { λ r. ⌜ r ≡ lengthOf kind ⌝ }
+    {
+        if Record::ABORTED < kind {
+            return 0;
+        }
+        Record::LENGTHS[kind as usize]
+    }
+
+    // How many bytes the record has: kind, transaction, and the fields of its kind.
+    pub fn length(self) -> usize
+        ensures { λ r. ⌜ r ≡ length (bytesOf (recordIn self)) ⌝ }
+    {
+        let kind = self.kind;
+        let length = Record::length_of(kind);
+        if length < 2 {
+            return 2;
+        }
+        length
+    }
+
+    // Writes the record at the front of a part of a buffer.
+    pub fn write(self, out: &mut [u8])
+        requires { ⌜ length (bytesOf (recordIn self)) ≤ length (now out) ⌝ }
+        ensures { λ _. ⌜ now (out .exit) ≡ stored 0 (bytesOf (recordIn self)) (now (out .entry)) ⌝ }
+    {
+        let length = self.length();
+        out[0] = self.kind;
+        out[1] = self.transaction;
+        if 2 < length {
+            out[2] = self.first;
+        }
+        if 3 < length {
+            out[3] = self.second;
+        }
+    }
+
+    // The record that bytes are, if they are one.
+    fn from_bytes(bytes: &[u8]) -> Record
+        ensures { λ r. ⌜ r ≡ recordFrom (now (bytes .entry)) ⌝ }
+    {
+        Record {
+            kind: byte(bytes, 0),
+            transaction: byte(bytes, 1),
+            first: byte(bytes, 2),
+            second: byte(bytes, 3),
+        }
+    }
+
+    // The bytes as a record of a site, behind the newest record of each transaction.
+    pub fn read(bytes: &[u8], site: u8, newest: [Record; 8]) -> RecordAnswer
+        ensures { λ r. ⌜ r ≡ answerTo (isRecord site (now (bytes .entry))) (mayFollow (recordIn (getD newest (recordFrom (now (bytes .entry)) .transaction) noRecord)) (recordOf (now (bytes .entry)))) (recordFrom (now (bytes .entry))) ⌝ }
+    {
+        let record = Record::from_bytes(bytes);
+        let kind = record.kind;
+        if bytes.len() != Record::length_of(kind) {
+            return RecordAnswer::Wrong;
+        }
+        record.judged(site, newest)
+    }
+
+    // Whether a site has records of a kind: the coordinator 1 to 4, a participant 5 to 7.
+    fn kind_at(site: u8, kind: u8) -> bool
+        ensures { λ r. ⌜ r ≡ recordKindAt site kind ⌝ }
+    {
+        match kind {
+            1..=4 => site == 0,
+            5..=7 => site != 0,
+            _ => false,
+        }
+    }
+
+    // Members not 0, PC a part of members.
+    fn masks_in_range(self) -> bool
+        ensures { λ r. ⌜ r ≡ (leb 1 (self .first) && sets.part (self .second) (self .first)) ⌝ }
+    {
+        (1 <= self.first) & part(self.second, self.first)
+    }
+
+    fn fields_in_range(self) -> bool
+        ensures { λ r. ⌜ r ≡ fieldsInRange (recordIn self) ⌝ }
+    {
+        let kind = self.kind;
+        match kind {
+            Record::INIT => self.masks_in_range() & (self.second != 0),
+            Record::COMMIT => self.masks_in_range(),
+            Record::PREPARED => self.first <= 1,
+            Record::COMMIT_END | Record::ABORT_END | Record::COMMITTED | Record::ABORTED => true,
+            _ => false,
+        }
+    }
+
+    // Whether the record may stand behind the newest one of its transaction.
+    fn follows(self, newest: Record) -> bool
+        ensures { λ r. ⌜ r ≡ mayFollow (recordIn newest) (recordIn self) ⌝ }
+    {
+        let before = newest.kind;
+        let kind = self.kind;
+        if Record::ABORTED < before {
+            return false;
+        }
+        if Record::ABORTED < kind {
+            return false;
+        }
+        if (Record::NEXT[before as usize] >> kind) % 2 == 0 {
+            return false;
+        }
+        if before == Record::INIT {
+            if kind == Record::COMMIT {
+                return (newest.first == self.first) & (newest.second == self.second);
+            }
+            return true;
+        }
+        if before == Record::COMMIT {
+            return minus(newest.first, newest.second) != 0;
+        }
+        true
+    }
+
+    // The record as one of a site, behind the newest record of each transaction: 23 before 24.
+    pub fn judged(self, site: u8, newest: [Record; 8]) -> RecordAnswer
+        ensures { λ r. ⌜ r ≡ answerTo (isRecord site (bytesOf (recordIn self))) (mayFollow (recordIn (getD newest (self .transaction) noRecord)) (recordIn self)) self ⌝ }
+    {
+        let kind = self.kind;
+        let transaction = self.transaction;
+        if !Record::kind_at(site, kind) {
+            return RecordAnswer::Wrong;
+        }
+        if Record::LAST_TRANSACTION < transaction {
+            return RecordAnswer::Wrong;
+        }
+        if !self.fields_in_range() {
+            return RecordAnswer::Wrong;
+        }
+        let before = newest[transaction as usize];
+        if !self.follows(before) {
+            return RecordAnswer::OutOfSequence;
+        }
+        RecordAnswer::Accepted(self)
+    }
+}

@@ -1,0 +1,102 @@
+// Writing a log image at an offset of a lent buffer.
+use crate::log::Log;
+use crate::record::Record;
+ghost use mathlib.Core.Path.{_≡_};
+ghost use mathlib.Core.List.{[], _∷_, _++_, map, flatten};
+ghost use Prim.Native.Nat.{_<_, _≤_};
+ghost use lib.ListN.{length};
+ghost use Rattle.codec.specs.Records.{bytesOf};
+ghost use Rattle.codec.specs.Image.{magic, headLength, word, pairTable, image, stored, writeImage};
+ghost use Rattle.codec.specs.Answers.{logIn, written};
+
+// The opening, site and count.
+fn write_head(site: u8, count: u8, out: &mut [u8])
+    requires { ⌜ 6 ≤ length (now out) ⌝ }
+    ensures { λ _. ⌜ now (out .exit) ≡ stored 0 (magic ++ site ∷ count ∷ []) (now (out .entry)) ⌝ }
+{
+    out[0] = Log::OPENING[0];
+    out[1] = Log::OPENING[1];
+    out[2] = Log::OPENING[2];
+    out[3] = Log::OPENING[3];
+    out[4] = site;
+    out[5] = count;
+}
+
+// Offset and length of one record.
+fn write_pair(offset: usize, length: usize, out: &mut [u8])
+    requires { ⌜ (offset < 65536) × ((length < 65536) × (4 ≤ lib.ListN.length (now out))) ⌝ }
+    ensures { λ _. ⌜ now (out .exit) ≡ stored 0 (word offset ++ word length) (now (out .entry)) ⌝ }
+{
+    out[0] = (offset % 256) as u8;
+    out[1] = (offset / 256) as u8;
+    out[2] = (length % 256) as u8;
+    out[3] = (length / 256) as u8;
+}
+
+// The pair table.
+fn write_pairs(log: Log, out: &mut [u8])
+    requires { ⌜ length (pairTable (headLength (length (logIn log))) (map bytesOf (logIn log))) ≤ length (now out) ⌝ }
+    ensures { λ _. ⌜ now (out .exit) ≡ stored 0 (pairTable (headLength (length (logIn log))) (map bytesOf (logIn log))) (now (out .entry)) ⌝ }
+{
+    let count = log.len();
+    let records = log.records;
+    let mut offset = Log::FIXED + Log::PAIR * count;
+    let mut i = 0;
+    while i < count {
+        let record = records[i];
+        let at = Log::PAIR * i;
+        let length = record.length();
+        write_pair(offset, length, &mut out[at..]);
+        offset += length;
+        i += 1;
+    }
+}
+
+// The records, without gaps.
+fn write_records(log: Log, out: &mut [u8])
+    requires { ⌜ length (flatten (map bytesOf (logIn log))) ≤ length (now out) ⌝ }
+    ensures { λ _. ⌜ now (out .exit) ≡ stored 0 (flatten (map bytesOf (logIn log))) (now (out .entry)) ⌝ }
+{
+    let count = log.len();
+    let records = log.records;
+    let mut at: usize = 0;
+    let mut i = 0;
+    while i < count {
+        let record = records[i];
+        record.write(&mut out[at..]);
+        at += record.length();
+        i += 1;
+    }
+}
+
+// The image, at the front of a part of a buffer.
+fn write_front(log: Log, out: &mut [u8])
+    requires { ⌜ length (image (log .site) (logIn log)) ≤ length (now out) ⌝ }
+    ensures { λ _. ⌜ now (out .exit) ≡ stored 0 (image (log .site) (logIn log)) (now (out .entry)) ⌝ }
+{
+    let site = log.site;
+    let count = log.len();
+    write_head(site, count as u8, out);
+    write_pairs(log, &mut out[6..]);
+    let at = Log::FIXED + Log::PAIR * count;
+    write_records(log, &mut out[at..]);
+}
+
+// Writes the log's image from `at` on: 0, or 21, 23, 24, 25 and the buffer as it was.
+pub fn write_image(log: Log, buffer: &mut [u8], at: usize) -> u8
+    ensures { λ r. ⌜ written r (now (buffer .exit)) ≡ writeImage (log .site) (logIn log) at (now (buffer .entry)) ⌝ }
+{
+    let refusal = log.refusal();
+    if refusal != 0 {
+        return refusal;
+    }
+    let size = log.size();
+    if buffer.len() < at {
+        return 25;
+    }
+    if buffer.len() - at < size {
+        return 25;
+    }
+    write_front(log, &mut buffer[at..]);
+    0
+}

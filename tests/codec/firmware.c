@@ -1,0 +1,141 @@
+/* The calls of dpr.h as a C firmware makes them: K10 and the examples of document 01's table of refusals, the largest
+ * images, and message numbers. Each answer and all the memory around is compared; the first difference ends the program. */
+#include "dpr.h"
+
+#include <stdio.h>
+#include <stdlib.h>
+#include <string.h>
+
+_Static_assert(DPR_HUB_IMAGE_MAX == 6 + 4 * DPR_HUB_RECORDS_MAX + 8 * (4 + 4 + 2), "8 handovers with records 1 2 3");
+_Static_assert(DPR_BOX_IMAGE_MAX == 6 + 4 * DPR_BOX_RECORDS_MAX + 8 * (3 + 2), "8 handovers with records 5 6");
+_Static_assert(DPR_IMAGE_MAX >= DPR_HUB_IMAGE_MAX && DPR_IMAGE_MAX >= DPR_BOX_IMAGE_MAX, "the larger one");
+
+enum { GUARD = 32, LARGEST = 2 * DPR_IMAGE_MAX };
+
+static unsigned checks;
+
+static void expect(int ok, const char *name, const char *what, unsigned got) {
+  checks++;
+  if (!ok) {
+    fprintf(stderr, "FAILED: %s: %s, answer %u\n", name, what, got);
+    exit(1);
+  }
+}
+
+/* One copy to a buffer full of EE, with bytes EE on both sides of it. */
+static void copy(const char *name, unsigned answer, const uint8_t *image, size_t image_len, size_t buffer_len, size_t offset) {
+  static uint8_t memory[GUARD + LARGEST + GUARD], wanted[sizeof memory];
+  memset(memory, 0xEE, sizeof memory);
+  memset(wanted, 0xEE, sizeof wanted);
+  if (answer == DPR_ACCEPTED)
+    memcpy(wanted + GUARD + offset, image, image_len);
+  unsigned got = dpr_image_copy(image, image_len, memory + GUARD, buffer_len, offset);
+  expect(got == answer, name, "wrong answer", got);
+  expect(memcmp(memory, wanted, sizeof memory) == 0, name, "wrong bytes in or beside the buffer", got);
+}
+
+#define COPY(name, answer, buffer_len, offset, ...)                                   \
+  do {                                                                                \
+    const uint8_t bytes[] = {0x44, 0x50, 0x52, __VA_ARGS__};                          \
+    copy(name, answer, bytes, sizeof bytes, buffer_len, offset);                      \
+  } while (0)
+
+static void message(unsigned answer, uint16_t number, uint8_t handover, uint8_t box, uint8_t kind) {
+  uint8_t memory[5] = {0xEE, 0xEE, 0xEE, 0xEE, 0xEE};
+  const uint8_t wanted[5] = {0xEE, handover, box, kind, 0xEE};
+  unsigned got = dpr_message_parts(number, memory + 1);
+  expect(got == answer, "message number", "wrong answer", got);
+  expect(memcmp(memory, wanted, sizeof memory) == 0, "message number", "wrong parts or bytes beside them", got);
+}
+
+/* An image in the making: records are added at the end, then the pair table is set before them. */
+struct log {
+  uint8_t site, count, lengths[32], records[128];
+  size_t length;
+};
+
+static void add(struct log *log, const uint8_t *record, uint8_t length) {
+  memcpy(log->records + log->length, record, length);
+  log->length += length;
+  log->lengths[log->count++] = length;
+}
+
+static size_t image_of(const struct log *log, uint8_t *image) {
+  size_t at = 6, offset = 6 + 4 * (size_t)log->count;
+  const uint8_t head[6] = {0x44, 0x50, 0x52, 0x4C, log->site, log->count};
+  memcpy(image, head, 6);
+  for (unsigned i = 0; i < log->count; i++) {
+    const uint8_t pair[4] = {(uint8_t)offset, (uint8_t)(offset >> 8), log->lengths[i], 0};
+    memcpy(image + at, pair, 4);
+    at += 4;
+    offset += log->lengths[i];
+  }
+  memcpy(image + at, log->records, log->length);
+  return offset;
+}
+
+static void largest(void) {
+  struct log hub = {0}, box = {.site = 8};
+  uint8_t image[LARGEST];
+  for (uint8_t handover = 0; handover < 8; handover++) {
+    add(&hub, (const uint8_t[]){1, handover, 0xFF, 0x01}, 4);
+    add(&hub, (const uint8_t[]){2, handover, 0xFF, 0x01}, 4);
+    add(&hub, (const uint8_t[]){3, handover}, 2);
+    add(&box, (const uint8_t[]){5, handover, 1}, 3);
+    add(&box, (const uint8_t[]){6, handover}, 2);
+  }
+  size_t length = image_of(&hub, image);
+  expect(hub.count == DPR_HUB_RECORDS_MAX && length == DPR_HUB_IMAGE_MAX, "largest of the hub", "wrong length", 0);
+  copy("largest of the hub", DPR_ACCEPTED, image, length, DPR_IMAGE_MAX, 0);
+  copy("largest of the hub", DPR_ACCEPTED, image, length, DPR_IMAGE_MAX + 9, 9);
+  copy("largest of the hub", DPR_REFUSED_BUFFER, image, length, DPR_IMAGE_MAX, 1);
+  copy("largest of the hub", DPR_REFUSED_BUFFER, image, length, DPR_IMAGE_MAX - 1, 0);
+  add(&hub, (const uint8_t[]){4, 0}, 2);
+  copy("a record more", DPR_REFUSED_SITE, image, image_of(&hub, image), DPR_IMAGE_MAX, 0);
+  length = image_of(&box, image);
+  expect(box.count == DPR_BOX_RECORDS_MAX && length == DPR_BOX_IMAGE_MAX, "largest of a box", "wrong length", 0);
+  copy("largest of a box", DPR_ACCEPTED, image, length, DPR_IMAGE_MAX, DPR_IMAGE_MAX - length);
+  add(&box, (const uint8_t[]){7, 0}, 2);
+  copy("a record more", DPR_REFUSED_SITE, image, image_of(&box, image), DPR_IMAGE_MAX, 0);
+}
+
+int main(void) {
+  COPY("K10", DPR_ACCEPTED, 13, 0, 0x4C, 1, 1, 0x0A, 0, 3, 0, 5, 0, 1);
+  COPY("K10 at an offset", DPR_ACCEPTED, 40, 20, 0x4C, 1, 1, 0x0A, 0, 3, 0, 5, 0, 1);
+  COPY("K10, no room", DPR_REFUSED_BUFFER, 40, 28, 0x4C, 1, 1, 0x0A, 0, 3, 0, 5, 0, 1);
+  COPY("K10, offset at the end", DPR_REFUSED_BUFFER, 40, 40, 0x4C, 1, 1, 0x0A, 0, 3, 0, 5, 0, 1);
+  COPY("K10, offset beyond the end", DPR_REFUSED_BUFFER, 40, SIZE_MAX, 0x4C, 1, 1, 0x0A, 0, 3, 0, 5, 0, 1);
+  COPY("K10, offset that would wrap", DPR_REFUSED_BUFFER, 40, SIZE_MAX - 12, 0x4C, 1, 1, 0x0A, 0, 3, 0, 5, 0, 1);
+  COPY("K10, buffer of no bytes", DPR_REFUSED_BUFFER, 0, 0, 0x4C, 1, 1, 0x0A, 0, 3, 0, 5, 0, 1);
+
+  /* the table of refusals, each with room and without */
+  const uint8_t opening[] = {0x44, 0x50, 0x52};
+  for (size_t room = 0; room <= 64; room += 64) {
+    copy("20", DPR_REFUSED_OPENING, opening, sizeof opening, room, 0);
+    copy("20, no bytes", DPR_REFUSED_OPENING, opening, 0, room, 0);
+    COPY("20, wrong opening", DPR_REFUSED_OPENING, room, 0, 0x4D, 9, 0);
+    COPY("21", DPR_REFUSED_SITE, room, 0, 0x4C, 9, 0);
+    COPY("22", DPR_REFUSED_TABLE, room, 0, 0x4C, 1, 1, 0x0B, 0, 3, 0, 5, 0, 1);
+    COPY("23", DPR_REFUSED_RECORD, room, 0, 0x4C, 1, 1, 0x0A, 0, 3, 0, 5, 0, 2);
+    COPY("24", DPR_REFUSED_SEQUENCE, room, 0, 0x4C, 1, 2, 0x0E, 0, 3, 0, 0x11, 0, 3, 0, 5, 0, 0, 5, 0, 0);
+  }
+  for (uint8_t site = 0; site <= 8; site++) {
+    COPY("25", DPR_REFUSED_BUFFER, 5, 0, 0x4C, site, 0);
+    COPY("empty log", DPR_ACCEPTED, DPR_IMAGE_MIN, 0, 0x4C, site, 0);
+    COPY("empty log at offset 1 of 8", DPR_ACCEPTED, 8, 1, 0x4C, site, 0);
+  }
+  largest();
+
+  message(DPR_ACCEPTED, 0, 0, 1, 0);
+  message(DPR_ACCEPTED, 1, 0, 1, 1);
+  message(DPR_ACCEPTED, 7, 0, 2, 0);
+  message(DPR_ACCEPTED, 56, 1, 1, 0);
+  message(DPR_ACCEPTED, 56 * 5 + 7 * (3 - 1) + 4, 5, 3, 4);
+  message(DPR_ACCEPTED, DPR_MESSAGES - 1, 7, 8, 6);
+  message(DPR_REFUSED_MESSAGE, DPR_MESSAGES, 0xEE, 0xEE, 0xEE);
+  message(DPR_REFUSED_MESSAGE, 0x01C0, 0xEE, 0xEE, 0xEE);
+  message(DPR_REFUSED_MESSAGE, 65535, 0xEE, 0xEE, 0xEE);
+
+  printf("firmware in C: %u checks, ok\n", checks);
+  return 0;
+}

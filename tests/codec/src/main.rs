@@ -1,0 +1,289 @@
+//! Calls the two C functions of libcodec.a and compares each answer, and all the memory lent, with the reference model.
+//! The first difference ends the program with what was given, what was expected and what came.
+//! Words on the command line name the parts to run; without any, all are run.
+
+#[allow(dead_code)]
+#[path = "../../reference/src/codec.rs"]
+mod codec;
+mod images;
+mod library;
+mod random;
+
+use images::{accepted, exact, random_image};
+use library::{Reading, Trial};
+use random::Random;
+use std::collections::BTreeSet;
+
+const VECTORS: &str = include_str!("../../vectors/images.txt");
+
+fn bytes(words: &[&str], radix: u32) -> Vec<u8> {
+    words.iter().map(|word| u8::from_str_radix(word, radix).unwrap()).collect()
+}
+
+/// The lines of tests/vectors/images.txt, whose top says what they mean. A written log is given as its image.
+fn vectors(trial: &mut Trial, _: &mut Random) {
+    for line in VECTORS.lines().filter(|line| !line.starts_with('#')) {
+        let (left, right) = line.split_once(" =").unwrap();
+        let words: Vec<&str> = left.split(' ').collect();
+        let right: Vec<&str> = right.split_whitespace().collect();
+        let answer: u8 = if words[1] == "number" && right.len() == 3 { 0 } else { right[0].parse().unwrap_or(255) };
+        let before = trial.answers[answer as usize];
+        match words[1] {
+            "read" => {
+                let image = bytes(&words[2..], 16);
+                trial.copy(&image, &Reading::of(&image), image.len(), 0);
+            }
+            "write" => {
+                let numbers = bytes(&words[2..5], 10);
+                let records: Vec<Vec<u8>> =
+                    words[5..].iter().map(|r| bytes(&r.split(',').collect::<Vec<_>>(), 10)).collect();
+                let image = exact(numbers[0], &records);
+                trial.copy(&image, &Reading::of(&image), numbers[1] as usize, numbers[2] as usize);
+            }
+            "number" => trial.message(words[2].parse().unwrap()),
+            "events" => continue,
+            word => panic!("vectors: '{word}' is not known"),
+        }
+        assert_eq!(trial.answers[answer as usize], before + 1, "vectors: not the answer of the line '{line}'");
+    }
+}
+
+/// K10, and the same bytes with faults of more than one number: the least of them, record by record.
+fn examples(trial: &mut Trial, _: &mut Random) {
+    let k10 = bytes(&"44 50 52 4C 01 01 0A 00 03 00 05 00 01".split(' ').collect::<Vec<_>>(), 16);
+    let changed = |changes: &[(usize, u8)]| {
+        let mut image = k10.clone();
+        changes.iter().for_each(|&(i, value)| image[i] = value);
+        image
+    };
+    let cases = [
+        (0, changed(&[])),
+        (20, changed(&[(3, 0), (4, 9), (6, 0), (12, 2)])),
+        (21, changed(&[(4, 9), (6, 0), (12, 2)])),
+        (21, changed(&[(5, 17), (12, 2)])),
+        (22, changed(&[(6, 0), (12, 2)])),
+        (23, changed(&[(12, 2)])),
+        // a record with both faults; 24 in an earlier record; 23 in an earlier one
+        (23, exact(1, &[vec![5, 0, 0], vec![5, 0, 2]])),
+        (24, exact(1, &[vec![5, 0, 0], vec![5, 0, 0], vec![5, 0, 2]])),
+        (23, exact(1, &[vec![5, 0, 2], vec![5, 0, 0], vec![5, 0, 0]])),
+        (24, exact(0, &[vec![4, 0], vec![3, 1], vec![3, 1], vec![9, 9]])),
+    ];
+    for (answer, image) in cases {
+        let reading = Reading::of(&image);
+        assert_eq!(reading.answer(), answer, "the reference model on an example");
+        for (length, offset) in [(image.len(), 0), (200, 100), (5, 0), (0, 0), (13, 14), (13, usize::MAX)] {
+            trial.copy(&image, &reading, length, offset);
+        }
+    }
+}
+
+/// A buffer with room and one without, each at some offset.
+fn two_buffers(trial: &mut Trial, random: &mut Random, image: &[u8]) {
+    let reading = Reading::of(image);
+    let offset = random.below(9);
+    trial.copy(image, &reading, (offset + image.len() + random.below(9)).min(256), offset);
+    let length = (offset + random.below(image.len().max(1))).min(256);
+    let offset = if random.once_in(8) { usize::MAX - random.below(300) } else { offset };
+    trial.copy(image, &reading, length, offset);
+}
+
+fn prefixes(trial: &mut Trial, random: &mut Random) {
+    for image in accepted(&mut Random(7)) {
+        for length in 0..=image.len() {
+            two_buffers(trial, random, &image[..length]);
+        }
+        for more in 1..=4 {
+            two_buffers(trial, random, &[image.clone(), vec![image[0]; more]].concat());
+        }
+    }
+}
+
+fn changes(trial: &mut Trial, random: &mut Random) {
+    for image in accepted(&mut Random(7)) {
+        for i in 0..image.len() {
+            for value in 0..=255 {
+                let mut changed = image.clone();
+                changed[i] = value;
+                two_buffers(trial, random, &changed);
+            }
+        }
+    }
+}
+
+/// The border between two records moved: the pair table stays exact, and two lengths are wrong.
+fn borders(trial: &mut Trial, random: &mut Random) {
+    for image in accepted(&mut Random(7)) {
+        for second in 1..image[5] as usize {
+            for moved in -4i8..=4 {
+                let mut changed = image.clone();
+                let pair = 6 + 4 * second;
+                changed[pair] = changed[pair].wrapping_add_signed(moved);
+                changed[pair - 2] = changed[pair - 2].wrapping_add_signed(moved);
+                changed[pair + 2] = changed[pair + 2].wrapping_sub(moved as u8);
+                two_buffers(trial, random, &changed);
+            }
+        }
+    }
+}
+
+/// Images of one record: every kind and length, every transaction and presumption, all masks.
+fn single_records(trial: &mut Trial, random: &mut Random) {
+    for site in 0..=8 {
+        for kind in 0..=255 {
+            for length in 0..=6 {
+                let mut record = vec![kind, 3, 1, 1, 0, 0];
+                record.truncate(length);
+                two_buffers(trial, random, &exact(site, &[record]));
+            }
+        }
+    }
+    for number in 0..=65535u16 {
+        let [a, b] = number.to_le_bytes();
+        two_buffers(trial, random, &exact(0, &[vec![1, 2, a, b]]));
+        two_buffers(trial, random, &exact(0, &[vec![2, 2, a, b]]));
+        two_buffers(trial, random, &exact(8, &[vec![5, a, b]]));
+        two_buffers(trial, random, &exact(0, &[vec![a, b]]));
+        two_buffers(trial, random, &exact(1, &[vec![a, b]]));
+    }
+}
+
+/// Every row of up to so many of these records.
+fn rows(trial: &mut Trial, random: &mut Random, site: u8, records: &[&[u8]], most: usize, row: &mut Vec<Vec<u8>>) {
+    two_buffers(trial, random, &exact(site, row));
+    if row.len() < most {
+        for record in records {
+            row.push(record.to_vec());
+            rows(trial, random, site, records, most, row);
+            row.pop();
+        }
+    }
+}
+
+/// Short logs of two transactions, legal and not, with other masks for one of them, and a record that no log may hold.
+fn sequences(trial: &mut Trial, random: &mut Random) {
+    let coordinator: [&[u8]; 12] = [
+        &[1, 0, 3, 1],
+        &[2, 0, 3, 1],
+        &[1, 0, 3, 3],
+        &[2, 0, 3, 3],
+        &[2, 0, 7, 1],
+        &[3, 0],
+        &[4, 0],
+        &[1, 7, 3, 1],
+        &[2, 7, 3, 1],
+        &[3, 7],
+        &[4, 7],
+        &[3, 8],
+    ];
+    rows(trial, random, 0, &coordinator, 4, &mut vec![]);
+    let participant: [&[u8]; 8] = [&[5, 0, 0], &[5, 0, 1], &[6, 0], &[7, 0], &[5, 7, 1], &[6, 7], &[7, 7], &[6, 8]];
+    rows(trial, random, 5, &participant, 4, &mut vec![]);
+}
+
+/// Every count at every site, over so many records.
+fn counts(trial: &mut Trial, random: &mut Random) {
+    for site in 0..=255 {
+        let kind = if site == 0 { 3 } else { 6 };
+        for count in 0..=if site > 9 { 1 } else { 255 } {
+            let records: Vec<Vec<u8>> = (0..count).map(|transaction| vec![kind, transaction]).collect();
+            two_buffers(trial, random, &exact(site, &records));
+        }
+    }
+}
+
+/// Lengths and offsets that are right only in 8, 16 or 32 bits.
+fn long_images(trial: &mut Trial, random: &mut Random) {
+    let k10 = exact(1, &[vec![5, 0, 1]]);
+    for longer in [256, 512, 65536, 65536 + 256] {
+        two_buffers(trial, random, &[k10.clone(), vec![0; longer]].concat());
+    }
+    for length in [255, 256, 256 + 3, 65533, 65534, 65535, 65536, 65536 + 3] {
+        let mut record = vec![0; length];
+        record[..3].copy_from_slice(&[5, 0, 1]);
+        let image = exact(1, &[record.clone()]);
+        two_buffers(trial, random, &image);
+        two_buffers(trial, random, &image[..13]);
+        two_buffers(trial, random, &exact(1, &[vec![7, 2], record, vec![6, 3]]));
+    }
+    let reading = Reading::of(&k10);
+    for high in 8..64 {
+        for low in 0..4 {
+            trial.copy(&k10, &reading, 16, (1 << high) + low);
+        }
+    }
+}
+
+/// Every buffer up to 8 bytes more than needed, at every offset up to beyond its end, and at offsets that would wrap round.
+fn buffers(trial: &mut Trial, _: &mut Random) {
+    for image in accepted(&mut Random(7)) {
+        let reading = Reading::of(&image);
+        for length in 0..=image.len() + 8 {
+            for offset in 0..=length + 3 {
+                trial.copy(&image, &reading, length, offset);
+            }
+            for back in [1, 2, 3, 8, length, length + 1, image.len() - 1, image.len(), image.len() + 1, 200] {
+                trial.copy(&image, &reading, length, 0usize.wrapping_sub(back));
+            }
+        }
+        for back in 1..=image.len() + 16 {
+            trial.copy(&image, &reading, image.len() + 8, 0usize.wrapping_sub(back));
+        }
+    }
+}
+
+fn random_bytes(trial: &mut Trial, random: &mut Random) {
+    for _ in 0..1000 {
+        for length in 0..=200 {
+            let image = random_image(random, length);
+            two_buffers(trial, random, &image);
+        }
+    }
+    for answer in [0, 20, 21, 22, 23, 24, 25] {
+        assert!(trial.answers[answer] > 0, "no random image got the answer {answer}");
+    }
+}
+
+/// All numbers, twice, so that bytes left as they were are told from bytes written.
+fn messages(trial: &mut Trial, _: &mut Random) {
+    for number in (0..=65535).chain(0..=65535) {
+        trial.message(number);
+    }
+}
+
+fn main() {
+    let parts: [(&'static str, fn(&mut Trial, &mut Random)); 12] = [
+        ("vectors", vectors),
+        ("examples", examples),
+        ("message numbers", messages),
+        ("buffers and offsets", buffers),
+        ("prefixes of accepted images", prefixes),
+        ("single-byte changes of accepted images", changes),
+        ("borders of records", borders),
+        ("images of one record", single_records),
+        ("sequences of records", sequences),
+        ("counts of records", counts),
+        ("long images and far offsets", long_images),
+        ("random bytes", random_bytes),
+    ];
+    let images = accepted(&mut Random(7));
+    assert!(images.iter().collect::<BTreeSet<_>>().len() >= 50);
+    assert!(images.iter().all(|image| Reading::of(image).answer() == 0));
+    assert_eq!(images.iter().filter(|image| image[4] == 0).map(Vec::len).max(), Some(182));
+    assert_eq!(images.iter().filter(|image| image[4] != 0).map(Vec::len).max(), Some(110));
+    println!("{} accepted images, {} bytes", images.len(), images.iter().map(Vec::len).sum::<usize>());
+    let named: Vec<String> = std::env::args().skip(1).collect();
+    assert!(named.iter().all(|n| parts.iter().any(|(name, _)| n == name)), "no part of that name");
+    let mut trial = Trial::new();
+    let mut random = Random(20);
+    for (name, part) in parts.into_iter().filter(|(name, _)| named.is_empty() || named.iter().any(|n| n == name)) {
+        let before = trial.cases;
+        trial.part = name;
+        trial.answers = [0; 256];
+        part(&mut trial, &mut random);
+        let answers: Vec<String> =
+            trial.answers.iter().enumerate().filter(|(_, n)| **n > 0).map(|(a, n)| format!("{a}: {n}")).collect();
+        println!("{name}: {} cases (answers {})", trial.cases - before, answers.join(", "));
+    }
+    println!("{} cases, ok", trial.cases);
+}
