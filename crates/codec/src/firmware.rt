@@ -1,8 +1,7 @@
 // The entry points for C. include/dpr.h declares them.
 use crate::message::Parts;
 use crate::message::PartsAnswer;
-use crate::reader::read_image;
-use crate::writer::write_image;
+use crate::writer::copy_image;
 ghost use mathlib.Core.Path.{_≡_};
 ghost use Rattle.codec.specs.Image.{copyImage};
 ghost use Rattle.codec.specs.Messages.{messageParts, partsWritten};
@@ -28,11 +27,5 @@ pub extern "C" fn dpr_message_parts(number: u16, parts: &mut [u8; 3]) -> u8
 pub extern "C" fn dpr_image_copy(image: &[u8], buffer: &mut [u8], offset: usize) -> u8
     ensures { λ r. ⌜ written r (now (buffer .exit)) ≡ copyImage (now (image .entry)) offset (now (buffer .entry)) ⌝ }
 {
-    let read = read_image(image);
-    let answer = read.answer;
-    if answer != 0 {
-        return answer;
-    }
-    let log = read.log;
-    write_image(log, buffer, offset)
+    copy_image(image, buffer, offset)
 }

@@ -1,12 +1,13 @@
 // Writing a log image at an offset of a lent buffer.
 use crate::log::Log;
-use crate::record::Record;
+use crate::reader::read_image;
 ghost use mathlib.Core.Path.{_≡_};
 ghost use mathlib.Core.List.{[], _∷_, _++_, map, flatten};
 ghost use Prim.Native.Nat.{_<_, _≤_};
 ghost use lib.ListN.{length};
+ghost use Rattle.codec.specs.Lists.{first};
 ghost use Rattle.codec.specs.Records.{bytesOf};
-ghost use Rattle.codec.specs.Image.{magic, headLength, word, pairTable, image, stored, writeImage};
+ghost use Rattle.codec.specs.Image.{magic, headLength, word, pairTable, image, stored, logRefusals, writeImage, copyImage};
 ghost use Rattle.codec.specs.Answers.{logIn, written};
 
 // The opening, site and count.
@@ -82,14 +83,11 @@ fn write_front(log: Log, out: &mut [u8])
     write_records(log, &mut out[at..]);
 }
 
-// Writes the log's image from `at` on: 0, or 21, 23, 24, 25 and the buffer as it was.
-pub fn write_image(log: Log, buffer: &mut [u8], at: usize) -> u8
+// The image of a log that is not refused, from `at` on, where there is room: 0 or 25.
+fn place(log: Log, buffer: &mut [u8], at: usize) -> u8
+    requires { ⌜ first (logRefusals (log .site) (logIn log)) ≡ 0 ⌝ }
     ensures { λ r. ⌜ written r (now (buffer .exit)) ≡ writeImage (log .site) (logIn log) at (now (buffer .entry)) ⌝ }
 {
-    let refusal = log.refusal();
-    if refusal != 0 {
-        return refusal;
-    }
     let size = log.size();
     if buffer.len() < at {
         return 25;
@@ -99,4 +97,29 @@ pub fn write_image(log: Log, buffer: &mut [u8], at: usize) -> u8
     }
     write_front(log, &mut buffer[at..]);
     0
+}
+
+// Writes the log's image from `at` on: 0, or 21, 23, 24, 25 and the buffer as it was.
+pub fn write_image(log: Log, buffer: &mut [u8], at: usize) -> u8
+    ensures { λ r. ⌜ written r (now (buffer .exit)) ≡ writeImage (log .site) (logIn log) at (now (buffer .entry)) ⌝ }
+{
+    let refusal = log.refusal();
+    if refusal != 0 {
+        return refusal;
+    }
+    place(log, buffer, at)
+}
+
+// Reads an image and writes its log again from `at` on: 0, or 20 to 25 and the buffer as it was.
+// No log that the reader gives is refused, so it is not checked again.
+pub fn copy_image(image: &[u8], buffer: &mut [u8], at: usize) -> u8
+    ensures { λ r. ⌜ written r (now (buffer .exit)) ≡ copyImage (now (image .entry)) at (now (buffer .entry)) ⌝ }
+{
+    let read = read_image(image);
+    let answer = read.answer;
+    if answer != 0 {
+        return answer;
+    }
+    let log = read.log;
+    place(log, buffer, at)
 }
