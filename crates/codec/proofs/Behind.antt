@@ -1,10 +1,9 @@
 -- One record behind the newest one of its transaction, as the program tests it. Assumes nothing.
-use mathlib.Core.Path.{_≡_, refl, ap, sym, _∙_}
-use mathlib.Core.Bool.{Bool, true, false, not, _&&_, _||_, and-false}
-use mathlib.Core.List.{List, [], _∷_}
-use Prim.Native.Nat.{ℕ, zero, suc, _/_, _%_, _^_, _<_, _≤_}
+use mathlib.Core.Path.{_≡_}
+use mathlib.Core.Bool.{true, false, not, _&&_, _||_, and-false}
+use Prim.Native.Nat.{ℕ, _/_, _%_, _^_, _<_, _≤_}
 use native.Mathlib.Omega.{arith}
-use borrow.Author.Tests.{le-leb, lt-leb, eq-eqb, ne-eqb}
+use borrow.Author.Tests.{le-leb, lt-leb, ne-eqb}
 use lib.Dec.{T, eqb, leb, eqb→eq}
 use lib.ListN.{getD}
 use Rattle.codec.specs.Lists.{every, same}
@@ -12,7 +11,7 @@ use Rattle.codec.specs.Sets.{empty, minus}
 use Rattle.codec.specs.Records.{lengths, lengthOf, membersIn, presumeCommitIn, awaitsAcks, agrees}
 use Rattle.codec.specs.Answers.{recordIn, nextKinds, mayFollow}
 use Rattle.codec.specs.declared.record.Record.{Record}
-use Rattle.codec.proofs.Tests.{below, below-at}
+use Rattle.codec.proofs.Tests.{below-at}
 use Rattle.codec.proofs.Fields.{and-true}
 
 abbrev pub nextBit : Record → Record → ℕ

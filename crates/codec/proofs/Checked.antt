@@ -1,9 +1,8 @@
 -- The records of a log, checked one after the other before they are written. Assumes nothing.
-use mathlib.Core.Path.{_≡_, refl, ap, sym, _∙_}
+use mathlib.Core.Path.{_≡_, ap, _∙_}
 use mathlib.Core.Bool.{true, false}
-use mathlib.Core.List.{List, [], _∷_, map}
-use Prim.Native.Nat.{ℕ, zero, suc, _+_, _<_, _≤_}
-use native.Mathlib.Nat.{not-suc-le-zero, le-of-suc-le-suc}
+use mathlib.Core.List.{List, [], map}
+use Prim.Native.Nat.{ℕ, _+_, _<_, _≤_}
 use native.Mathlib.Omega.{arith}
 use lib.ListN.{length, getD, set, take, length-map, length-take}
 use lib.Seq.{getD-take}
@@ -14,22 +13,8 @@ use Rattle.codec.specs.Answers.{recordIn, noRecord, logIn, mayFollow, re
 use Rattle.codec.specs.declared.record.Record.{Record}
 use Rattle.codec.specs.declared.record.RecordAnswer.the-variants.{Accepted}
 use Rattle.codec.specs.declared.log.Log.{Log}
-use Rattle.codec.proofs.Passed.{Passed, passed-next, passed-all, stopped}
-
-pub getD-map-below : {A B : Type 0} (f : A → B) (l : List A) (i : ℕ) (a : A) (b : B) → i < length l → getD (map f l) i b ≡ f (getD l i a)
-getD-map-below f [] i a b h = absurd (not-suc-le-zero h)
-getD-map-below f (x ∷ l) zero a b h = refl
-getD-map-below f (x ∷ l) (suc i) a b h = getD-map-below f l i a b (le-of-suc-le-suc h)
-
-pub map-set : {A B : Type 0} (f : A → B) (l : List A) (i : ℕ) (y : A) → map f (set l i y) ≡ set (map f l) i (f y)
-map-set f [] i y = refl
-map-set f (x ∷ l) zero y = refl
-map-set f (x ∷ l) (suc i) y = ap (f x ∷_) (map-set f l i y)
-
-take-taken : {A : Type 0} (n : ℕ) (l : List A) → take (length (take n l)) l ≡ take n l
-take-taken zero l = refl
-take-taken (suc n) [] = refl
-take-taken (suc n) (x ∷ l) = ap (x ∷_) (take-taken n l)
+use Rattle.codec.proofs.Lists.{getD-map-below, take-taken}
+use Rattle.codec.proofs.Passed.{Passed, passed-next, stopped}
 
 -- the first `count` records of an array, as bytes
 abbrev pub recordsOf : ℕ → List Record → List (List ℕ)

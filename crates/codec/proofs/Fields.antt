@@ -1,23 +1,19 @@
 -- One record: its length, the tests on it, and its bytes. Assumes nothing.
 use mathlib.Core.Path.{_≡_, refl, ap, sym, _∙_}
-use mathlib.Core.Bool.{Bool, true, false, not, _&&_, and-eq-true-iff, false≢true}
+use mathlib.Core.Bool.{Bool, true, false, not, _&&_, and-eq-true-iff, and-false, false≢true}
 use mathlib.Core.List.{List, [], _∷_}
 use mathlib.Core.Logic.{⊎-elim}
-use Prim.Native.Nat.{ℕ, zero, suc, _+_, _-_, _<_, _≤_, min}
+use Prim.Native.Nat.{ℕ, zero, suc, _+_, _-_, _<_, _≤_}
 use native.Mathlib.Omega.{arith}
 use borrow.Author.Tests.{le-leb, lt-leb, eq-eqb, ne-eqb, eqb-true}
-use lib.Dec.{T, eqb, leb, leb→le, eqb→eq, eqb·suc-zero}
-use lib.ListN.{length, getD, take, drop, List·getD-eq-default}
+use lib.Dec.{T, eqb, leb, leb→le, eqb·suc-zero}
+use lib.ListN.{length, getD, take, List·getD-eq-default}
 use Rattle.codec.specs.Lists.{every}
 use Rattle.codec.specs.Records.{LogRecord, bytesOf, recordOf, lengths, lengthOf, membersIn, presumeCommitIn, recordKindAt, masksInRange, fieldsInRange, isRecord}
 use Rattle.codec.specs.Sets.{empty, part}
 use Rattle.codec.specs.Answers.{recordIn, recordFrom, noRecord, mayFollow, answerTo}
 use Rattle.codec.specs.declared.record.Record.{Record}
-use Rattle.codec.proofs.Tests.{below, below-at, and-left, and-right, of-true, lt-or-le}
-
-pub and-false : (b : Bool) → (b && false) ≡ false
-and-false true = refl
-and-false false = refl
+use Rattle.codec.proofs.Tests.{below, below-at, of-true, lt-or-le}
 
 -- ---- lengths
 
@@ -33,7 +29,7 @@ pub length-most : (k : ℕ) → lengthOf k ≤ 4
 unfolding lengthOf lengths
 length-most k = leb→le _ _ (lengths-all (λ n. leb n 4) tt tt k)
 
-not-one : (k : ℕ) → lengthOf k ≡ 1 → ⊥
+pub not-one : (k : ℕ) → lengthOf k ≡ 1 → ⊥
 unfolding lengthOf lengths
 not-one k e = eqb-false-one (lengthOf k) (lengths-all (λ n. not (eqb n 1)) tt tt k) e
   where

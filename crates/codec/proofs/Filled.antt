@@ -1,16 +1,16 @@
 -- The reader's loop: the records of an image, one after the other. Assumes nothing.
-use mathlib.Core.Path.{_≡_, refl, ap, ap₂, sym, _∙_}
-use mathlib.Core.Bool.{Bool, true, false, and-eq-true-iff}
-use mathlib.Core.List.{List, [], _∷_, _++_, map}
-use Prim.Native.Nat.{ℕ, zero, suc, _+_, _-_, _*_, _<_, _≤_}
+use mathlib.Core.Path.{_≡_, refl, ap, sym, _∙_}
+use mathlib.Core.Bool.{true, and-eq-true-iff}
+use mathlib.Core.List.{List, [], map}
+use Prim.Native.Nat.{ℕ, zero, suc, _+_, _*_, _<_, _≤_}
 use native.Mathlib.Numerals.{add-one}
 use native.Mathlib.Omega.{arith}
-use borrow.Author.Tests.{leb-true, eqb-true}
-use lib.Dec.{eqb, leb}
-use lib.ListN.{length, getD, set, take, drop, replicate, length-set, length-map, length-take, length-drop}
-use lib.Seq.{getD-drop, take-suc, take-suc-set, take-all, drop-cons}
+use borrow.Author.Tests.{leb-true}
+use lib.Dec.{leb}
+use lib.ListN.{length, getD, set, take, drop, replicate, length-set, length-map}
+use lib.Seq.{getD-drop, take-suc-set, take-all}
 use Rattle.codec.specs.Lists.{first}
-use Rattle.codec.specs.Records.{LogRecord, bytesOf, recordOf, lengthOf, recordKindAt, isRecord, recordRefusals}
+use Rattle.codec.specs.Records.{recordOf, isRecord, recordRefusals}
 use Rattle.codec.specs.Image.{headLength, siteIn, countIn, pairsIn, recordsIn, exact, tableExact, refused, readUnless}
 use Rattle.codec.specs.Answers.{recordIn, recordFrom, noRecord, mayFollow, recordNumber, answerTo, values, Readable}
 use Rattle.codec.specs.declared.record.Record.{Record}
@@ -19,7 +19,7 @@ use Rattle.codec.specs.declared.record.RecordAnswer.the-variants.{Accept
 use Rattle.codec.proofs.Fields.{from-bytes}
 use Rattle.codec.proofs.Tables.{named, exact-cons, exact-end}
 use Rattle.codec.proofs.Pairs.{wordAt, pairs-length, records-length, pair-here}
-use Rattle.codec.proofs.Checked.{getD-map-below, map-set}
+use Rattle.codec.proofs.Lists.{getD-map-below, map-set}
 use Rattle.codec.proofs.Passed.{Passed, passed-none, passed-next, passed-all, stopped, taken, done-next}
 
 pub readable-whole : (bytes : List ℕ) → Readable bytes → headLength (countIn bytes) ≤ length bytes

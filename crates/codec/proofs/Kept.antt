@@ -1,16 +1,16 @@
 -- What the reader and the writer keep of the records that they have passed: the newest of each transaction. Assumes nothing.
 use mathlib.Core.Path.{_≡_, refl, ap, sym, _∙_}
-use mathlib.Core.Bool.{Bool, true, false, cond, not, _&&_, _||_, and-eq-true-iff, or-true}
-use mathlib.Core.List.{List, [], _∷_, _++_, map, append-nil}
-use Prim.Native.Nat.{ℕ, zero, suc, _<_, _≤_}
+use mathlib.Core.Bool.{Bool, true, false, cond, and-eq-true-iff, or-true}
+use mathlib.Core.List.{List, [], _∷_, _++_, append-nil}
+use Prim.Native.Nat.{ℕ, _<_, _≤_}
 use native.Mathlib.Omega.{arith}
 use borrow.Author.Tests.{eq-eqb, ne-eqb, eqb-true, eqb-false}
-use lib.Dec.{T, eqb}
+use lib.Dec.{eqb}
 use lib.ListN.{length, getD, set, replicate, getD-replicate, length-set}
 use lib.Seq.{getD-set-same, getD-set-other}
-use Rattle.codec.specs.Lists.{select, any, all, same, first}
-use Rattle.codec.specs.Records.{LogRecord, bytesOf, recordOf, sequences, agrees, ofTransaction, isRecord, inSequence, recordTests, recordRefusals}
-use Rattle.codec.specs.Answers.{recordIn, noRecord, mayFollow, recordNumber, answerTo}
+use Rattle.codec.specs.Lists.{select, any, same}
+use Rattle.codec.specs.Records.{LogRecord, sequences, ofTransaction, inSequence}
+use Rattle.codec.specs.Answers.{recordIn, noRecord, mayFollow}
 use Rattle.codec.specs.declared.record.Record.{Record}
 use Rattle.codec.proofs.Sequence.{kinds, legal, lastOr, none, by-newest}
 

@@ -1,4 +1,5 @@
 mod Tests
+mod Lists
 mod Masks
 mod Fields
 mod Behind
@@ -11,6 +12,7 @@ mod Checked
 mod Pairs
 mod Filled
 mod Stored
+mod InTurn
 mod Opened
 mod Numbered
 mod Copied

@@ -1,14 +1,13 @@
 -- Masks of a byte: what the machine's `&` computes. Assumes nothing.
-use mathlib.Core.Path.{_≡_, refl, ap, sym, _∙_}
+use mathlib.Core.Path.{_≡_, ap, sym, _∙_}
 use mathlib.Core.Bool.{Bool, not, _&&_}
-use mathlib.Core.List.{List, [], _∷_}
-use Prim.Native.Nat.{ℕ, zero, suc, _+_, _-_, _*_, _/_, _%_, _^_, min, _<_, _≤_}
+use Prim.Native.Nat.{ℕ, suc, _-_, _*_, _/_, _%_, _^_, min, _<_}
 use native.Mathlib.Nat.{min-le-left}
 use native.Mathlib.Omega.{arith}
-use lib.Dec.{T, eqb, eqb→eq}
+use lib.Dec.{eqb, eqb→eq}
 use lib.Bits.{bitAnd, and-step, and-shr, and-le-l}
-use Rattle.codec.specs.Sets.{participants, member, bits, those, both, minus, part}
-use Rattle.codec.proofs.Tests.{alike, alike-eq, below, below-at, below-at-2}
+use Rattle.codec.specs.Sets.{participants, member, bits, those, both, minus}
+use Rattle.codec.proofs.Tests.{alike, alike-eq, below-at, below-at-2}
 
 double : (a b : ℕ) → 2 * bitAnd a b ≡ bitAnd (2 * a) (2 * b)
 double a b =

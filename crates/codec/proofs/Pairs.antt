@@ -1,16 +1,15 @@
 -- The pairs of a table, read one after the other. Assumes nothing.
 use mathlib.Core.Path.{_≡_, refl, ap, ap₂, sym, _∙_}
-use mathlib.Core.Bool.{Bool, true, false, _&&_}
-use mathlib.Core.List.{List, [], _∷_, map}
+use mathlib.Core.Bool.{false}
+use mathlib.Core.List.{List, [], _∷_}
 use Prim.Native.Nat.{ℕ, zero, suc, _+_, _*_, _<_, _≤_}
-use native.Mathlib.Numerals.{add-one}
 use native.Mathlib.Omega.{arith}
 use borrow.Author.Tests.{eq-eqb, ne-eqb, le-leb}
 use lib.Dec.{eqb}
 use lib.ListN.{length, getD, take, drop, length-take, length-drop, length-map, drop-of-length-le}
 use lib.Seq.{getD-take, getD-drop, drop-drop}
 use Rattle.codec.specs.Image.{headLength, pairsOf, countIn, pairsIn, recordsIn, exact, tableExact}
-use Rattle.codec.proofs.Tables.{named, length-pairs}
+use Rattle.codec.proofs.Tables.{length-pairs}
 
 pairs-drop : (i : ℕ) (table : List ℕ) → drop i (pairsOf table) ≡ pairsOf (drop (4 * i) table)
 unfolding pairsOf

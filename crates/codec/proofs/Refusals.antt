@@ -1,27 +1,23 @@
--- What it tells that no refusal strikes: of a list of refusals, and of the records of an image.
-use Prim.Native.Nat.{ℕ, zero, suc}
-use mathlib.Core.Path.{_≡_, refl, ap, ap₂}
+-- What it tells that no refusal strikes: of a list of refusals, of the records of an image, and of the writer's call. Assumes nothing.
+use Prim.Native.Nat.{ℕ, zero, suc, _+_, _≤_, _<_}
+use mathlib.Core.Path.{_≡_, refl, ap, ap₂, sym, _∙_}
 use mathlib.Core.Bool.{Bool, true, false, cond, not, _||_, and-eq-true-iff, and-false, false≢true}
-use mathlib.Core.List.{List, [], _∷_, _++_, map, append-assoc}
-use lib.Dec.{eqb}
-use lib.ListN.{getD}
+use mathlib.Core.List.{List, [], _∷_, _++_, map}
+use lib.Dec.{eqb, ltb}
+use lib.ListN.{length}
 use native.Mathlib.Omega.{arith}
-use borrow.Author.Tests.{eqb-true, not-true, not-false}
-use Rattle.codec.specs.Lists.{all, every, same, first}
-use Rattle.codec.specs.Records.{LogRecord, bytesOf, recordOf, lengths, lengthOf, recordKindAt, isRecord, inSequence, recordTests, recordRefusals}
+use borrow.Author.Tests.{eqb-true, ne-eqb, not-false, lt-ltb, le-ltb, ltb-false}
+use Rattle.codec.specs.Lists.{every, same, first}
+use Rattle.codec.specs.Records.{LogRecord, bytesOf, recordOf, lengthOf, isRecord, inSequence, recordTests, recordRefusals}
+use Rattle.codec.specs.Image.{image, overLimit, logRefusals, writeRefusals, stored, writeUnless, writeImage}
+use Rattle.codec.specs.Answers.{written}
+use Rattle.codec.proofs.Fields.{not-one, no-kind-low}
 
 -- ---- tests
 
 pub or-none : (a b : Bool) → (a || b) ≡ false → (a ≡ false) × (b ≡ false)
 or-none true b e = (e, cc)
 or-none false b e = (refl, e)
-
--- an element passes the test that all elements and the default pass
-all-getD : (f : ℕ → Bool) (l : List ℕ) (i d : ℕ) → f d ≡ true → all f l ≡ true → f (getD l i d) ≡ true
-unfolding all
-all-getD f [] i d h e = h
-all-getD f (x ∷ l) zero d h e = and-eq-true-iff (f x) (all f l) .0 e .0
-all-getD f (x ∷ l) (suc i) d h e = all-getD f l i d h (and-eq-true-iff (f x) (all f l) .0 e .1)
 
 pub same-list : (l m : List ℕ) → same l m ≡ true → l ≡ m
 unfolding same
@@ -39,36 +35,12 @@ pub passed : (n : ℕ) (test : Bool) (rest : ℕ) → cond test (suc n) rest ≡
 passed n true rest e = absurd (omega arith)
 passed n false rest e = (refl, e)
 
--- another list of refusals behind the same first one
-behind : (test : Bool) (n : ℕ) {a b : ℕ} → (a ≡ 0 → b ≡ 0) → cond test n a ≡ 0 → cond test n b ≡ 0
-behind true n f e = e
-behind false n f e = f e
-
-pub first-append : (cs ds : List (ℕ × Bool)) → first cs ≡ 0 → first ds ≡ 0 → first (cs ++ ds) ≡ 0
-unfolding first
-first-append [] ds e f = f
-first-append (c ∷ cs) ds e f = behind (c .1) (c .0) (λ h. first-append cs ds h f) e
-
-pub first-left : (cs ds : List (ℕ × Bool)) → first (cs ++ ds) ≡ 0 → first cs ≡ 0
-unfolding first
-first-left [] ds e = refl
-first-left (c ∷ cs) ds e = behind (c .1) (c .0) (first-left cs ds) e
-
 -- ---- records
-
-no-length-one : (kind : ℕ) → eqb 1 (lengthOf kind) ≡ false
-unfolding lengthOf lengths all
-no-length-one kind = not-true (eqb 1 (getD lengths kind 0)) (all-getD (λ n. not (eqb 1 n)) lengths kind 0 refl refl)
-
-no-kind-zero : (s : ℕ) → recordKindAt s 0 ≡ false
-unfolding recordKindAt
-no-kind-zero zero = refl
-no-kind-zero (suc s) = refl
 
 record-bytes : (s : ℕ) (bytes : List ℕ) → isRecord s bytes ≡ true → bytesOf (recordOf bytes) ≡ bytes
 unfolding isRecord recordOf every bytesOf
-record-bytes s [] e = absurd (false≢true (rw no-kind-zero at e))
-record-bytes s (kind ∷ []) e = absurd (false≢true (rw (no-length-one, and-false) at e))
+record-bytes s [] e = absurd (false≢true (rw (no-kind-low s 0 (omega arith)) at e))
+record-bytes s (kind ∷ []) e = absurd (false≢true (rw (ne-eqb 1 (lengthOf kind) (λ p. not-one kind (sym p)), and-false) at e))
 record-bytes s (kind ∷ t ∷ fields) e = refl
 
 record-passed : (s : ℕ) (before : List LogRecord) (bytes : List ℕ) (cs : List (ℕ × Bool)) → first (recordTests s before bytes ++ cs) ≡ 0
@@ -88,15 +60,60 @@ records-bytes s before (bytes ∷ rest) e =
     let one = record-passed s before bytes (recordRefusals s next rest) e in
     ap₂ _∷_ (record-bytes s bytes (one .0)) (records-bytes s next rest (one .1))
 
-pub behind-records : (s : ℕ) (before : List LogRecord) (records : List (List ℕ)) (cs : List (ℕ × Bool))
-    → first (recordRefusals s before records ++ cs) ≡ 0 → first cs ≡ 0
-unfolding recordRefusals
-behind-records s before [] cs e = e
-behind-records s before (bytes ∷ rest) cs e =
-    let next = before ++ (recordOf bytes ∷ []) in
-    behind-records s next rest cs (record-passed s before bytes (recordRefusals s next rest ++ cs) (rw append-assoc at e) .1)
-
 pub log-records : (log : List LogRecord) → map recordOf (map bytesOf log) ≡ log
 unfolding recordOf bytesOf
 log-records [] = refl
 log-records (x ∷ log) = ap (x ∷_) (log-records log)
+
+-- ---- the answer of the writer's call
+
+-- a number that refuses, or else another
+abbrev orElse : ℕ → ℕ → ℕ
+orElse zero m = m
+orElse (suc n) m = suc n
+
+or-else : (b : Bool) (n a m : ℕ) {k : ℕ} → k ≡ orElse a m → cond b (suc n) k ≡ orElse (cond b (suc n) a) m
+or-else true n a m e = refl
+or-else false n a m e = e
+
+records-or : (s : ℕ) (before : List LogRecord) (records : List (List ℕ)) (cs : List (ℕ × Bool))
+    → first (recordRefusals s before records ++ cs) ≡ orElse (first (recordRefusals s before records)) (first cs)
+unfolding first recordRefusals recordTests
+records-or s before [] cs = refl
+records-or s before (bytes ∷ records) cs =
+    or-else (not (isRecord s bytes)) 22 _ _
+    (or-else (not (inSequence before (recordOf bytes))) 23 _ _ (records-or s (before ++ (recordOf bytes ∷ [])) records cs))
+
+neither : (n m : ℕ) → orElse n m ≡ 0 → (n ≡ 0) × (m ≡ 0)
+neither zero m e = (refl, e)
+neither (suc n) m e = absurd (omega arith)
+
+write-answer : (n s : ℕ) (log : List LogRecord) (at : ℕ) (buffer : List ℕ) → writeUnless n s log at buffer .answer ≡ n
+unfolding writeUnless
+write-answer zero s log at buffer = refl
+write-answer (suc n) s log at buffer = refl
+
+module _ (s : ℕ) (log : List LogRecord) (at : ℕ) (buffer : List ℕ) where
+  refusal : first (writeRefusals s log at buffer) ≡ orElse (first (logRefusals s log)) (cond (ltb (length buffer) (at + length (image s log))) 25 0)
+  unfolding writeRefusals logRefusals first
+  refusal = or-else (overLimit s (length log)) 20 _ _ (records-or s [] (map bytesOf log) ((25, ltb (length buffer) (at + length (image s log))) ∷ []))
+
+  pub write-refused : (n : ℕ) → n ≡ first (logRefusals s log) → (n ≡ 0 → ⊥) → written n buffer ≡ writeImage s log at buffer
+  unfolding writeImage writeUnless
+  write-refused zero e z = absurd (z refl)
+  write-refused (suc n) e z = rw (refusal, ← e)
+
+  pub write-short : first (logRefusals s log) ≡ 0 → length buffer < at + length (image s log) → written 25 buffer ≡ writeImage s log at buffer
+  unfolding writeImage writeUnless
+  write-short e h = rw (refusal, e, lt-ltb)
+
+  pub write-whole : first (logRefusals s log) ≡ 0 → at + length (image s log) ≤ length buffer → written 0 (stored at (image s log) buffer) ≡ writeImage s log at buffer
+  unfolding writeImage writeUnless
+  write-whole e h = rw (refusal, e, le-ltb)
+
+  -- a call that answers 0 was not refused, and had room
+  pub write-passed : writeImage s log at buffer .answer ≡ 0 → (first (logRefusals s log) ≡ 0) × (at + length (image s log) ≤ length buffer)
+  unfolding writeImage
+  write-passed e =
+      let none = neither (first (logRefusals s log)) _ (sym refusal ∙ sym (write-answer (first (writeRefusals s log at buffer)) s log at buffer) ∙ e) in
+      (none .0, ltb-false (length buffer) (at + length (image s log)) (passed 24 _ 0 (none .1) .0))

@@ -10,8 +10,8 @@ use native.Mathlib.Omega.{arith}
 use borrow.Author.Tests.{leb-true, ltb-false, not-false, le-leb, le-ltb}
 use Rattle.codec.specs.Lists.{same, first}
 use Rattle.codec.specs.Records.{LogRecord, bytesOf, recordOf, recordRefusals}
-use Rattle.codec.specs.Image.{magic, headLength, pairTable, image, pairsOf, siteIn, countIn, pairsIn, recordsIn, overLimit, exact, tableExact, imageRefusals, accepted, readingNumber, readUnless, readImage, logRefusals, writeRefusals, stored, writeUnless, writeImage, copyReading, copyImage}
-use Rattle.codec.proofs.Refusals.{or-none, same-list, passed, first-append, first-left, records-bytes, behind-records, log-records}
+use Rattle.codec.specs.Image.{magic, headLength, pairTable, image, pairsOf, siteIn, countIn, pairsIn, recordsIn, overLimit, exact, tableExact, imageRefusals, accepted, readingNumber, readUnless, readImage, logRefusals, stored, writeImage, copyReading, copyImage}
+use Rattle.codec.proofs.Refusals.{or-none, same-list, passed, records-bytes, log-records, write-whole, write-passed}
 use Rattle.codec.proofs.Tables.{bytes-take, length-pairs, length-table, exact-records, exact-table, named-table, table-exact}
 
 -- ---- accepted images
@@ -130,31 +130,11 @@ module _ (s : ℕ) (log : List LogRecord) where
 
 -- ---- the call of the writer
 
-write-answer : (n s : ℕ) (log : List LogRecord) (at : ℕ) (buffer : List ℕ) → writeUnless n s log at buffer .answer ≡ n
-unfolding writeUnless
-write-answer zero s log at buffer = refl
-write-answer (suc n) s log at buffer = refl
-
 stored-there : (at : ℕ) (bytes buffer : List ℕ) → at + length bytes ≤ length buffer → take (length bytes) (drop at (stored at bytes buffer)) ≡ bytes
 unfolding stored
 stored-there at bytes buffer h =
     let start : length (take at buffer) ≡ at = length-take-le at buffer (omega arith) in
     rw (append-assoc, drop-at, take-append-seam)
-
-module _ (s : ℕ) (log : List LogRecord) (at : ℕ) (buffer : List ℕ) where
-  no-refusal : first (logRefusals s log) ≡ 0 → at + length (image s log) ≤ length buffer → first (writeRefusals s log at buffer) ≡ 0
-  unfolding writeRefusals first
-  no-refusal e h = first-append (logRefusals s log) _ e (rw (le-ltb (length buffer) (at + length (image s log)) h))
-
-  log-passed : first (writeRefusals s log at buffer) ≡ 0 → first (logRefusals s log) ≡ 0
-  unfolding writeRefusals
-  log-passed e = first-left (logRefusals s log) _ e
-
-  room : first (writeRefusals s log at buffer) ≡ 0 → at + length (image s log) ≤ length buffer
-  unfolding writeRefusals logRefusals first
-  room e =
-      let behind = behind-records s [] (map bytesOf log) _ (passed 20 (overLimit s (length log)) _ e .1) in
-      ltb-false (length buffer) (at + length (image s log)) (passed 24 _ _ behind .0)
 
 -- ---- the round trips
 
@@ -186,19 +166,16 @@ reads-back s log e = rw (none-refuses s log e, site-in s log, records-in s log, 
 -- An accepted image that is read and written again leaves its bytes in the buffer.
 pub written-again : (bytes : List ℕ) → ((i : ℕ) → getD bytes i 0 < 256) → (s : ℕ) (log : List LogRecord) → readImage bytes ≡ accepted s log
     → (at : ℕ) (buffer : List ℕ) → at + length bytes ≤ length buffer → writeImage s log at buffer ≡ record { answer = 0; buffer = stored at bytes buffer }
-unfolding writeImage writeUnless
 written-again bytes small s log e at buffer h =
     let same-image = same-bytes bytes small s log e in
-    rw (no-refusal s log at buffer (readable-writable bytes s log e) (rw same-image h), same-image)
+    sym (write-whole s log at buffer (readable-writable bytes s log e) (rw same-image h)) ∙ rw same-image
 
 -- What a call writes is accepted where it stands in the buffer, and reads back as the same log.
 pub written-reads : (s : ℕ) (log : List LogRecord) (at : ℕ) (buffer : List ℕ) → writeImage s log at buffer .answer ≡ 0
     → readImage (take (length (image s log)) (drop at (writeImage s log at buffer .buffer))) ≡ accepted s log
-unfolding writeImage writeUnless
 written-reads s log at buffer e =
-    let none = sym (write-answer (first (writeRefusals s log at buffer)) s log at buffer) ∙ e in
-    rw (none, stored-there at (image s log) buffer (room s log at buffer none))
-    (reads-back s log (log-passed s log at buffer none))
+    let passed = write-passed s log at buffer e in
+    rw (← write-whole s log at buffer (passed .0) (passed .1), stored-there at (image s log) buffer (passed .1)) (reads-back s log (passed .0))
 
 -- A copy of an accepted image is that image.
 pub copied : (bytes : List ℕ) → ((i : ℕ) → getD bytes i 0 < 256) → (s : ℕ) (log : List LogRecord) → readImage bytes ≡ accepted s log

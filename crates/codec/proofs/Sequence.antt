@@ -1,19 +1,16 @@
 -- The sequence of a transaction's records is kept by looking at its newest record alone. Assumes nothing.
-use mathlib.Core.Path.{_≡_, refl, ap, sym, _∙_, subst}
-use mathlib.Core.Bool.{Bool, true, false, cond, not, _&&_, _||_, and-false}
+use mathlib.Core.Path.{_≡_, refl, sym, subst}
+use mathlib.Core.Bool.{Bool, true, false, not, _&&_, _||_}
 use mathlib.Core.List.{List, [], _∷_, _++_, map}
-use mathlib.Core.Logic.{⊎-elim}
-use Prim.Native.Nat.{ℕ, zero, suc, _/_, _%_, _^_, _<_, _≤_}
+use Prim.Native.Nat.{ℕ, _/_, _%_, _^_, _≤_}
 use native.Mathlib.Omega.{arith}
-use borrow.Author.Tests.{le-leb, eq-eqb, ne-eqb, eqb-true, eqb-false}
+use borrow.Author.Tests.{le-leb}
 use lib.Dec.{T, eqb, leb, leb→le}
-use lib.ListN.{length, getD, set, replicate, getD-replicate, length-set}
-use lib.Seq.{getD-set-same, getD-set-other}
-use Rattle.codec.specs.Lists.{select, any, all, every, same}
-use Rattle.codec.specs.Records.{LogRecord, sequences, agrees, ofTransaction, inSequence}
+use lib.ListN.{getD}
+use Rattle.codec.specs.Lists.{any, all, every, same}
+use Rattle.codec.specs.Records.{LogRecord, sequences, agrees}
 use Rattle.codec.specs.Answers.{recordIn, noRecord, nextKinds, mayFollow}
-use Rattle.codec.specs.declared.record.Record.{Record}
-use Rattle.codec.proofs.Tests.{alike, alike-eq, below, below-at, and-left, and-right, true-of, of-true}
+use Rattle.codec.proofs.Tests.{alike, alike-eq, below, below-at, and-left, and-right, of-true}
 use Rattle.codec.proofs.Refusals.{same-list}
 use Rattle.codec.proofs.Fields.{and-true}
 

@@ -1,23 +1,18 @@
 -- What the writer stores: bytes one behind the other in a buffer, the records of a log in turn, and the answer of the call. Assumes nothing.
-use Prim.Native.Nat.{ℕ, zero, suc, _+_, _-_, _*_, _≤_, _<_, min}
-use mathlib.Core.Path.{_≡_, refl, ap, sym, _∙_}
-use mathlib.Core.Bool.{Bool, true, false, not, cond}
-use mathlib.Core.List.{List, [], _∷_, _++_, map, flatten, append-assoc, append-nil}
-use native.Mathlib.Numerals.{add-one}
+use Prim.Native.Nat.{ℕ, _+_, _-_, _≤_}
+use mathlib.Core.Path.{_≡_, refl, sym, _∙_}
+use mathlib.Core.List.{List, [], _∷_, _++_, append-assoc, append-nil}
 use native.Mathlib.Nat.{add-assoc, add-zero, zero-add}
 use native.Mathlib.Omega.{arith}
-use lib.ListN.{length, getD, take, drop, length-append, length-take, length-drop, length-map, take-append-drop, drop-of-length-le, List·getD-map}
-use lib.Dec.{ltb}
-use lib.Seq.{sets, sets-eq, take-at, drop-at, drop-drop, drop-cons, getD-take, take-all}
-use borrow.Author.Tests.{lt-ltb, le-ltb}
+use lib.ListN.{length, take, drop, length-append, length-take, length-drop, take-append-drop, drop-of-length-le}
+use lib.Seq.{sets, sets-eq, take-at, drop-at, drop-drop, take-all}
 use borrow.Rule.Slice.PartMut.{midOf, putMid}
 use Rattle.codec.specs.Lists.{first}
-use Rattle.codec.specs.Records.{LogRecord, bytesOf, recordOf, lengthOf, isRecord, inSequence, recordTests, recordRefusals}
-use Rattle.codec.specs.Image.{magic, headLength, word, pairTable, image, stored, overLimit, logRefusals, writeRefusals, writeUnless, writeImage}
-use Rattle.codec.specs.Answers.{recordIn, noRecord, logIn, written}
+use Rattle.codec.specs.Records.{bytesOf, lengthOf}
+use Rattle.codec.specs.Image.{stored}
+use Rattle.codec.specs.Answers.{recordIn}
 use Rattle.codec.specs.declared.record.Record.{Record}
-use Rattle.codec.specs.declared.log.Log.{Log}
-use Rattle.codec.proofs.Fields.{bytes-length, length-most}
+use Rattle.codec.proofs.Fields.{bytes-length}
 
 -- ---- bytes stored in a buffer
 
@@ -92,111 +87,3 @@ module _ {all start : List ℕ} {at : ℕ} {bytes buffer x rest : List ℕ} (l :
   pub left-put : (next : ℕ) → next ≡ at + length x → (y : List ℕ) → y ≡ stored 0 x (midOf at (length buffer - at) buffer)
       → Left all start next rest (putMid at (length buffer - at) buffer y)
   left-put next n y s = left-next next n (putMid at (length buffer - at) buffer y) (stored-part at x buffer y s)
-
--- ---- the records of a log, as bytes, from one on
-
-abbrev pub bytesFrom : List Record → ℕ → ℕ → List (List ℕ)
-bytesFrom records n i = map bytesOf (drop i (take n (map recordIn records)))
-
--- a loop that has passed i of n records, and the number to which it adds their lengths
-pub record Passed (records : List Record) (n i sum : ℕ) : Type 0 where
-  pub upto : i ≤ n
-  pub few : n ≤ 24
-  pub fit : length records ≡ 24
-  pub near : sum ≤ 102 + 4 * i
-
-module _ {records : List Record} {n i sum : ℕ} (w : Passed records n i sum) where
-  pub bytes-end : n ≤ i → bytesFrom records n i ≡ []
-  bytes-end p = ap (map bytesOf) (drop-of-length-le (take n (map recordIn records)) {i = i} (simp length-take (omega arith)))
-
-  bytes-next : i < n → bytesFrom records n i ≡ bytesOf (recordIn (getD records i noRecord)) ∷ bytesFrom records n (i + 1)
-  bytes-next p =
-      let held = take n (map recordIn records) in
-      let here : getD held i (recordIn noRecord) ≡ recordIn (getD records i noRecord) = getD-take n (map recordIn records) i (recordIn noRecord) p ∙ List·getD-map recordIn records i noRecord in
-      let next : drop i held ≡ recordIn (getD records i noRecord) ∷ drop (i + 1) held =
-      rw (add-one, ← here) (drop-cons held i (recordIn noRecord) (simp (length-take, length-map) (omega arith))) in
-      ap (map bytesOf) next
-
-  pub flat-next : i < n → Next (flatten (bytesFrom records n i)) (bytesOf (recordIn (getD records i noRecord))) (flatten (bytesFrom records n (i + 1)))
-  unfolding flatten
-  flat-next p = record { split = ap flatten (bytes-next p) }
-
-  module _ {k : ℕ} (p : i < n) (e : k ≡ length (bytesOf (recordIn (getD records i noRecord)))) where
-    pub passed-next : Passed records n (i + 1) (sum + k)
-    passed-next =
-        let x = getD records i noRecord in
-        record { upto = omega arith; few = w .few; fit = w .fit; near = omega (arith, bytes-length x, length-most (x .kind)) }
-
-    pub table-next : Next (pairTable sum (bytesFrom records n i)) (word sum ++ word k) (pairTable (sum + k) (bytesFrom records n (i + 1)))
-    unfolding pairTable
-    table-next = record { split = rw e (ap (pairTable sum) (bytes-next p)) }
-
--- ---- the whole log
-
-pub length-log : (log : Log) → length (log .records) ≡ 24 → length (logIn log) ≡ min (log .count) 24
-unfolding logIn
-length-log log e = simp (length-take, length-map, e)
-
-pub passed-start : (log : Log) (n sum : ℕ) → length (log .records) ≡ 24 → n ≡ length (logIn log) → sum ≤ 6 + 4 * n → Passed (log .records) n 0 sum
-passed-start log n sum fit e h =
-    let size = length-log log fit in
-    record { upto = omega arith; few = omega arith; fit = fit; near = omega arith }
-
-take-counted : {A : Type 0} (n : ℕ) (l : List A) → take (length (take n l)) l ≡ take n l
-take-counted zero l = refl
-take-counted (suc n) [] = refl
-take-counted (suc n) (x ∷ l) = ap (x ∷_) (take-counted n l)
-
-pub bytes-all : (log : Log) (n : ℕ) → n ≡ length (logIn log) → bytesFrom (log .records) n 0 ≡ map bytesOf (logIn log)
-unfolding logIn
-bytes-all log n e = rw (e, take-counted (log .count) (map recordIn (log .records)))
-
-abbrev pub tableOf : List LogRecord → List ℕ
-tableOf log = pairTable (headLength (length log)) (map bytesOf log)
-
-abbrev pub recordsOf : List LogRecord → List ℕ
-recordsOf log = flatten (map bytesOf log)
-
-pub image-head : (s : ℕ) (log : List LogRecord) → Next (image s log) (magic ++ s ∷ length log ∷ []) (tableOf log ++ recordsOf log)
-unfolding image magic
-image-head s log = record { split = refl }
-
-pub image-table : (log : List LogRecord) → Next (tableOf log ++ recordsOf log) (tableOf log) (recordsOf log)
-image-table log = record { split = refl }
-
--- ---- the answer of the call
-
--- a number that refuses, or else another
-abbrev orElse : ℕ → ℕ → ℕ
-orElse zero m = m
-orElse (suc n) m = suc n
-
-or-else : (b : Bool) (n a m : ℕ) {k : ℕ} → k ≡ orElse a m → cond b (suc n) k ≡ orElse (cond b (suc n) a) m
-or-else true n a m e = refl
-or-else false n a m e = e
-
-records-or : (s : ℕ) (before : List LogRecord) (records : List (List ℕ)) (cs : List (ℕ × Bool))
-    → first (recordRefusals s before records ++ cs) ≡ orElse (first (recordRefusals s before records)) (first cs)
-unfolding first recordRefusals recordTests
-records-or s before [] cs = refl
-records-or s before (bytes ∷ records) cs =
-    or-else (not (isRecord s bytes)) 22 _ _
-    (or-else (not (inSequence before (recordOf bytes))) 23 _ _ (records-or s (before ++ (recordOf bytes ∷ [])) records cs))
-
-module _ (s : ℕ) (log : List LogRecord) (at : ℕ) (buffer : List ℕ) where
-  refusal : first (writeRefusals s log at buffer) ≡ orElse (first (logRefusals s log)) (cond (ltb (length buffer) (at + length (image s log))) 25 0)
-  unfolding writeRefusals logRefusals first
-  refusal = or-else (overLimit s (length log)) 20 _ _ (records-or s [] (map bytesOf log) ((25, ltb (length buffer) (at + length (image s log))) ∷ []))
-
-  pub write-refused : (n : ℕ) → n ≡ first (logRefusals s log) → (n ≡ 0 → ⊥) → written n buffer ≡ writeImage s log at buffer
-  unfolding writeImage writeUnless
-  write-refused zero e z = absurd (z refl)
-  write-refused (suc n) e z = rw (refusal, ← e)
-
-  pub write-short : first (logRefusals s log) ≡ 0 → length buffer < at + length (image s log) → written 25 buffer ≡ writeImage s log at buffer
-  unfolding writeImage writeUnless
-  write-short e h = rw (refusal, e, lt-ltb)
-
-  pub write-whole : first (logRefusals s log) ≡ 0 → at + length (image s log) ≤ length buffer → written 0 (stored at (image s log) buffer) ≡ writeImage s log at buffer
-  unfolding writeImage writeUnless
-  write-whole e h = rw (refusal, e, le-ltb)

@@ -1,8 +1,6 @@
 use denote.Ref.{now}
 use mathlib.Core.Path.{sym, ap, _∙_}
-use mathlib.Core.List.{List}
-use Prim.Native.Nat.{ℕ}
-use Rattle.codec.specs.Answers.{written, partsValues}
+use Rattle.codec.specs.Answers.{partsValues}
 use Rattle.codec.proofs.Numbered.{parts-written, parts-refused, refused-values}
 use borrow.Author.Needs.{needs}
 use Rattle.codec.proofs.firmware.dpr_message_parts.Statement.{statement}

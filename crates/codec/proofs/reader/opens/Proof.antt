@@ -1,4 +1,3 @@
-use native.Mathlib.Omega.{arith}
 use denote.Ref.{now}
 use Rattle.codec.proofs.Opened.{opening}
 use borrow.Author.Needs.{needs}

@@ -6,7 +6,7 @@ use borrow.Author.Tests.{not-true, not-false}
 use lib.ListN.{take}
 use Rattle.codec.specs.Lists.{same}
 use Rattle.codec.specs.Image.{magic, siteIn, countIn, overLimit}
-use Rattle.codec.specs.Answers.{values, Readable}
+use Rattle.codec.specs.Answers.{values}
 use Rattle.codec.proofs.Opened.{few-records, too-short, not-opened, over, not-exact, by-records}
 use borrow.Author.Needs.{needs}
 use Rattle.codec.proofs.reader.read_image.Statement.{statement}

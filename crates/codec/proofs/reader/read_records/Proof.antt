@@ -3,7 +3,7 @@ use mathlib.Core.Path.{_≡_, refl, ap, sym, _∙_}
 use Prim.Native.Nat.{ℕ, _+_, _-_, _*_, _≤_, _<_}
 use native.Mathlib.Omega.{arith}
 use borrow.Author.Needs.{needs}
-use lib.ListN.{length, getD, set}
+use lib.ListN.{length, set}
 use Rattle.codec.specs.Image.{headLength, siteIn, countIn, readUnless}
 use Rattle.codec.specs.Answers.{Readable, recordNumber, logIn, values, imageValues}
 use Rattle.codec.proofs.Pairs.{wordAt}

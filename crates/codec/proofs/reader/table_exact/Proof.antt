@@ -1,10 +1,8 @@
-use denote.Ref.{now}
-use mathlib.Core.Path.{_≡_, refl, sym, _∙_}
-use Prim.Native.Nat.{ℕ, _+_, _-_, _*_, _≤_, _<_}
+use mathlib.Core.Path.{refl, sym, _∙_}
+use Prim.Native.Nat.{_-_}
 use native.Mathlib.Omega.{arith}
 use borrow.Author.Needs.{needs}
 use borrow.Author.Tests.{lt-leb}
-use lib.ListN.{length, getD}
 use Rattle.codec.specs.Image.{headLength, countIn, tableExact}
 use Rattle.codec.proofs.Pairs.{Exact, exact-start, exact-next, not-exact, exact-end}
 use Rattle.codec.proofs.reader.table_exact.Statement.{statement}

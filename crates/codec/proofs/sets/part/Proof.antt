@@ -1,4 +1,3 @@
-use mathlib.Core.Path.{sym}
 use native.Mathlib.Omega.{arith}
 use Rattle.codec.specs.Sets.{part}
 use Rattle.codec.proofs.Masks.{both-and}

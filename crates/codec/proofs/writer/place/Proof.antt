@@ -1,7 +1,8 @@
 use mathlib.Core.Path.{ap, _∙_}
 use native.Mathlib.Omega.{arith}
 use Rattle.codec.specs.Answers.{written}
-use Rattle.codec.proofs.Stored.{stored-part, write-short, write-whole}
+use Rattle.codec.proofs.Stored.{stored-part}
+use Rattle.codec.proofs.Refusals.{write-short, write-whole}
 use borrow.Author.Needs.{needs}
 use Rattle.codec.proofs.writer.place.Statement.{statement}
 use Rattle.codec.proofs.writer.place.Tie as tie

@@ -7,7 +7,8 @@ use borrow.Rule.Slice.PartMut.{putMid}
 use Rattle.codec.specs.Image.{magic, image}
 use Rattle.codec.specs.Answers.{logIn}
 use Rattle.codec.proofs.Tables.{length-table}
-use Rattle.codec.proofs.Stored.{Left, left-start, next-last, left-room, left-next, left-put, stored-part, length-log, tableOf, recordsOf, image-head, image-table}
+use Rattle.codec.proofs.Stored.{Left, left-start, next-last, left-room, left-next, left-put, stored-part}
+use Rattle.codec.proofs.InTurn.{length-log, tableOf, recordsOf, image-head, image-table}
 use borrow.Author.Needs.{needs}
 use Rattle.codec.proofs.writer.write_front.Statement.{statement}
 use Rattle.codec.proofs.writer.write_front.Tie as tie

@@ -2,7 +2,8 @@ use mathlib.Core.Path.{ap}
 use Prim.Native.Nat.{_+_, _-_, _*_}
 use native.Mathlib.Omega.{arith}
 use lib.ListN.{length, length-map}
-use Rattle.codec.proofs.Stored.{Left, left-start, left-end, left-room, left-put, Passed, bytesFrom, bytes-end, bytes-all, table-next, passed-start, passed-next}
+use Rattle.codec.proofs.Stored.{Left, left-start, left-end, left-room, left-put}
+use Rattle.codec.proofs.InTurn.{Counted, bytesFrom, bytes-end, bytes-all, table-next, counted-start, counted-next}
 use Rattle.codec.specs.Image.{headLength, word, pairTable}
 use borrow.Author.Needs.{needs}
 use Rattle.codec.proofs.writer.write_pairs.Statement.{statement}
@@ -10,7 +11,7 @@ use Rattle.codec.proofs.writer.write_pairs.Tie as tie
 
 abbrev Inv-loop : tie.InvT-loop
 Inv-loop out₀ count records offset₀ i₀ out offset i =
-    Passed records count i offset × Left (pairTable offset₀ (bytesFrom records count 0)) out₀ (4 * i) (pairTable offset (bytesFrom records count i)) out
+    Counted records count i offset × Left (pairTable offset₀ (bytesFrom records count 0)) out₀ (4 * i) (pairTable offset (bytesFrom records count i)) out
 
 abbrev μ-loop : tie.MeasureT-loop
 μ-loop out₀ count records offset₀ i₀ out offset i = count - i
@@ -18,10 +19,10 @@ abbrev μ-loop : tie.MeasureT-loop
 len-requires : tie.Need-len-requires Inv-loop μ-loop
 len-requires c κs = search needs
 
-start : (c : tie.After-records Inv-loop μ-loop) → Passed (c .before .before .before .args .log .records) (c .before .len .result) 0 (6 + 4 * c .before .len .result)
+start : (c : tie.After-records Inv-loop μ-loop) → Counted (c .before .before .before .args .log .records) (c .before .len .result) 0 (6 + 4 * c .before .len .result)
 start c =
     let s = c .before .before .before in
-    passed-start (s .args .log) _ _ (simp length-map at (s .good .0 .1 .1 .1 .1 .0 .1 .0 .1)) (c .before .len .ensures) (omega arith)
+    counted-start (s .args .log) _ _ (simp length-map at (s .good .0 .1 .1 .1 .1 .0 .1 .0 .1)) (c .before .len .ensures) (omega arith)
 
 mul-offset : tie.Need-mul-offset Inv-loop μ-loop
 mul-offset c = omega (arith, start c .few)
@@ -61,13 +62,13 @@ unfolding word
 write-pair-requires c κs =
     let w = c .before .before .before in
     let i = w .before .loop .inv in
-    let next = passed-next (i .0) (w .loop-test .taken) (c .before .length .ensures) in
+    let next = counted-next (i .0) (w .loop-test .taken) (c .before .length .ensures) in
     (omega arith, (omega arith, left-room (i .1) (table-next (i .0) (w .loop-test .taken) (c .before .length .ensures))))
 
 add-offset-2 : tie.Need-add-offset-2 Inv-loop μ-loop
 add-offset-2 c =
     let l = c .before .before .before .before in
-    omega (arith, passed-next (l .before .before .before .loop .inv .0) (l .before .before .loop-test .taken) (l .length .ensures))
+    omega (arith, counted-next (l .before .before .before .loop .inv .0) (l .before .before .loop-test .taken) (l .length .ensures))
 
 add-i : tie.Need-add-i Inv-loop μ-loop
 add-i c = search needs
@@ -81,7 +82,7 @@ loop-again c =
     let l = c .before .before .before .before in
     let w = l .before .before in
     let i = w .before .loop .inv in (
-      passed-next (i .0) (w .loop-test .taken) (l .length .ensures),
+      counted-next (i .0) (w .loop-test .taken) (l .length .ensures),
       left-put (i .1) (table-next (i .0) (w .loop-test .taken) (l .length .ensures)) _ (omega arith) _ (c .before .before .write-pair .ensures),
     )
 

@@ -3,14 +3,15 @@ use mathlib.Core.List.{flatten}
 use Prim.Native.Nat.{_-_}
 use native.Mathlib.Omega.{arith}
 use lib.ListN.{length, length-map}
-use Rattle.codec.proofs.Stored.{Left, left-start, left-end, left-room, left-put, Passed, bytesFrom, bytes-end, bytes-all, flat-next, passed-start, passed-next}
+use Rattle.codec.proofs.Stored.{Left, left-start, left-end, left-room, left-put}
+use Rattle.codec.proofs.InTurn.{Counted, bytesFrom, bytes-end, bytes-all, flat-next, counted-start, counted-next}
 use borrow.Author.Needs.{needs}
 use Rattle.codec.proofs.writer.write_records.Statement.{statement}
 use Rattle.codec.proofs.writer.write_records.Tie as tie
 
 abbrev Inv-loop : tie.InvT-loop
 Inv-loop out₀ count records at₀ i₀ out at i =
-    Passed records count i at × Left (flatten (bytesFrom records count 0)) out₀ at (flatten (bytesFrom records count i)) out
+    Counted records count i at × Left (flatten (bytesFrom records count 0)) out₀ at (flatten (bytesFrom records count i)) out
 
 abbrev μ-loop : tie.MeasureT-loop
 μ-loop out₀ count records at₀ i₀ out at i = count - i
@@ -21,7 +22,7 @@ len-requires c κs = search needs
 loop-holds : tie.Need-loop-holds Inv-loop μ-loop
 loop-holds c =
     let s = c .before .before .before in (
-      passed-start (s .args .log) _ _ (simp length-map at (s .good .0 .1 .1 .1 .1 .0 .1 .0 .1)) (c .before .len .ensures) (omega arith),
+      counted-start (s .args .log) _ _ (simp length-map at (s .good .0 .1 .1 .1 .1 .0 .1 .0 .1)) (c .before .len .ensures) (omega arith),
       left-start (rw (bytes-all (s .args .log) _ (c .before .len .ensures)) (s .pre)),
     )
 
@@ -51,7 +52,7 @@ length-requires c κs = search needs
 add-at : tie.Need-add-at Inv-loop μ-loop
 add-at c =
     let w = c .before .before .before .before .before .before in
-    omega (arith, passed-next (w .before .loop .inv .0) (w .loop-test .taken) (c .length .ensures))
+    omega (arith, counted-next (w .before .loop .inv .0) (w .loop-test .taken) (c .length .ensures))
 
 add-i : tie.Need-add-i Inv-loop μ-loop
 add-i c = search needs
@@ -63,7 +64,7 @@ loop-again : tie.Need-loop-again Inv-loop μ-loop
 loop-again c =
     let w = c .before .before .before .before .before .before in
     let i = w .before .loop .inv in (
-      passed-next (i .0) (w .loop-test .taken) (c .length .ensures),
+      counted-next (i .0) (w .loop-test .taken) (c .length .ensures),
       left-put (i .1) (flat-next (i .0) (w .loop-test .taken)) _ (omega (arith, c .length .ensures)) _ (c .before .before .before .write .ensures),
     )
 

@@ -1,6 +1,6 @@
 use native.Mathlib.Omega.{arith}
 use lib.ListN.{length-map}
-use Rattle.codec.proofs.Stored.{length-log}
+use Rattle.codec.proofs.InTurn.{length-log}
 use Rattle.codec.proofs.log.Log.len.Statement.{statement}
 use Rattle.codec.proofs.log.Log.len.Tie as tie
 

@@ -10,7 +10,7 @@ use Rattle.codec.specs.Image.{overLimit}
 use Rattle.codec.specs.Answers.{recordNumber}
 use Rattle.codec.proofs.Passed.{not-accepted}
 use Rattle.codec.proofs.Checked.{recordsOf, records-length, log-few, log-counted, refused-limit, refused-record, log-stopped, log-next}
-use mathlib.Core.Path.{_≡_, refl, ap, sym, _∙_}
+use mathlib.Core.Path.{_≡_, ap, sym, _∙_}
 use mathlib.Core.List.{List, map}
 use Prim.Native.Nat.{ℕ, _+_, _-_, _≤_, _<_}
 use native.Mathlib.Omega.{arith}
@@ -18,7 +18,6 @@ use borrow.Author.Needs.{needs}
 use lib.ListN.{length, take}
 use Rattle.codec.specs.Records.{bytesOf}
 use Rattle.codec.specs.Answers.{recordIn}
-use Rattle.codec.specs.declared.record.Record.{Record}
 use Rattle.codec.proofs.Passed.{Passed, passed-none, passed-all}
 use Rattle.codec.proofs.log.Log.refusal.Statement.{statement}
 use Rattle.codec.proofs.log.Log.refusal.Tie as tie

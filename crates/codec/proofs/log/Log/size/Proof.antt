@@ -5,14 +5,14 @@ use native.Mathlib.Omega.{arith}
 use lib.ListN.{length, length-append, length-map}
 use Rattle.codec.specs.Image.{magic, headLength, image}
 use Rattle.codec.proofs.Tables.{length-table}
-use Rattle.codec.proofs.Stored.{Passed, bytesFrom, bytes-end, bytes-all, flat-next, passed-start, passed-next}
+use Rattle.codec.proofs.InTurn.{Counted, bytesFrom, bytes-end, bytes-all, flat-next, counted-start, counted-next}
 use borrow.Author.Needs.{needs}
 use Rattle.codec.proofs.log.Log.size.Statement.{statement}
 use Rattle.codec.proofs.log.Log.size.Tie as tie
 
 abbrev Inv-loop : tie.InvT-loop
 Inv-loop count records size₀ i₀ size i =
-    Passed records count i size × (size + length (flatten (bytesFrom records count i)) ≡ size₀ + length (flatten (bytesFrom records count 0)))
+    Counted records count i size × (size + length (flatten (bytesFrom records count i)) ≡ size₀ + length (flatten (bytesFrom records count 0)))
 
 abbrev μ-loop : tie.MeasureT-loop
 μ-loop count records size₀ i₀ size i = count - i
@@ -20,8 +20,8 @@ abbrev μ-loop : tie.MeasureT-loop
 len-requires : tie.Need-len-requires Inv-loop μ-loop
 len-requires c κs = search needs
 
-start : (c : tie.After-records Inv-loop μ-loop) → Passed (c .before .before .args .self .records) (c .before .len .result) 0 (6 + 4 * c .before .len .result)
-start c = passed-start (c .before .before .args .self) _ _ (simp length-map at (c .before .before .good .0 .1 .1 .1 .1 .0 .1 .0 .1)) (c .before .len .ensures) (omega arith)
+start : (c : tie.After-records Inv-loop μ-loop) → Counted (c .before .before .args .self .records) (c .before .len .result) 0 (6 + 4 * c .before .len .result)
+start c = counted-start (c .before .before .args .self) _ _ (simp length-map at (c .before .before .good .0 .1 .1 .1 .1 .0 .1 .0 .1)) (c .before .len .ensures) (omega arith)
 
 mul-size : tie.Need-mul-size Inv-loop μ-loop
 mul-size c = omega (arith, start c .few)
@@ -44,7 +44,7 @@ length-requires c κs = search needs
 add-size-2 : tie.Need-add-size-2 Inv-loop μ-loop
 add-size-2 c =
     let l = c .before .before .before .loop in
-    omega (arith, passed-next (l .inv .0) (c .before .before .loop-test .taken) (c .length .ensures))
+    omega (arith, counted-next (l .inv .0) (c .before .before .loop-test .taken) (c .length .ensures))
 
 add-i : tie.Need-add-i Inv-loop μ-loop
 add-i c = search needs
@@ -57,7 +57,7 @@ loop-again c =
     let i = c .before .before .before .loop .inv in
     let taken = c .before .before .loop-test .taken in
     let more = simp length-append at (ap length (flat-next (i .0) taken .split)) in
-    (passed-next (i .0) taken (c .length .ensures), omega (arith, i .1, c .length .ensures))
+    (counted-next (i .0) taken (c .length .ensures), omega (arith, i .1, c .length .ensures))
 
 returns : tie.Need-returns Inv-loop μ-loop
 unfolding flatten image magic headLength

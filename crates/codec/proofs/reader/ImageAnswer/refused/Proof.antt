@@ -1,5 +1,3 @@
-use Rattle.codec.specs.Answers.{logIn}
-use Rattle.codec.specs.Image.{refused}
 use Rattle.codec.specs.Answers.{values, imageValues}
 use borrow.Author.Needs.{needs}
 use Rattle.codec.proofs.reader.ImageAnswer.refused.Statement.{statement}

@@ -1,5 +1,4 @@
-use mathlib.Core.Path.{sym, _∙_, ap}
-use mathlib.Core.Bool.{_&&_}
+use mathlib.Core.Path.{sym, _∙_}
 use native.Mathlib.Omega.{arith}
 use Rattle.codec.proofs.Fields.{fields-init, fields-commit, fields-prepared, fields-other, fields-zero, fields-high}
 use borrow.Author.Needs.{needs}

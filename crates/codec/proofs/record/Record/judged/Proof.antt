@@ -1,5 +1,4 @@
 use mathlib.Core.Path.{sym, _∙_}
-use mathlib.Core.Bool.{Bool}
 use borrow.Author.Tests.{not-true, not-false}
 use Rattle.codec.specs.Answers.{answerTo}
 use Rattle.codec.proofs.Fields.{wrong-kind, wrong-transaction, wrong-fields, right-record}

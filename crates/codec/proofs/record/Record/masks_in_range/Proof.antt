@@ -1,6 +1,3 @@
-use mathlib.Core.Path.{ap}
-use mathlib.Core.Bool.{_&&_}
-use lib.Dec.{leb}
 use borrow.Author.Needs.{needs}
 use Rattle.codec.proofs.record.Record.masks_in_range.Statement.{statement}
 use Rattle.codec.proofs.record.Record.masks_in_range.Tie as tie

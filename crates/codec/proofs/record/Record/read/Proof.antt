@@ -1,8 +1,6 @@
 use Rattle.codec.specs.declared.record.Record.{Record}
 use denote.Ref.{now}
-use mathlib.Core.Path.{_≡_, sym, _∙_, ap}
-use mathlib.Core.Bool.{Bool}
-use lib.ListN.{length, getD}
+use mathlib.Core.Path.{sym, _∙_, ap}
 use Rattle.codec.specs.Records.{lengthOf}
 use Rattle.codec.specs.Answers.{answerTo, recordFrom}
 use Rattle.codec.proofs.Fields.{wrong-length, read-as}
