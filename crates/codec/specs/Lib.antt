@@ -4,3 +4,4 @@ pub mod Records
 pub mod Image
 pub mod Messages
 pub mod Answers
+pub mod Open

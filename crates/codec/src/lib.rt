@@ -1,5 +1,4 @@
 // Log records, log images and message numbers.
-pub mod firmware;
 pub mod log;
 pub mod message;
 pub mod reader;

@@ -1,7 +1,7 @@
 // Message numbers: 16 bits for a message of a kind to or from a participant on a transaction.
 ghost use mathlib.Core.Path.{_≡_};
-ghost use Rattle.codec.specs.Messages.{messageParts, messageAnswer, numberOf, numberAnswer};
-ghost use Rattle.codec.specs.Answers.{partsIn, partsValues, numberValues};
+ghost use Rattle.codec.specs.Messages.{messageParts, messageAnswer, partsWritten, numberOf, numberAnswer};
+ghost use Rattle.codec.specs.Answers.{partsIn, partsValues, numberValues, written};
 
 pub struct Parts {
     pub transaction: u8,
@@ -66,4 +66,19 @@ impl Parts {
             56 * (transaction as u16) + 7 * ((participant - 1) as u16) + (kind as u16),
         )
     }
+}
+
+// For C (include/dpr.h): transaction, participant and kind of a message number: 0, or 26 and `parts` as it was.
+#[no_mangle]
+pub extern "C" fn dpr_message_parts(number: u16, parts: &mut [u8; 3]) -> u8
+    ensures { λ r. ⌜ written r (now (parts .exit)) ≡ partsWritten (messageParts number) (now (parts .entry)) ⌝ }
+{
+    let answer = Parts::from_number(number);
+    let PartsAnswer::Message(message) = answer else {
+        return Parts::REFUSED;
+    };
+    parts[0] = message.transaction;
+    parts[1] = message.participant;
+    parts[2] = message.kind;
+    0
 }

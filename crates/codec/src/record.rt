@@ -149,21 +149,17 @@ impl Record {
         }
     }
 
-    // Members not 0, PC a part of members.
-    fn masks_in_range(self) -> bool
-        ensures { λ r. ⌜ r ≡ (leb 1 (self .first) && sets.part (self .second) (self .first)) ⌝ }
-    {
-        (1 <= self.first) & part(self.second, self.first)
-    }
-
+    // Members not 0, PC a part of members; Init has PC not empty; a presumption is 0 or 1.
     fn fields_in_range(self) -> bool
         ensures { λ r. ⌜ r ≡ fieldsInRange (recordIn self) ⌝ }
     {
         let kind = self.kind;
+        let first = self.first;
+        let second = self.second;
         match kind {
-            Record::INIT => self.masks_in_range() & (self.second != 0),
-            Record::COMMIT => self.masks_in_range(),
-            Record::PREPARED => self.first <= 1,
+            Record::INIT => (1 <= first) & part(second, first) & (second != 0),
+            Record::COMMIT => (1 <= first) & part(second, first),
+            Record::PREPARED => first <= 1,
             Record::COMMIT_END | Record::ABORT_END | Record::COMMITTED | Record::ABORTED => true,
             _ => false,
         }

@@ -110,10 +110,11 @@ pub fn write_image(log: Log, buffer: &mut [u8], at: usize) -> u8
     place(log, buffer, at)
 }
 
-// Reads an image and writes its log again from `at` on: 0, or 20 to 25 and the buffer as it was.
+// For C (include/dpr.h): reads an image and writes its log again from `offset` on: 0, or 20 to 25 and `buffer` as it was.
 // No log that the reader gives is refused, so it is not checked again.
-pub fn copy_image(image: &[u8], buffer: &mut [u8], at: usize) -> u8
-    ensures { λ r. ⌜ written r (now (buffer .exit)) ≡ copyImage (now (image .entry)) at (now (buffer .entry)) ⌝ }
+#[no_mangle]
+pub extern "C" fn dpr_image_copy(image: &[u8], buffer: &mut [u8], offset: usize) -> u8
+    ensures { λ r. ⌜ written r (now (buffer .exit)) ≡ copyImage (now (image .entry)) offset (now (buffer .entry)) ⌝ }
 {
     let read = read_image(image);
     let answer = read.answer;
@@ -121,5 +122,5 @@ pub fn copy_image(image: &[u8], buffer: &mut [u8], at: usize) -> u8
         return answer;
     }
     let log = read.log;
-    place(log, buffer, at)
+    place(log, buffer, offset)
 }

@@ -1,9 +1,5 @@
--- What a theorem by computation opens: `unfolding codec-opens site-opens joint-opens` unfolds every definition that the plain run is made of.
-use mathlib.Core.List.{flatten}
-use Rattle.codec.specs.Lists.{select, any, all, every, same, onlyIf, first}
-use Rattle.codec.specs.Sets.{participants, member, empty, listed, bits, those, without, both, minus, part}
-use Rattle.codec.specs.Records.{bytesOf, recordOf, lengths, lengthOf, membersIn, presumeCommitIn, awaitsAcks, recordKindAt, masksInRange, fieldsInRange, isRecord, sequences, agrees, ofTransaction, inSequence, recordTests, recordRefusals}
-use Rattle.codec.specs.Image.{magic, headLength, word, pairTable, image, pairsOf, siteIn, countIn, pairsIn, recordsIn, most, overLimit, exact, tableExact, imageRefusals, readingNumber, readUnless, readImage, logRefusals, writeRefusals, stored, writeUnless, writeImage}
+-- What a theorem by computation opens: `unfolding codec-opens site-opens joint-opens` unfolds every definition that the plain run is made of
+-- (`codec-opens` stands in codec's specs).
 use Rattle.site.specs.Presumption.{sameOutcome, acks, silence, presumptionNumber}
 use Rattle.site.specs.Cohort.{masksOf, presumptionOf, owing}
 use Rattle.site.specs.Step.{messages, messageKind, receiver, given}
@@ -16,10 +12,6 @@ use Rattle.joint.specs.Refusals.{unopened, stranger, isDown, refusals}
 use Rattle.joint.specs.Plan.{acting, rowPlan, planned, step, orNothing, openedAs, closes, newest, mayDiscard, dropOldest, trimmed, remembers, forgottenUnless, discard, transactions, restarting, joined, restartAll, plan}
 use Rattle.joint.specs.Run.{refuse, partly, canCut, cutShort, carry, carryPlan, carryUnless, eventParsed, event, after, siteImage, isAppend, isForce, isSend, count, answerOf, answers}
 use Rattle.joint.specs.Drill.{chunks, eventsIn, space, newline, decimal, line, eventLines, ascii, letter, entryLetter, transactionLine, drill}
-
-unfoldable pub codec-opens : Unit {0}
-unfolding flatten select any all every same onlyIf first participants member empty listed bits those without both minus part bytesOf recordOf lengths lengthOf membersIn presumeCommitIn awaitsAcks recordKindAt masksInRange fieldsInRange isRecord sequences agrees ofTransaction inSequence recordTests recordRefusals magic headLength word pairTable image pairsOf siteIn countIn pairsIn recordsIn most overLimit exact tableExact imageRefusals readingNumber readUnless readImage logRefusals writeRefusals stored writeUnless writeImage
-codec-opens = tt
 
 unfoldable pub site-opens : Unit {0}
 unfolding sameOutcome acks silence presumptionNumber masksOf presumptionOf owing messages messageKind receiver given endRecord untilAcked telling inTurn inOrder tellAll preparing onBegin committing voted onYes aborting onNo coordinatorTimer acked ackedIf onAck coordinatorStep restartFrom coordinatorRestart outcomeRecord voting onPrepare acking finish ackingIf onTell participantTimer participantStep restartWith participantRestart coordinatorPhase waitingSet coordinatorOf participantPhase participantOf inputOf kindsReceived waitingInRange isMember namesNone inRangeAt argumentsInRange outcomeNumber summary stepResult coordinatorResult participantResult stepAt siteStep packed

@@ -1,24 +1,24 @@
-use mathlib.Core.Path.{sym, _∙_}
+use mathlib.Core.Path.{sym}
 use native.Mathlib.Omega.{arith}
 use Rattle.codec.proofs.Fields.{fields-init, fields-commit, fields-prepared, fields-other, fields-zero, fields-high}
 use borrow.Author.Needs.{needs}
 use Rattle.codec.proofs.record.Record.fields_in_range.Statement.{statement}
 use Rattle.codec.proofs.record.Record.fields_in_range.Tie as tie
 
-masks-in-range-requires : tie.Need-masks-in-range-requires
-masks-in-range-requires c κs = search needs
+part-requires : tie.Need-part-requires
+part-requires c κs = search needs
 
-masks-in-range-requires-2 : tie.Need-masks-in-range-requires-2
-masks-in-range-requires-2 c κs = search needs
+part-requires-2 : tie.Need-part-requires-2
+part-requires-2 c κs = search needs
 
 returns : tie.Need-returns
-returns c = rw (c .before .masks-in-range .ensures) (sym (fields-init (c .before .before .before .args .self) (omega arith) (c .before .before .match .keys1)))
+returns c = rw (c .part .ensures) (sym (fields-init (c .before .before .args .self) (omega arith) (c .before .match .keys1)))
 
 returns-2 : tie.Need-returns-2
-returns-2 c = c .masks-in-range2 .ensures ∙ sym (fields-commit (c .before .before .args .self) (omega arith) (c .before .match .keys2))
+returns-2 c = rw (c .part2 .ensures) (sym (fields-commit (c .before .before .args .self) (omega arith) (c .before .match .keys2)))
 
 returns-3 : tie.Need-returns-3
-returns-3 c = sym (fields-prepared (c .before .before .args .self) (c .before .match .keys3))
+returns-3 c = sym (fields-prepared (c .before .args .self) (c .match .keys3))
 
 returns-4 : tie.Need-returns-4
 returns-4 c = let rest = c .before .before .match .rest in sym (fields-other _ (c .before .if1 .left) (c .if2 .taken) (rest .0 .0 .1) (rest .0 .1) (rest .1))
@@ -33,8 +33,8 @@ pub fields-in-range-spec : {M : Type 1} → statement M
 fields-in-range-spec =
     tie.close
     (tie.spec
-    masks-in-range-requires
-    masks-in-range-requires-2
+    part-requires
+    part-requires-2
     returns
     returns-2
     returns-3

@@ -3,8 +3,8 @@ use mathlib.Core.Path.{sym, ap, _∙_}
 use Rattle.codec.specs.Answers.{partsValues}
 use Rattle.codec.proofs.Numbered.{parts-written, parts-refused, refused-values}
 use borrow.Author.Needs.{needs}
-use Rattle.codec.proofs.firmware.dpr_message_parts.Statement.{statement}
-use Rattle.codec.proofs.firmware.dpr_message_parts.Tie as tie
+use Rattle.codec.proofs.message.dpr_message_parts.Statement.{statement}
+use Rattle.codec.proofs.message.dpr_message_parts.Tie as tie
 
 from-number-requires : tie.Need-from-number-requires
 from-number-requires c κs = search needs

@@ -1,0 +1,56 @@
+// The examples of document 01's refusal table for images, buffers and message numbers, and K10's image, run and proved.
+use codec::firmware::dpr_message_parts;
+use codec::log::Log;
+use codec::reader::read_image;
+use codec::writer::{copy_image, write_image};
+
+ghost use mathlib.Core.Path.{_≡_};
+ghost use Rattle.codec.specs.Image.{readingNumber, readImage};
+
+// The number that refuses an image, or 0.
+fn number(image: &[u8]) -> u8
+    ensures { λ r. ⌜ r ≡ readingNumber (readImage (now (image .entry))) ⌝ }
+{
+    let answer = read_image(image);
+    answer.answer
+}
+
+fn images() {
+    // 20: under 6 bytes.
+    check::expect(number(b"\x44\x50\x52") == 20);
+    // 21: site 9.
+    check::expect(number(b"\x44\x50\x52\x4C\x09\x00") == 21);
+    // 22: first offset 0B, one record.
+    check::expect(number(b"\x44\x50\x52\x4C\x01\x01\x0B\x00\x03\x00\x05\x00\x01") == 22);
+    // 23: 05 00 02.
+    check::expect(number(b"\x44\x50\x52\x4C\x01\x01\x0A\x00\x03\x00\x05\x00\x02") == 23);
+    // 24: 05 00 00 05 00 00.
+    check::expect(number(b"\x44\x50\x52\x4C\x01\x02\x0E\x00\x03\x00\x11\x00\x03\x00\x05\x00\x00\x05\x00\x00") == 24);
+    // K10's image.
+    check::expect(number(b"\x44\x50\x52\x4C\x01\x01\x0A\x00\x03\x00\x05\x00\x01") == 0);
+}
+
+fn buffers() {
+    // 25: 5 bytes, which stay as they were.
+    let mut short = [0xEEu8; 5];
+    check::expect(write_image(Log::new(1), &mut short, 0) == 25);
+    check::expect(short[0] == 0xEE);
+    // K10's image, written again at offset 1 of 15 bytes.
+    let mut buffer = [0xEEu8; 15];
+    check::expect(copy_image(b"\x44\x50\x52\x4C\x01\x01\x0A\x00\x03\x00\x05\x00\x01", &mut buffer, 1) == 0);
+    check::expect(check::same(&buffer, b"\xEE\x44\x50\x52\x4C\x01\x01\x0A\x00\x03\x00\x05\x00\x01\xEE"));
+}
+
+fn messages() {
+    // 26: message number 01C0.
+    let mut parts = [0xEEu8; 3];
+    check::expect(dpr_message_parts(0x01C0, &mut parts) == 26);
+    check::expect(dpr_message_parts(447, &mut parts) == 0);
+    check::expect(check::same(&parts, b"\x07\x08\x06"));
+}
+
+fn main() {
+    images();
+    buffers();
+    messages();
+}
