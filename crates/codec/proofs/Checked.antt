@@ -9,18 +9,15 @@ use lib.Seq.{getD-take}
 use Rattle.codec.specs.Lists.{first}
 use Rattle.codec.specs.Records.{LogRecord, bytesOf, recordOf, isRecord, recordRefusals}
 use Rattle.codec.specs.Image.{overLimit, logRefusals}
-use Rattle.codec.specs.Answers.{recordIn, noRecord, logIn, mayFollow, recordNumber, answerTo}
+use Rattle.codec.specs.Answers.{recordIn, bytesIn, noRecord, logIn, mayFollow, recordNumber, answerTo}
 use Rattle.codec.specs.declared.record.Record.{Record}
+use Rattle.codec.specs.declared.record.RecordAnswer.{RecordAnswer}
 use Rattle.codec.specs.declared.record.RecordAnswer.the-variants.{Accepted}
 use Rattle.codec.specs.declared.log.Log.{Log}
 use Rattle.codec.proofs.Lists.{getD-map-below, take-taken}
 use Rattle.codec.proofs.Passed.{Passed, passed-next, stopped}
 
--- the first `count` records of an array, as bytes
-abbrev pub recordsOf : ℕ → List Record → List (List ℕ)
-recordsOf count records = map bytesOf (take count (map recordIn records))
-
-pub records-length : (count : ℕ) (records : List Record) → count ≤ length records → length (recordsOf count records) ≡ count
+pub records-length : (count : ℕ) (records : List Record) → count ≤ length records → length (bytesIn count records) ≡ count
 records-length count records h = simp (length-map, length-take) (omega arith)
 
 -- a log counts no more records than there are
@@ -28,7 +25,7 @@ pub log-few : (l : Log) → length (l .records) ≡ 24 → length (logIn l) ≤ 
 unfolding logIn
 log-few l h = simp (length-take, length-map) (omega arith)
 
-pub log-counted : (l : Log) → recordsOf (length (logIn l)) (l .records) ≡ map bytesOf (logIn l)
+pub log-counted : (l : Log) → bytesIn (length (logIn l)) (l .records) ≡ map bytesOf (logIn l)
 unfolding logIn
 log-counted l = ap (map bytesOf) (take-taken (l .count) (map recordIn (l .records)))
 
@@ -40,28 +37,32 @@ pub refused-record : (s : ℕ) (log : List LogRecord) → overLimit s (length lo
 unfolding logRefusals first
 refused-record s log e = rw e
 
-module _ (s count : ℕ) (records newest : List Record) (i : ℕ) (p : Passed s (recordsOf count records) newest i) (more : i < count) (few : count ≤ length records) where
+-- the answer on a record of a site, behind the newest of its transaction
+abbrev pub answerFor : ℕ → List Record → Record → RecordAnswer
+answerFor s newest x = answerTo (isRecord s (bytesOf (recordIn x))) (mayFollow (recordIn (getD newest (x .transaction) noRecord)) (recordIn x)) x
+
+module _ (s count : ℕ) (records newest : List Record) (i : ℕ) (p : Passed s (bytesIn count records) newest i) (more : i < count) (few : count ≤ length records) where
   abbrev x : Record
   x = getD records i noRecord
 
-  here-is : getD (recordsOf count records) i [] ≡ bytesOf (recordIn x)
+  here-is : getD (bytesIn count records) i [] ≡ bytesOf (recordIn x)
   here-is =
       getD-map-below bytesOf (take count (map recordIn records)) i (recordIn noRecord) [] (simp (length-take, length-map) (omega arith))
       ∙ ap bytesOf (getD-take count (map recordIn records) i (recordIn noRecord) more ∙ getD-map-below recordIn records i noRecord (recordIn noRecord) (omega arith))
 
-  there : i < length (recordsOf count records)
+  there : i < length (bytesIn count records)
   there = rw (records-length count records few) more
 
-  record-is : isRecord s (getD (recordsOf count records) i []) ≡ true → recordIn x ≡ recordOf (getD (recordsOf count records) i [])
+  record-is : isRecord s (getD (bytesIn count records) i []) ≡ true → recordIn x ≡ recordOf (getD (bytesIn count records) i [])
   unfolding recordOf bytesOf
   record-is e = rw here-is
 
-  pub log-stopped : (recordNumber (answerTo (isRecord s (bytesOf (recordIn x))) (mayFollow (recordIn (getD newest (x .transaction) noRecord)) (recordIn x)) x) ≡ 0 → ⊥)
-      → recordNumber (answerTo (isRecord s (bytesOf (recordIn x))) (mayFollow (recordIn (getD newest (x .transaction) noRecord)) (recordIn x)) x) ≡ first (recordRefusals s [] (recordsOf count records))
+  pub log-stopped : (recordNumber (answerFor s newest x) ≡ 0 → ⊥)
+      → recordNumber (answerFor s newest x) ≡ first (recordRefusals s [] (bytesIn count records))
   unfolding recordOf bytesOf
-  log-stopped = rw here-is at (stopped s (recordsOf count records) newest i p there x record-is)
+  log-stopped = rw here-is at (stopped s (bytesIn count records) newest i p there x record-is)
 
-  pub log-next : (r : Record) → answerTo (isRecord s (bytesOf (recordIn x))) (mayFollow (recordIn (getD newest (x .transaction) noRecord)) (recordIn x)) x ≡ Accepted r
-      → (r .transaction < 8) × Passed s (recordsOf count records) (set newest (r .transaction) r) (i + 1)
+  pub log-next : (r : Record) → answerFor s newest x ≡ Accepted r
+      → (r .transaction < 8) × Passed s (bytesIn count records) (set newest (r .transaction) r) (i + 1)
   unfolding recordOf bytesOf
-  log-next = rw here-is at (passed-next s (recordsOf count records) newest i p there x record-is)
+  log-next = rw here-is at (passed-next s (bytesIn count records) newest i p there x record-is)

@@ -12,13 +12,13 @@ use lib.Seq.{getD-drop, take-suc-set, take-all}
 use Rattle.codec.specs.Lists.{first}
 use Rattle.codec.specs.Records.{recordOf, isRecord, recordRefusals}
 use Rattle.codec.specs.Image.{headLength, siteIn, countIn, pairsIn, recordsIn, exact, tableExact, refused, readUnless}
-use Rattle.codec.specs.Answers.{recordIn, recordFrom, noRecord, mayFollow, recordNumber, answerTo, values, Readable}
+use Rattle.codec.specs.Answers.{wordAt, Within, recordIn, recordFrom, noRecord, mayFollow, recordNumber, answerTo, values, Readable}
 use Rattle.codec.specs.declared.record.Record.{Record}
 use Rattle.codec.specs.declared.record.RecordAnswer.{RecordAnswer}
 use Rattle.codec.specs.declared.record.RecordAnswer.the-variants.{Accepted}
 use Rattle.codec.proofs.Fields.{from-bytes}
 use Rattle.codec.proofs.Tables.{named, exact-cons, exact-end}
-use Rattle.codec.proofs.Pairs.{wordAt, pairs-length, records-length, pair-here}
+use Rattle.codec.proofs.Pairs.{pairs-length, records-length, pair-here}
 use Rattle.codec.proofs.Lists.{getD-map-below, map-set}
 use Rattle.codec.proofs.Passed.{Passed, passed-none, passed-next, passed-all, stopped, taken, done-next}
 
@@ -64,6 +64,10 @@ module _ (bytes : List ℕ) (readable : Readable bytes) (records newest : List R
 
   pub part-inside : at + size ≤ length bytes
   part-inside = exact-end (at + size) (drop (i + 1) (pairsIn bytes)) (length bytes) (here .1)
+
+  pub within : Within bytes at i
+  unfolding headLength
+  within = record { pair = omega (arith, whole); part = part-inside }
 
   there : i < length (recordsIn bytes)
   there = rw (records-length bytes whole) more

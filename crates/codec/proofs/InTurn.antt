@@ -1,18 +1,22 @@
 -- The records of a log in turn, as the loops of the writer pass them. Assumes nothing.
-use Prim.Native.Nat.{ℕ, _+_, _*_, _≤_, _<_, min}
+use Prim.Native.Nat.{ℕ, _+_, _-_, _*_, _≤_, _<_, min, zero-le}
 use mathlib.Core.Path.{_≡_, refl, ap, _∙_}
 use mathlib.Core.List.{List, [], _∷_, _++_, map, flatten}
+use native.Mathlib.Nat.{lt-of-lt-of-le}
 use native.Mathlib.Numerals.{add-one}
 use native.Mathlib.Omega.{arith}
 use lib.ListN.{length, getD, take, drop, length-take, length-map, drop-of-length-le, List·getD-map}
 use lib.Seq.{drop-cons, getD-take}
-use Rattle.codec.specs.Records.{LogRecord, bytesOf}
+use mir.Syntax.{w64}
+use mir.Val.{Fits}
+use Rattle.codec.specs.Records.{bytesOf}
 use Rattle.codec.specs.Image.{magic, headLength, word, pairTable, image}
-use Rattle.codec.specs.Answers.{recordIn, noRecord, logIn}
+use Rattle.codec.specs.Answers.{recordIn, noRecord, logIn, bytesIn}
 use Rattle.codec.specs.declared.record.Record.{Record}
 use Rattle.codec.specs.declared.log.Log.{Log}
 use Rattle.codec.proofs.Fields.{bytes-length, length-most}
 use Rattle.codec.proofs.Lists.{take-taken}
+use Rattle.codec.proofs.Tables.{length-table}
 use Rattle.codec.proofs.Stored.{Next}
 
 -- the records of a log, as bytes, from one on
@@ -26,9 +30,28 @@ pub record Counted (records : List Record) (n i sum : ℕ) : Type 0 where
   pub fit : length records ≡ 24
   pub near : sum ≤ 102 + 4 * i
 
+pub counted-start : (records : List Record) (n sum : ℕ) → length records ≡ 24 → n ≤ 24 → sum ≤ 6 + 4 * n → Counted records n 0 sum
+counted-start records n sum fit few h = record { upto = zero-le; few = few; fit = fit; near = omega arith }
+
+pub head-fits : {n : ℕ} → n ≤ 24 → Fits w64 (4 * n) × Fits w64 (6 + 4 * n)
+head-fits h = (omega arith, omega arith)
+
 module _ {records : List Record} {n i sum : ℕ} (w : Counted records n i sum) where
   pub bytes-end : n ≤ i → bytesFrom records n i ≡ []
   bytes-end p = ap (map bytesOf) (drop-of-length-le (take n (map recordIn records)) {i = i} (simp length-take (omega arith)))
+
+  -- what a turn of the loop asks of i
+  pub index-below : i < n → i < 24
+  index-below p = lt-of-lt-of-le p (w .few)
+
+  pub place-fits : i < n → Fits w64 (i * 4) × Fits w64 (4 * i)
+  place-fits p = (omega arith, omega arith)
+
+  pub next-fits : i < n → Fits w64 (i + 1)
+  next-fits p = omega arith
+
+  pub next-less : i < n → n - (i + 1) < n - i
+  next-less p = omega arith
 
   bytes-next : i < n → bytesFrom records n i ≡ bytesOf (recordIn (getD records i noRecord)) ∷ bytesFrom records n (i + 1)
   bytes-next p =
@@ -48,6 +71,12 @@ module _ {records : List Record} {n i sum : ℕ} (w : Counted records n i sum) w
         let x = getD records i noRecord in
         record { upto = omega arith; few = w .few; fit = w .fit; near = omega (arith, bytes-length x, length-most (x .kind)) }
 
+    pub sum-fits : Fits w64 (sum + k)
+    sum-fits = let next = counted-next in omega arith
+
+    pub pair-small : (sum < 65536) × (k < 65536)
+    pair-small = let next = counted-next in (omega arith, omega arith)
+
     pub table-next : Next (pairTable sum (bytesFrom records n i)) (word sum ++ word k) (pairTable (sum + k) (bytesFrom records n (i + 1)))
     unfolding pairTable
     table-next = record { split = rw e (ap (pairTable sum) (bytes-next p)) }
@@ -58,24 +87,27 @@ pub length-log : (log : Log) → length (log .records) ≡ 24 → length (logIn 
 unfolding logIn
 length-log log e = simp (length-take, length-map, e)
 
-pub counted-start : (log : Log) (n sum : ℕ) → length (log .records) ≡ 24 → n ≡ length (logIn log) → sum ≤ 6 + 4 * n → Counted (log .records) n 0 sum
-counted-start log n sum fit e h =
-    let size = length-log log fit in
-    record { upto = omega arith; few = omega arith; fit = fit; near = omega arith }
+-- the table and the records of an image
+abbrev pub tableOf : ℕ → List Record → List ℕ
+tableOf n records = pairTable (headLength n) (bytesIn n records)
 
-pub bytes-all : (log : Log) (n : ℕ) → n ≡ length (logIn log) → bytesFrom (log .records) n 0 ≡ map bytesOf (logIn log)
-unfolding logIn
-bytes-all log n e = rw (e, take-taken (log .count) (map recordIn (log .records)))
+abbrev pub recordsOf : ℕ → List Record → List ℕ
+recordsOf n records = flatten (bytesIn n records)
 
-abbrev pub tableOf : List LogRecord → List ℕ
-tableOf log = pairTable (headLength (length log)) (map bytesOf log)
+pub image-table : (n : ℕ) (records : List Record) → Next (tableOf n records ++ recordsOf n records) (tableOf n records) (recordsOf n records)
+image-table n records = record { split = refl }
 
-abbrev pub recordsOf : List LogRecord → List ℕ
-recordsOf log = flatten (map bytesOf log)
+module _ (log : Log) (n : ℕ) (e : n ≡ length (logIn log)) where
+  pub log-few : length (log .records) ≡ 24 → n ≤ 24
+  log-few fit = omega (arith, length-log log fit)
 
-pub image-head : (s : ℕ) (log : List LogRecord) → Next (image s log) (magic ++ s ∷ length log ∷ []) (tableOf log ++ recordsOf log)
-unfolding image magic
-image-head s log = record { split = refl }
+  pub bytes-all : bytesIn n (log .records) ≡ map bytesOf (logIn log)
+  unfolding logIn
+  bytes-all = rw (e, take-taken (log .count) (map recordIn (log .records)))
 
-pub image-table : (log : List LogRecord) → Next (tableOf log ++ recordsOf log) (tableOf log) (recordsOf log)
-image-table log = record { split = refl }
+  pub table-length : length (tableOf n (log .records)) ≡ 4 * n
+  table-length = rw (length-table, bytes-all, length-map, ← e)
+
+  pub image-head : Next (image (log .site) (logIn log)) (magic ++ log .site ∷ n ∷ []) (tableOf n (log .records) ++ recordsOf n (log .records))
+  unfolding image magic
+  image-head = record { split = rw (bytes-all, e) }

@@ -1,33 +1,55 @@
 -- The tests on an image before its records, in their order. Assumes nothing.
-use mathlib.Core.Path.{_≡_, refl}
-use mathlib.Core.Bool.{Bool, true, false, _&&_, or-true}
-use mathlib.Core.List.{List, [], _∷_}
-use Prim.Native.Nat.{ℕ, zero, suc, _<_, _≤_}
+use native.Mathlib.Numerals.{add-one}
+use lib.Seq.{drop-cons, getD-take}
+use mathlib.Core.Path.{_≡_, refl, _∙_}
+use mathlib.Core.Bool.{true, false, _&&_, or-true}
+use mathlib.Core.List.{List, []}
+use Prim.Native.Nat.{ℕ, zero, suc, _+_, _<_, _≤_}
 use native.Mathlib.Omega.{arith}
-use borrow.Author.Tests.{lt-ltb, le-ltb, ltb-false}
+use borrow.Author.Tests.{lt-ltb, le-ltb, ltb-false, eq-eqb, ne-eqb}
 use lib.Dec.{eqb, ltb}
-use lib.ListN.{length, getD, take}
+use lib.ListN.{length, getD, take, drop, length-take, drop-of-length-le}
 use Rattle.codec.specs.Lists.{first, same}
 use Rattle.codec.specs.Records.{recordRefusals}
 use Rattle.codec.specs.Image.{magic, siteIn, countIn, recordsIn, most, overLimit, tableExact, imageRefusals, refused, readUnless, readImage}
 use Rattle.codec.proofs.Refusals.{or-none}
 
--- the opening, compared byte by byte
-pub opening : (bytes : List ℕ) → 4 ≤ length bytes
-    → (((eqb (getD bytes 0 0) 0x44 && eqb (getD bytes 1 0) 0x50) && eqb (getD bytes 2 0) 0x52) && eqb (getD bytes 3 0) 0x4C) ≡ same (take 4 bytes) magic
-unfolding same magic
-opening [] h = absurd (omega arith)
-opening (a ∷ []) h = absurd (omega arith)
-opening (a ∷ b ∷ []) h = absurd (omega arith)
-opening (a ∷ b ∷ c ∷ []) h = absurd (omega arith)
-opening (a ∷ b ∷ c ∷ d ∷ bytes) h = by (eqb a 0x44) (eqb b 0x50) (eqb c 0x52) (eqb d 0x4C)
-  where
-    by : (a b c d : Bool) → (((a && b) && c) && d) ≡ (a && (b && (c && (d && true))))
-    by false b c d = refl
-    by true false c d = refl
-    by true true false d = refl
-    by true true true false = refl
-    by true true true true = refl
+-- ---- the opening, compared byte by byte
+
+same-at : (l m : List ℕ) (i : ℕ) → i < length l → i < length m
+    → same (drop i l) (drop i m) ≡ (eqb (getD l i 0) (getD m i 0) && same (drop (i + 1) l) (drop (i + 1) m))
+unfolding same
+same-at l m i h g = rw (drop-cons l i 0 h, drop-cons m i 0 g, add-one)
+
+-- the first i bytes are those of the opening
+pub record Opening (bytes : List ℕ) (i : ℕ) : Type 0 where
+  pub upto : i ≤ 4
+  pub long : 4 ≤ length bytes
+  pub left : same (take 4 bytes) magic ≡ same (drop i (take 4 bytes)) (drop i magic)
+
+pub opening-start : (bytes : List ℕ) → 4 ≤ length bytes → Opening bytes 0
+opening-start bytes h = record { upto = omega arith; long = h; left = refl }
+
+module _ (bytes : List ℕ) (i : ℕ) (o : Opening bytes i) where
+  pub opening-end : 4 ≤ i → same (take 4 bytes) magic ≡ true
+  unfolding same magic
+  opening-end h =
+      o .left ∙ rw (drop-of-length-le (take 4 bytes) {i = i} (simp length-take (omega arith)), drop-of-length-le magic {i = i} h)
+
+  module _ (more : i < 4) where
+    here : same (take 4 bytes) magic ≡ (eqb (getD bytes i 0) (getD magic i 0) && same (drop (i + 1) (take 4 bytes)) (drop (i + 1) magic))
+    unfolding magic
+    here =
+        o .left ∙ same-at (take 4 bytes) magic i (simp length-take (omega (arith, o .long))) more
+        ∙ rw (getD-take 4 bytes i 0 more)
+
+    pub opening-next : getD bytes i 0 ≡ getD magic i 0 → Opening bytes (i + 1)
+    opening-next e = record { upto = omega arith; long = o .long; left = here ∙ rw (eq-eqb (getD bytes i 0) (getD magic i 0) e) }
+
+    pub opening-differs : (getD bytes i 0 ≡ getD magic i 0 → ⊥) → same (take 4 bytes) magic ≡ false
+    opening-differs n = here ∙ rw (ne-eqb (getD bytes i 0) (getD magic i 0) n)
+
+-- ---- before the records
 
 -- no image holds more than 24 records
 pub few-records : (s n : ℕ) → overLimit s n ≡ false → n ≤ 24

@@ -9,6 +9,7 @@ use lib.Dec.{eqb}
 use lib.ListN.{length, getD, take, drop, length-take, length-drop, length-map, drop-of-length-le}
 use lib.Seq.{getD-take, getD-drop, drop-drop}
 use Rattle.codec.specs.Image.{headLength, pairsOf, countIn, pairsIn, recordsIn, exact, tableExact}
+use Rattle.codec.specs.Answers.{wordAt}
 use Rattle.codec.proofs.Tables.{length-pairs}
 
 pairs-drop : (i : ℕ) (table : List ℕ) → drop i (pairsOf table) ≡ pairsOf (drop (4 * i) table)
@@ -22,10 +23,6 @@ pairs-drop (suc i) table = let four : 4 * suc i ≡ suc (suc (suc (suc (4 * i)))
     by (a ∷ b ∷ []) more = refl
     by (a ∷ b ∷ c ∷ []) more = refl
     by (a ∷ b ∷ c ∷ d ∷ rest) more = more rest
-
--- 16 bits, low byte first
-abbrev pub wordAt : List ℕ → ℕ → ℕ
-wordAt bytes at = getD bytes at 0 + 256 * getD bytes (at + 1) 0
 
 pairs-cons : (table : List ℕ) → 4 ≤ length table → pairsOf table ≡ (wordAt table 0, wordAt table 2) ∷ pairsOf (drop 4 table)
 unfolding pairsOf

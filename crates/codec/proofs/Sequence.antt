@@ -91,7 +91,7 @@ last-kind : (z : LogRecord) (own : List LogRecord) → lastOr z own .kind ≡ la
 last-kind z [] = refl
 last-kind z (y ∷ own) = last-kind y own
 
-may-next : (y x : LogRecord) → y .kind ≤ 7 → x .kind ≤ 7 → mayFollow y x ≡ (next (y .kind) (x .kind) && agrees y x)
+pub may-next : (y x : LogRecord) → y .kind ≤ 7 → x .kind ≤ 7 → mayFollow y x ≡ (next (y .kind) (x .kind) && agrees y x)
 unfolding mayFollow every
 may-next y x h g = rw (le-leb (y .kind) 7 h, le-leb (x .kind) 7 g, and-true (agrees y x))
 

@@ -1,12 +1,12 @@
 -- What the program's values stand for, and its answers in 01's numbers. Nothing here says what is right: Records, Image and Messages do.
-use Prim.Native.Nat.{ℕ, _-_, _/_, _%_, _^_, _≤_}
+use Prim.Native.Nat.{ℕ, _+_, _*_, _-_, _/_, _%_, _^_, _≤_}
 use mathlib.Core.Path.{_≡_}
 use mathlib.Core.Bool.{Bool, true, false}
 use mathlib.Core.List.{List, [], _∷_, map}
 use lib.ListN.{length, take, getD}
 use lib.Dec.{eqb, leb}
 use Rattle.codec.specs.Lists.{every}
-use Rattle.codec.specs.Records.{LogRecord, lengthOf, agrees}
+use Rattle.codec.specs.Records.{LogRecord, bytesOf, lengthOf, agrees}
 use Rattle.codec.specs.Image.{Reading, accepted, refused, Written, countIn, tableExact}
 use Rattle.codec.specs.Messages as messages
 use Rattle.codec.specs.declared.reader.ImageAnswer.{ImageAnswer}
@@ -53,6 +53,10 @@ answerTo true true x = Accepted x
 unfoldable pub logIn : Log → List LogRecord
 logIn l = take (l .count) (map recordIn (l .records))
 
+-- the first `count` of an array's records, as bytes
+abbrev pub bytesIn : ℕ → List Record → List (List ℕ)
+bytesIn count records = map bytesOf (take count (map recordIn records))
+
 unfoldable pub partsIn : Parts → messages.Parts
 partsIn m = record { transaction = m .transaction; participant = m .participant; kind = m .kind }
 
@@ -86,3 +90,12 @@ pub record Readable (bytes : List ℕ) : Type 0 where
   pub whole : 6 ≤ length bytes
   pub few : countIn bytes ≤ 24
   pub exact : tableExact bytes ≡ true
+
+-- 16 bits, low byte first
+abbrev pub wordAt : List ℕ → ℕ → ℕ
+wordAt bytes at = getD bytes at 0 + 256 * getD bytes (at + 1) 0
+
+-- record i, which starts at `at`, lies in the image, and so does its pair
+pub record Within (bytes : List ℕ) (at i : ℕ) : Type 0 where
+  pub pair : 6 + 4 * i + 4 ≤ length bytes
+  pub part : at + wordAt bytes (6 + 4 * i + 2) ≤ length bytes

@@ -1,4 +1,5 @@
 // The stable records of a site, as an image holds them.
+use crate::record::Newest;
 use crate::record::Record;
 use crate::record::RecordAnswer;
 ghost use mathlib.Core.Path.{_≡_};
@@ -74,16 +75,15 @@ impl Log {
             return 21;
         }
         let records = self.records;
-        let mut newest = [Record::NONE; 8];
+        let mut newest = Newest::none();
         let mut i = 0;
         while i < count {
             let next = records[i];
-            let answer = next.judged(site, newest);
+            let answer = next.judged(site, newest.behind(next));
             let RecordAnswer::Accepted(record) = answer else {
                 return answer.number();
             };
-            let transaction = record.transaction;
-            newest[transaction as usize] = record;
+            newest = newest.with(record);
             i += 1;
         }
         0

@@ -1,15 +1,16 @@
 // Reading a log image.
 use crate::log::Log;
+use crate::record::Newest;
 use crate::record::Record;
 use crate::record::RecordAnswer;
 ghost use mathlib.Core.Path.{_≡_};
 ghost use Prim.Native.Nat.{_+_, _*_, _≤_, _<_};
 ghost use mathlib.Core.List.{[]};
-ghost use lib.ListN.{length, getD, take};
+ghost use lib.ListN.{length, take};
 ghost use Rattle.codec.specs.Lists.{first, same};
 ghost use Rattle.codec.specs.Records.{recordRefusals};
 ghost use Rattle.codec.specs.Image.{magic, siteIn, recordsIn, refused, readUnless, readImage, tableExact};
-ghost use Rattle.codec.specs.Answers.{values, imageValues, Readable};
+ghost use Rattle.codec.specs.Answers.{values, imageValues, wordAt, Readable, Within};
 
 // 0 and the log, or the number that refuses and no log.
 pub struct ImageAnswer {
@@ -33,16 +34,20 @@ fn opens(bytes: &[u8]) -> bool
     requires { ⌜ 4 ≤ length (now bytes) ⌝ }
     ensures { λ r. ⌜ r ≡ same (take 4 (now (bytes .entry))) magic ⌝ }
 {
-    (bytes[0] == Log::OPENING[0])
-        & (bytes[1] == Log::OPENING[1])
-        & (bytes[2] == Log::OPENING[2])
-        & (bytes[3] == Log::OPENING[3])
+    let mut i: usize = 0;
+    while i < 4 {
+        if bytes[i] != Log::OPENING[i] {
+            return false;
+        }
+        i += 1;
+    }
+    true
 }
 
 // 16 bits, low byte first.
 fn word(bytes: &[u8], at: usize) -> usize
     requires { ⌜ at + 1 < length (now bytes) ⌝ }
-    ensures { λ r. ⌜ (r ≡ getD (now (bytes .entry)) at 0 + 256 * getD (now (bytes .entry)) (at + 1) 0) × (r < 65536) ⌝ }
+    ensures { λ r. ⌜ (r ≡ wordAt (now (bytes .entry)) at) × (r < 65536) ⌝ }
 {
     (bytes[at] as usize) + 256 * (bytes[at + 1] as usize)
 }
@@ -69,6 +74,14 @@ fn table_exact(bytes: &[u8]) -> bool
     at == bytes.len()
 }
 
+// Where record i ends, which starts at `at`.
+fn end_of(bytes: &[u8], at: usize, i: usize) -> usize
+    requires { ⌜ Within (now bytes) at i ⌝ }
+    ensures { λ r. ⌜ r ≡ at + wordAt (now (bytes .entry)) (6 + 4 * i + 2) ⌝ }
+{
+    at + word(bytes, Log::FIXED + Log::PAIR * i + 2)
+}
+
 // The records behind an exact table. The first that fails ends the reading.
 fn read_records(bytes: &[u8]) -> ImageAnswer
     requires { ⌜ Readable (now bytes) ⌝ }
@@ -77,17 +90,16 @@ fn read_records(bytes: &[u8]) -> ImageAnswer
     let site = bytes[4];
     let count = bytes[5] as usize;
     let mut records = [Record::NONE; 24];
-    let mut newest = [Record::NONE; 8];
+    let mut newest = Newest::none();
     let mut at = Log::FIXED + Log::PAIR * count;
     let mut i = 0;
     while i < count {
-        let end = at + word(bytes, Log::FIXED + Log::PAIR * i + 2);
+        let end = end_of(bytes, at, i);
         let answer = Record::read(&bytes[at..end], site, newest);
         let RecordAnswer::Accepted(record) = answer else {
             return ImageAnswer::refused(answer.number());
         };
-        let transaction = record.transaction;
-        newest[transaction as usize] = record;
+        newest = newest.with(record);
         records[i] = record;
         at = end;
         i += 1;

@@ -5,7 +5,7 @@ ghost use mathlib.Core.Path.{_≡_};
 ghost use mathlib.Core.Bool.{_&&_};
 ghost use Prim.Native.Nat.{_≤_};
 ghost use lib.Dec.{leb};
-ghost use lib.ListN.{length, getD};
+ghost use lib.ListN.{length, getD, set, replicate};
 ghost use Rattle.codec.specs.Records.{bytesOf, lengthOf, recordKindAt, fieldsInRange, isRecord, recordOf};
 ghost use Rattle.codec.specs.Image.{stored};
 ghost use Rattle.codec.specs.Sets as sets;
@@ -17,6 +17,45 @@ pub struct Record {
     pub transaction: u8,
     pub first: u8,
     pub second: u8,
+}
+
+// The newest record of each transaction among some records, NONE where there is none.
+pub struct Newest {
+    pub of: [Record; 8],
+}
+
+impl Newest {
+    pub fn none() -> Newest
+        ensures { λ r. ⌜ r .of ≡ replicate 8 noRecord ⌝ }
+    {
+        Newest {
+            of: [Record::NONE; 8],
+        }
+    }
+
+    // The newest record of a record's transaction.
+    pub fn behind(self, x: Record) -> Record
+        ensures { λ r. ⌜ r ≡ getD (self .of) (x .transaction) noRecord ⌝ }
+    {
+        let transaction = x.transaction;
+        if Record::LAST_TRANSACTION < transaction {
+            return Record::NONE;
+        }
+        self.of[transaction as usize]
+    }
+
+    // With one record more.
+    pub fn with(self, x: Record) -> Newest
+        ensures { λ r. ⌜ r .of ≡ set (self .of) (x .transaction) x ⌝ }
+    {
+        let transaction = x.transaction;
+        if Record::LAST_TRANSACTION < transaction {
+            return self;
+        }
+        let mut newest = self;
+        newest.of[transaction as usize] = x;
+        newest
+    }
 }
 
 // What reading one record gives: the record; 23; or 24.
@@ -127,15 +166,15 @@ impl Record {
     }
 
     // The bytes as a record of a site, behind the newest record of each transaction.
-    pub fn read(bytes: &[u8], site: u8, newest: [Record; 8]) -> RecordAnswer
-        ensures { λ r. ⌜ r ≡ answerTo (isRecord site (now (bytes .entry))) (mayFollow (recordIn (getD newest (recordFrom (now (bytes .entry)) .transaction) noRecord)) (recordOf (now (bytes .entry)))) (recordFrom (now (bytes .entry))) ⌝ }
+    pub fn read(bytes: &[u8], site: u8, newest: Newest) -> RecordAnswer
+        ensures { λ r. ⌜ r ≡ answerTo (isRecord site (now (bytes .entry))) (mayFollow (recordIn (getD (newest .of) (recordFrom (now (bytes .entry)) .transaction) noRecord)) (recordOf (now (bytes .entry)))) (recordFrom (now (bytes .entry))) ⌝ }
     {
         let record = Record::from_bytes(bytes);
         let kind = record.kind;
         if bytes.len() != Record::length_of(kind) {
             return RecordAnswer::Wrong;
         }
-        record.judged(site, newest)
+        record.judged(site, newest.behind(record))
     }
 
     // Whether a site has records of a kind: the coordinator 1 to 4, a participant 5 to 7.
@@ -165,7 +204,8 @@ impl Record {
         }
     }
 
-    // Whether the record may stand behind the newest one of its transaction.
+    // Whether the record may stand behind the newest one of its transaction: by the table, with equal masks in 1 and 2,
+    // and a member that owes an ack before 3.
     fn follows(self, newest: Record) -> bool
         ensures { λ r. ⌜ r ≡ mayFollow (recordIn newest) (recordIn self) ⌝ }
     {
@@ -177,24 +217,17 @@ impl Record {
         if Record::ABORTED < kind {
             return false;
         }
-        if (Record::NEXT[before as usize] >> kind) % 2 == 0 {
-            return false;
-        }
-        if before == Record::INIT {
-            if kind == Record::COMMIT {
-                return (newest.first == self.first) & (newest.second == self.second);
-            }
-            return true;
-        }
-        if before == Record::COMMIT {
-            return minus(newest.first, newest.second) != 0;
-        }
-        true
+        let tabled = (Record::NEXT[before as usize] >> kind) % 2 == 1;
+        let same = (newest.first == self.first) & (newest.second == self.second);
+        let awaits = minus(newest.first, newest.second) != 0;
+        tabled
+            & (!((before == Record::INIT) & (kind == Record::COMMIT)) | same)
+            & (!((before == Record::COMMIT) & (kind == Record::COMMIT_END)) | awaits)
     }
 
-    // The record as one of a site, behind the newest record of each transaction: 23 before 24.
-    pub fn judged(self, site: u8, newest: [Record; 8]) -> RecordAnswer
-        ensures { λ r. ⌜ r ≡ answerTo (isRecord site (bytesOf (recordIn self))) (mayFollow (recordIn (getD newest (self .transaction) noRecord)) (recordIn self)) self ⌝ }
+    // The record as one of a site, behind the newest one of its transaction: 23 before 24.
+    pub fn judged(self, site: u8, newest: Record) -> RecordAnswer
+        ensures { λ r. ⌜ r ≡ answerTo (isRecord site (bytesOf (recordIn self))) (mayFollow (recordIn newest) (recordIn self)) self ⌝ }
     {
         let kind = self.kind;
         let transaction = self.transaction;
@@ -207,8 +240,7 @@ impl Record {
         if !self.fields_in_range() {
             return RecordAnswer::Wrong;
         }
-        let before = newest[transaction as usize];
-        if !self.follows(before) {
+        if !self.follows(newest) {
             return RecordAnswer::OutOfSequence;
         }
         RecordAnswer::Accepted(self)

@@ -1,6 +1,7 @@
 // Writing a log image at an offset of a lent buffer.
 use crate::log::Log;
 use crate::reader::read_image;
+use crate::record::Record;
 ghost use mathlib.Core.Path.{_≡_};
 ghost use mathlib.Core.List.{[], _∷_, _++_, map, flatten};
 ghost use Prim.Native.Nat.{_<_, _≤_};
@@ -8,7 +9,7 @@ ghost use lib.ListN.{length};
 ghost use Rattle.codec.specs.Lists.{first};
 ghost use Rattle.codec.specs.Records.{bytesOf};
 ghost use Rattle.codec.specs.Image.{magic, headLength, word, pairTable, image, stored, logRefusals, writeImage, copyImage};
-ghost use Rattle.codec.specs.Answers.{logIn, written};
+ghost use Rattle.codec.specs.Answers.{logIn, bytesIn, written};
 
 // The opening, site and count.
 fn write_head(site: u8, count: u8, out: &mut [u8])
@@ -34,13 +35,11 @@ fn write_pair(offset: usize, length: usize, out: &mut [u8])
     out[3] = (length / 256) as u8;
 }
 
-// The pair table.
-fn write_pairs(log: Log, out: &mut [u8])
-    requires { ⌜ length (pairTable (headLength (length (logIn log))) (map bytesOf (logIn log))) ≤ length (now out) ⌝ }
-    ensures { λ _. ⌜ now (out .exit) ≡ stored 0 (pairTable (headLength (length (logIn log))) (map bytesOf (logIn log))) (now (out .entry)) ⌝ }
+// The pair table of the first `count` records.
+fn write_pairs(records: [Record; 24], count: usize, out: &mut [u8])
+    requires { ⌜ (count ≤ 24) × (length (pairTable (headLength count) (bytesIn count records)) ≤ length (now out)) ⌝ }
+    ensures { λ _. ⌜ now (out .exit) ≡ stored 0 (pairTable (headLength count) (bytesIn count records)) (now (out .entry)) ⌝ }
 {
-    let count = log.len();
-    let records = log.records;
     let mut offset = Log::FIXED + Log::PAIR * count;
     let mut i = 0;
     while i < count {
@@ -54,12 +53,10 @@ fn write_pairs(log: Log, out: &mut [u8])
 }
 
 // The records, without gaps.
-fn write_records(log: Log, out: &mut [u8])
-    requires { ⌜ length (flatten (map bytesOf (logIn log))) ≤ length (now out) ⌝ }
-    ensures { λ _. ⌜ now (out .exit) ≡ stored 0 (flatten (map bytesOf (logIn log))) (now (out .entry)) ⌝ }
+fn write_records(records: [Record; 24], count: usize, out: &mut [u8])
+    requires { ⌜ (count ≤ 24) × (length (flatten (bytesIn count records)) ≤ length (now out)) ⌝ }
+    ensures { λ _. ⌜ now (out .exit) ≡ stored 0 (flatten (bytesIn count records)) (now (out .entry)) ⌝ }
 {
-    let count = log.len();
-    let records = log.records;
     let mut at: usize = 0;
     let mut i = 0;
     while i < count {
@@ -78,9 +75,10 @@ fn write_front(log: Log, out: &mut [u8])
     let site = log.site;
     let count = log.len();
     write_head(site, count as u8, out);
-    write_pairs(log, &mut out[6..]);
+    let records = log.records;
+    write_pairs(records, count, &mut out[6..]);
     let at = Log::FIXED + Log::PAIR * count;
-    write_records(log, &mut out[at..]);
+    write_records(records, count, &mut out[at..]);
 }
 
 // The image of a log that is not refused, from `at` on, where there is room: 0 or 25.

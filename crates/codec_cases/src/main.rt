@@ -1,9 +1,9 @@
 // The examples of document 01's refusal table for images, buffers and message numbers, and K10's image, run and proved.
-use codec::firmware::dpr_message_parts;
 use codec::log::Log;
+use codec::message::dpr_message_parts;
 use codec::reader::read_image;
-use codec::writer::{copy_image, write_image};
-
+use codec::writer::dpr_image_copy;
+use codec::writer::write_image;
 ghost use mathlib.Core.Path.{_≡_};
 ghost use Rattle.codec.specs.Image.{readingNumber, readImage};
 
@@ -25,7 +25,10 @@ fn images() {
     // 23: 05 00 02.
     check::expect(number(b"\x44\x50\x52\x4C\x01\x01\x0A\x00\x03\x00\x05\x00\x02") == 23);
     // 24: 05 00 00 05 00 00.
-    check::expect(number(b"\x44\x50\x52\x4C\x01\x02\x0E\x00\x03\x00\x11\x00\x03\x00\x05\x00\x00\x05\x00\x00") == 24);
+    check::expect(
+        number(b"\x44\x50\x52\x4C\x01\x02\x0E\x00\x03\x00\x11\x00\x03\x00\x05\x00\x00\x05\x00\x00")
+            == 24,
+    );
     // K10's image.
     check::expect(number(b"\x44\x50\x52\x4C\x01\x01\x0A\x00\x03\x00\x05\x00\x01") == 0);
 }
@@ -37,8 +40,18 @@ fn buffers() {
     check::expect(short[0] == 0xEE);
     // K10's image, written again at offset 1 of 15 bytes.
     let mut buffer = [0xEEu8; 15];
-    check::expect(copy_image(b"\x44\x50\x52\x4C\x01\x01\x0A\x00\x03\x00\x05\x00\x01", &mut buffer, 1) == 0);
-    check::expect(check::same(&buffer, b"\xEE\x44\x50\x52\x4C\x01\x01\x0A\x00\x03\x00\x05\x00\x01\xEE"));
+    check::expect(
+        dpr_image_copy(
+            b"\x44\x50\x52\x4C\x01\x01\x0A\x00\x03\x00\x05\x00\x01",
+            &mut buffer,
+            1,
+        )
+            == 0,
+    );
+    check::expect(check::same(
+        &buffer,
+        b"\xEE\x44\x50\x52\x4C\x01\x01\x0A\x00\x03\x00\x05\x00\x01\xEE",
+    ));
 }
 
 fn messages() {

@@ -1,28 +1,28 @@
-use mathlib.Core.Path.{refl, _∙_}
+use mathlib.Core.Path.{refl, ap, sym, _∙_}
 use mathlib.Core.List.{_++_}
 use Prim.Native.Nat.{_+_, _-_, _*_, _≤_}
+use native.Mathlib.Nat.{le-refl, le-trans, le-add-right}
 use native.Mathlib.Omega.{arith}
 use lib.ListN.{length, length-map}
+use mir.Facts.{fits-below}
 use borrow.Rule.Slice.PartMut.{putMid}
 use Rattle.codec.specs.Image.{magic, image}
 use Rattle.codec.specs.Answers.{logIn}
-use Rattle.codec.proofs.Tables.{length-table}
 use Rattle.codec.proofs.Stored.{Left, left-start, next-last, left-room, left-next, left-put, stored-part}
-use Rattle.codec.proofs.InTurn.{length-log, tableOf, recordsOf, image-head, image-table}
-use borrow.Author.Needs.{needs}
+use Rattle.codec.proofs.InTurn.{tableOf, recordsOf, head-fits, log-few, table-length, image-head, image-table}
 use Rattle.codec.proofs.writer.write_front.Statement.{statement}
 use Rattle.codec.proofs.writer.write_front.Tie as tie
 
 len-requires : tie.Need-len-requires
-len-requires c κs = search needs
+len-requires c κs = tt
 
 few : (c : tie.After-len) → c .len .result ≤ 24
 few c =
     let s = c .before .before in
-    omega (arith, length-log (s .args .log) (simp length-map at (s .good .0 .1 .1 .1 .1 .0 .1 .0 .1)), c .len .ensures)
+    log-few (s .args .log) _ (c .len .ensures) (simp length-map at (s .good .0 .1 .1 .1 .1 .0 .1 .0 .1))
 
 cast-write-head : tie.Need-cast-write-head
-cast-write-head c = omega (arith, few c)
+cast-write-head c = fits-below tt (few c)
 
 write-head-requires : tie.Need-write-head-requires
 unfolding image magic
@@ -30,64 +30,68 @@ write-head-requires c κs = omega (arith, c .before .before .before .pre)
 
 -- the table and the records are left
 headed : (c : tie.After-slice-known2)
-    → let a = c .before .before .before .before .before .before .args in
-    let log = logIn (a .log) in
-    Left (image (a .log .site) log) (a .out .now) 6 (tableOf log ++ recordsOf log) (c .before .before .write-head .last .1 .1 .0)
+    → let n = c .before .before .before .before in
+    let a = n .before .before .args in
+    Left (image (a .log .site) (logIn (a .log))) (a .out .now) 6 (tableOf (n .len .result) (a .log .records) ++ recordsOf (n .len .result) (a .log .records)) (c .before .before .write-head .last .1 .1 .0)
 unfolding magic
 headed c =
     let n = c .before .before .before .before in
     let s = n .before .before in
-    left-next (left-start (s .pre)) (image-head (s .args .log .site) (logIn (s .args .log))) 6 refl _ (rw (n .len .ensures) at (c .before .before .write-head .ensures))
+    left-next (left-start (s .pre)) (image-head (s .args .log) (n .len .result) (n .len .ensures)) 6 refl _ (c .before .before .write-head .ensures)
 
 sub-write-pairs : tie.Need-sub-write-pairs
-sub-write-pairs c = omega (arith, headed c .room)
+sub-write-pairs c = le-trans (le-add-right _ _) (headed (c .before) .room)
 
 part-write-pairs-start : tie.Need-part-write-pairs-start
-part-write-pairs-start c = omega (arith, headed c .room)
+part-write-pairs-start c = sub-write-pairs c
 
 part-write-pairs-end : tie.Need-part-write-pairs-end
-part-write-pairs-end c = search needs
+part-write-pairs-end c = le-refl _
 
 write-pairs-requires : tie.Need-write-pairs-requires
-write-pairs-requires c κs = left-room (headed (c .before)) (image-table (logIn (c .before .before .before .before .before .before .before .args .log)))
+write-pairs-requires c κs =
+    let h = c .before .before in
+    let n = h .before .before .before .before in
+    (few n, left-room (headed h) (image-table (n .len .result) (n .before .before .args .log .records)))
 
 mul-at : tie.Need-mul-at
-mul-at c = omega (arith, few (c .before .before .before .before .before .before .before .before))
+mul-at c = head-fits (few (c .before .before .before .before .before .before .before .before .before)) .0
 
 add-at : tie.Need-add-at
-add-at c = omega (arith, few (c .before .before .before .before .before .before .before .before))
+add-at c = head-fits (few (c .before .before .before .before .before .before .before .before .before)) .1
 
 -- the records are left
 tabled : (c : tie.After-slice-known3)
-    → let h = c .before .before .before .before in
+    → let h = c .before .before .before .before .before in
     let n = h .before .before .before .before in
     let a = n .before .before .args in
     let out = h .before .before .write-head .last .1 .1 .0 in
-    Left (image (a .log .site) (logIn (a .log))) (a .out .now) (6 + 4 * n .len .result) (recordsOf (logIn (a .log))) (putMid 6 (length out - 6) out (c .before .before .write-pairs .last .1 .0))
+    Left (image (a .log .site) (logIn (a .log))) (a .out .now) (6 + 4 * n .len .result) (recordsOf (n .len .result) (a .log .records)) (putMid 6 (length out - 6) out (c .before .before .write-pairs .last .1 .1 .0))
 tabled c =
-    let h = c .before .before .before .before in
+    let h = c .before .before .before .before .before in
     let n = h .before .before .before .before in
-    left-put (headed h) (image-table (logIn (n .before .before .args .log))) _ (simp (length-table, length-map) (omega (arith, n .len .ensures))) _ (c .before .before .write-pairs .ensures)
+    let log = n .before .before .args .log in
+    left-put (headed h) (image-table (n .len .result) (log .records)) _ (ap (6 +_) (sym (table-length log (n .len .result) (n .len .ensures)))) _ (c .before .before .write-pairs .ensures)
 
 sub-write-records : tie.Need-sub-write-records
-sub-write-records c = omega (arith, tabled c .room)
+sub-write-records c = le-trans (le-add-right _ _) (tabled c .room)
 
 part-write-records-start : tie.Need-part-write-records-start
-part-write-records-start c = omega (arith, tabled c .room)
+part-write-records-start c = sub-write-records c
 
 part-write-records-end : tie.Need-part-write-records-end
-part-write-records-end c = search needs
+part-write-records-end c = le-refl _
 
 write-records-requires : tie.Need-write-records-requires
-write-records-requires c κs = left-room (tabled (c .before)) next-last
+write-records-requires c κs =
+    let t = c .before in
+    (few (t .before .before .before .before .before .before .before .before .before), left-room (tabled t) next-last)
 
 same-length : tie.Need-same-length
-same-length c = search needs
+same-length c = left-put (tabled (c .before .before .before .before)) next-last _ refl _ (c .before .before .write-records .ensures) .same
 
 returns : tie.Need-returns
-returns c =
-    let t = c .before .before .before .before in
-    stored-part _ _ _ _ (c .before .before .write-records .ensures) ∙ tabled t .whole
+returns c = stored-part _ _ _ _ (c .before .before .write-records .ensures) ∙ tabled (c .before .before .before .before) .whole
 
 pub write-front-spec : {M : Type 1} → statement M
 write-front-spec =

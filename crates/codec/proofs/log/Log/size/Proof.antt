@@ -1,56 +1,64 @@
 use mathlib.Core.Path.{_≡_, refl, ap}
 use mathlib.Core.List.{flatten}
 use Prim.Native.Nat.{_+_, _-_, _*_}
+use native.Mathlib.Nat.{le-refl}
 use native.Mathlib.Omega.{arith}
 use lib.ListN.{length, length-append, length-map}
 use Rattle.codec.specs.Image.{magic, headLength, image}
+use Rattle.codec.specs.Answers.{bytesIn}
 use Rattle.codec.proofs.Tables.{length-table}
-use Rattle.codec.proofs.InTurn.{Counted, bytesFrom, bytes-end, bytes-all, flat-next, counted-start, counted-next}
-use borrow.Author.Needs.{needs}
+use Rattle.codec.proofs.InTurn.{Counted, bytesFrom, bytes-end, bytes-all, flat-next, counted-start, counted-next, log-few, head-fits, index-below, place-fits, next-fits, next-less, sum-fits}
 use Rattle.codec.proofs.log.Log.size.Statement.{statement}
 use Rattle.codec.proofs.log.Log.size.Tie as tie
 
 abbrev Inv-loop : tie.InvT-loop
 Inv-loop count records size₀ i₀ size i =
-    Counted records count i size × (size + length (flatten (bytesFrom records count i)) ≡ size₀ + length (flatten (bytesFrom records count 0)))
+    Counted records count i size × (size + length (flatten (bytesFrom records count i)) ≡ size₀ + length (flatten (bytesIn count records)))
 
 abbrev μ-loop : tie.MeasureT-loop
 μ-loop count records size₀ i₀ size i = count - i
 
 len-requires : tie.Need-len-requires Inv-loop μ-loop
-len-requires c κs = search needs
+len-requires c κs = tt
 
 start : (c : tie.After-records Inv-loop μ-loop) → Counted (c .before .before .args .self .records) (c .before .len .result) 0 (6 + 4 * c .before .len .result)
-start c = counted-start (c .before .before .args .self) _ _ (simp length-map at (c .before .before .good .0 .1 .1 .1 .1 .0 .1 .0 .1)) (c .before .len .ensures) (omega arith)
+start c =
+    let s = c .before .before in
+    let fit = simp length-map at (s .good .0 .1 .1 .1 .1 .0 .1 .0 .1) in
+    counted-start _ _ _ fit (log-few (s .args .self) _ (c .before .len .ensures) fit) (le-refl _)
 
 mul-size : tie.Need-mul-size Inv-loop μ-loop
-mul-size c = omega (arith, start c .few)
+mul-size c = head-fits (start c .few) .0
 
 add-size : tie.Need-add-size Inv-loop μ-loop
-add-size c = omega (arith, start c .few)
+add-size c = head-fits (start c .few) .1
 
 loop-holds : tie.Need-loop-holds Inv-loop μ-loop
 loop-holds c = (start c, refl)
 
 mul-record : tie.Need-mul-record Inv-loop μ-loop
-mul-record c = search needs
+mul-record c = place-fits (c .before .loop .inv .0) (c .loop-test .taken) .0
 
 array-copy-out-record : tie.Need-array-copy-out-record Inv-loop μ-loop
-array-copy-out-record c = search needs
+array-copy-out-record c = index-below (c .before .loop .inv .0) (c .loop-test .taken)
 
 length-requires : tie.Need-length-requires Inv-loop μ-loop
-length-requires c κs = search needs
+length-requires c κs = tt
 
 add-size-2 : tie.Need-add-size-2 Inv-loop μ-loop
 add-size-2 c =
-    let l = c .before .before .before .loop in
-    omega (arith, counted-next (l .inv .0) (c .before .before .loop-test .taken) (c .length .ensures))
+    let w = c .before .before in
+    sum-fits (w .before .loop .inv .0) (w .loop-test .taken) (c .length .ensures)
 
 add-i : tie.Need-add-i Inv-loop μ-loop
-add-i c = search needs
+add-i c =
+    let w = c .before .before in
+    next-fits (w .before .loop .inv .0) (w .loop-test .taken)
 
 loop-less : tie.Need-loop-less Inv-loop μ-loop
-loop-less c = search needs
+loop-less c =
+    let w = c .before .before in
+    next-less (w .before .loop .inv .0) (w .loop-test .taken)
 
 loop-again : tie.Need-loop-again Inv-loop μ-loop
 loop-again c =

@@ -2,12 +2,11 @@ use mathlib.Core.Path.{sym, _∙_}
 use borrow.Author.Tests.{not-true, not-false}
 use Rattle.codec.specs.Answers.{answerTo}
 use Rattle.codec.proofs.Fields.{wrong-kind, wrong-transaction, wrong-fields, right-record}
-use borrow.Author.Needs.{needs}
 use Rattle.codec.proofs.record.Record.judged.Statement.{statement}
 use Rattle.codec.proofs.record.Record.judged.Tie as tie
 
 kind-at-requires : tie.Need-kind-at-requires
-kind-at-requires c κs = search needs
+kind-at-requires c κs = tt
 
 returns : tie.Need-returns
 unfolding answerTo
@@ -20,28 +19,19 @@ returns-2 c = let a = c .before .before .before .args in
     rw (wrong-transaction (a .site) (a .self) (c .if2 .taken))
 
 fields-in-range-requires : tie.Need-fields-in-range-requires
-fields-in-range-requires c κs = search needs
+fields-in-range-requires c κs = tt
 
 returns-3 : tie.Need-returns-3
 unfolding answerTo
 returns-3 c = let a = c .before .before .before .before .before .args in
     rw (wrong-fields (a .site) (a .self) (sym (c .before .fields-in-range .ensures) ∙ not-true _ (c .if3 .taken)))
 
-cast-before : tie.Need-cast-before
-cast-before c = search needs
-
-mul-before : tie.Need-mul-before
-mul-before c = search needs
-
-array-copy-out-before : tie.Need-array-copy-out-before
-array-copy-out-before c = search needs
-
 follows-requires : tie.Need-follows-requires
-follows-requires c κs = search needs
+follows-requires c κs = tt
 
 returns-4 : tie.Need-returns-4
 unfolding answerTo
-returns-4 c = let w = c .before .before .before in
+returns-4 c = let w = c .before .before in
     let a = w .before .before .before .before .before .args in
     let right = right-record (a .site) (a .self)
     (sym (w .before .before .before .before .kind-at .ensures) ∙ not-false _ (w .before .before .before .if1 .left))
@@ -51,7 +41,7 @@ returns-4 c = let w = c .before .before .before in
 
 returns-5 : tie.Need-returns-5
 unfolding answerTo
-returns-5 c = let w = c .before .before .before in
+returns-5 c = let w = c .before .before in
     let a = w .before .before .before .before .before .args in
     let right = right-record (a .site) (a .self)
     (sym (w .before .before .before .before .kind-at .ensures) ∙ not-false _ (w .before .before .before .if1 .left))
@@ -68,9 +58,6 @@ judged-spec =
     returns-2
     fields-in-range-requires
     returns-3
-    cast-before
-    mul-before
-    array-copy-out-before
     follows-requires
     returns-4
     returns-5)

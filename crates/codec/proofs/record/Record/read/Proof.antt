@@ -1,18 +1,17 @@
-use Rattle.codec.specs.declared.record.Record.{Record}
 use denote.Ref.{now}
 use mathlib.Core.Path.{sym, _∙_, ap}
 use Rattle.codec.specs.Records.{lengthOf}
 use Rattle.codec.specs.Answers.{answerTo, recordFrom}
+use Rattle.codec.specs.declared.record.Record.{Record}
 use Rattle.codec.proofs.Fields.{wrong-length, read-as}
-use borrow.Author.Needs.{needs}
 use Rattle.codec.proofs.record.Record.read.Statement.{statement}
 use Rattle.codec.proofs.record.Record.read.Tie as tie
 
 from-bytes-requires : tie.Need-from-bytes-requires
-from-bytes-requires c κs = search needs
+from-bytes-requires c κs = tt
 
 length-of-requires : tie.Need-length-of-requires
-length-of-requires c κs = search needs
+length-of-requires c κs = tt
 
 returns : tie.Need-returns
 unfolding answerTo recordFrom
@@ -21,16 +20,26 @@ returns c = let w = c .before .before in
     let size = c .before .length-of .ensures ∙ ap (λ (x : Record). lengthOf (x .kind)) (w .from-bytes .ensures) in
     rw (wrong-length (a .site) (now (a .bytes)) (λ e. c .if1 .taken (e ∙ sym size)))
 
+behind-requires : tie.Need-behind-requires
+behind-requires c κs = tt
+
 judged-requires : tie.Need-judged-requires
-judged-requires c κs = search needs
+judged-requires c κs = tt
 
 returns-2 : tie.Need-returns-2
 unfolding recordFrom
-returns-2 c = let w = c .before .before .before in
+returns-2 c = let w = c .before .before .before .before in
     let a = w .before .before .args in
-    let size = c .before .before .length-of .ensures ∙ ap (λ (x : Record). lengthOf (x .kind)) (w .from-bytes .ensures) in
-    c .judged .ensures ∙ rw (w .from-bytes .ensures) (read-as (a .site) (a .newest) (now (a .bytes)) (c .before .if1 .left ∙ size))
+    let size = c .before .before .before .length-of .ensures ∙ ap (λ (x : Record). lengthOf (x .kind)) (w .from-bytes .ensures) in
+    c .judged .ensures ∙ rw (c .before .behind .ensures, w .from-bytes .ensures) (read-as (a .site) (a .newest .of) (now (a .bytes)) (c .before .before .if1 .left ∙ size))
 
 pub read-spec : {M : Type 1} → statement M
 read-spec =
-    tie.close (tie.spec from-bytes-requires length-of-requires returns judged-requires returns-2)
+    tie.close
+    (tie.spec
+    from-bytes-requires
+    length-of-requires
+    returns
+    behind-requires
+    judged-requires
+    returns-2)
