@@ -1,18 +1,21 @@
 -- Message numbers, and the three bytes that hold a message's parts. Assumes nothing.
-use mathlib.Core.Path.{_≡_, refl}
+use mathlib.Core.Path.{_≡_, refl, ap, sym, _∙_}
+use mathlib.Core.Logic.{⊎-elim}
 use mathlib.Core.List.{List, [], _∷_}
 use mathlib.Core.Option.{Option, none, some}
-use mathlib.Core.Bool.{Bool, true, false, and-false, and-eq-true-iff}
+use mathlib.Core.Bool.{Bool, true, false, not, _&&_, _||_}
 use Prim.Native.Nat.{ℕ, _<_, _≤_, _+_, _*_, _-_, _/_, _%_}
 use native.Mathlib.Omega.{arith}
-use borrow.Author.Tests.{le-leb, lt-leb, leb-true}
-use lib.Dec.{leb}
+use borrow.Author.Tests.{le-leb, lt-leb, leb-true, le-ltb, lt-ltb, ltb-false, not-true}
+use lib.Dec.{leb, ltb}
 use lib.ListN.{set}
 use Rattle.codec.specs.Lists.{every, onlyIf}
 use Rattle.codec.specs.Messages.{Parts, messageNumber, messageParts, messageAnswer, partsWritten, isMessage, numberOf, numberAnswer}
 use Rattle.codec.specs.Answers.{written, partsValues}
 use Rattle.codec.specs.declared.message.PartsAnswer.{PartsAnswer}
 use Rattle.codec.specs.declared.message.PartsAnswer.the-variants.{Message, Refused}
+use Rattle.codec.proofs.Tests.{lt-or-le}
+use Rattle.codec.proofs.Refusals.{or-none}
 use denote.Enum.Declared.{tagOf}
 use types.Run.{OneOf}
 use Rattle.codec.proofs.message.PartsAnswer.{the-type}
@@ -39,33 +42,44 @@ parts-refused (some m) parts e = let z : _≡_ {A = ℕ} 26 0 = cc in absurd (om
 
 -- ---- a message's number
 
+leb-ltb : (m n : ℕ) → leb m n ≡ not (ltb n m)
+leb-ltb m n = ⊎-elim (λ h. lt-leb m n h ∙ sym (ap not (lt-ltb n m h))) (λ h. le-leb m n h ∙ sym (ap not (le-ltb n m h))) (lt-or-le n m)
+
+none-of : (a b c d : Bool) → (not a && (not b && (not c && (not d && true)))) ≡ not (((a || b) || c) || d)
+none-of true b c d = refl
+none-of false true c d = refl
+none-of false false true d = refl
+none-of false false false true = refl
+none-of false false false false = refl
+
 module _ (m : Parts) where
-  wrong : isMessage m ≡ false → numberAnswer (numberOf m) ≡ 26 ∷ []
+  -- a part is out of range
+  abbrev pub wrong : Bool
+  wrong = ((ltb 7 (m .transaction) || ltb (m .participant) 1) || ltb 8 (m .participant)) || ltb 6 (m .kind)
+
+  is-message : isMessage m ≡ not wrong
+  unfolding isMessage every
+  is-message =
+      rw (leb-ltb (m .transaction) 7, leb-ltb 1 (m .participant), leb-ltb (m .participant) 8, leb-ltb (m .kind) 6)
+      (none-of (ltb 7 (m .transaction)) (ltb (m .participant) 1) (ltb 8 (m .participant)) (ltb 6 (m .kind)))
+
+  pub wrong-parts : wrong ≡ true → numberAnswer (numberOf m) ≡ 26 ∷ []
   unfolding numberOf onlyIf numberAnswer
-  wrong e = rw e
+  wrong-parts e = rw (is-message, e)
 
-  pub wrong-transaction : 7 < m .transaction → numberAnswer (numberOf m) ≡ 26 ∷ []
-  unfolding isMessage every
-  wrong-transaction h = wrong (rw (lt-leb (m .transaction) 7 h))
+  pub number-of : wrong ≡ false → numberAnswer (numberOf m) ≡ 0 ∷ messageNumber m ∷ []
+  unfolding numberOf onlyIf numberAnswer
+  number-of e = rw (is-message, e)
 
-  pub wrong-zero : m .participant < 1 → numberAnswer (numberOf m) ≡ 26 ∷ []
-  unfolding isMessage every
-  wrong-zero h = wrong (rw (lt-leb 1 (m .participant) h) (and-false (leb (m .transaction) 7)))
+  in-range : wrong ≡ false → (m .transaction ≤ 7) × ((1 ≤ m .participant) × ((m .participant ≤ 8) × (m .kind ≤ 6)))
+  in-range e =
+      let k = or-none ((ltb 7 (m .transaction) || ltb (m .participant) 1) || ltb 8 (m .participant)) (ltb 6 (m .kind)) e in
+      let p = or-none (ltb 7 (m .transaction) || ltb (m .participant) 1) (ltb 8 (m .participant)) (k .0) in
+      let t = or-none (ltb 7 (m .transaction)) (ltb (m .participant) 1) (p .0) in
+      (ltb-false 7 _ (t .0), (ltb-false _ 1 (t .1), (ltb-false 8 _ (p .1), ltb-false 6 _ (k .1))))
 
-  pub wrong-participant : 8 < m .participant → numberAnswer (numberOf m) ≡ 26 ∷ []
-  unfolding isMessage every
-  wrong-participant h =
-      wrong (rw (lt-leb (m .participant) 8 h, and-false (leb 1 (m .participant))) (and-false (leb (m .transaction) 7)))
-
-  pub wrong-kind : 6 < m .kind → numberAnswer (numberOf m) ≡ 26 ∷ []
-  unfolding isMessage every
-  wrong-kind h =
-      wrong
-      (rw (lt-leb (m .kind) 6 h, and-false (leb (m .participant) 8), and-false (leb 1 (m .participant))) (and-false (leb (m .transaction) 7)))
-
-  pub number-of : m .transaction ≤ 7 → 1 ≤ m .participant → m .participant ≤ 8 → m .kind ≤ 6 → numberAnswer (numberOf m) ≡ 0 ∷ messageNumber m ∷ []
-  unfolding numberOf onlyIf numberAnswer isMessage every
-  number-of t one p k = rw (le-leb (m .transaction) 7 t, le-leb 1 (m .participant) one, le-leb (m .participant) 8 p, le-leb (m .kind) 6 k)
+  pub participant-one : wrong ≡ false → 1 ≤ m .participant
+  participant-one e = in-range e .1 .0
 
 -- ---- there and back
 
@@ -73,15 +87,6 @@ only-if : {A : Type 0} (b : Bool) (x y : A) → onlyIf b x ≡ some y → (b ≡
 unfolding onlyIf
 only-if true x y e = (refl, cc)
 only-if false x y e = let z : _≡_ {A = ℕ} 0 1 = cc in absurd (omega arith)
-
-in-range : (m : Parts) → isMessage m ≡ true → (m .transaction ≤ 7) × ((1 ≤ m .participant) × ((m .participant ≤ 8) × (m .kind ≤ 6)))
-unfolding isMessage every
-in-range m e =
-    let t = and-eq-true-iff (leb (m .transaction) 7) _ .0 e in
-    let o = and-eq-true-iff (leb 1 (m .participant)) _ .0 (t .1) in
-    let p = and-eq-true-iff (leb (m .participant) 8) _ .0 (o .1) in
-    let k = and-eq-true-iff (leb (m .kind) 6) _ .0 (p .1) in
-    (leb-true _ 7 (t .0), (leb-true 1 _ (o .0), (leb-true _ 8 (p .0), leb-true _ 6 (k .0))))
 
 -- a number's parts have that number
 pub number-again : (n : ℕ) (m : Parts) → messageParts n ≡ some m → numberOf m ≡ some n
@@ -97,7 +102,7 @@ pub parts-again : (m : Parts) (n : ℕ) → numberOf m ≡ some n → messagePar
 unfolding messageParts numberOf onlyIf messageNumber
 parts-again m n e =
     let is = only-if (isMessage m) (messageNumber m) n e in
-    let r = in-range m (is .0) in
+    let r = in-range m (not-true (wrong m) (sym (is-message m) ∙ is .0)) in
     let t : n / 56 ≡ m .transaction = omega (arith, is .1) in
     let p : n % 56 / 7 + 1 ≡ m .participant = omega (arith, is .1) in
     let k : n % 7 ≡ m .kind = omega (arith, is .1) in

@@ -2,11 +2,11 @@
 use native.Mathlib.Numerals.{add-one}
 use lib.Seq.{drop-cons, getD-take}
 use mathlib.Core.Path.{_≡_, refl, _∙_}
-use mathlib.Core.Bool.{true, false, _&&_, or-true}
+use mathlib.Core.Bool.{Bool, true, false, not, _&&_, _||_}
 use mathlib.Core.List.{List, []}
 use Prim.Native.Nat.{ℕ, zero, suc, _+_, _<_, _≤_}
 use native.Mathlib.Omega.{arith}
-use borrow.Author.Tests.{lt-ltb, le-ltb, ltb-false, eq-eqb, ne-eqb}
+use borrow.Author.Tests.{lt-ltb, le-ltb, ltb-false, eq-eqb, ne-eqb, not-true, not-false}
 use lib.Dec.{eqb, ltb}
 use lib.ListN.{length, getD, take, drop, length-take, drop-of-length-le}
 use Rattle.codec.specs.Lists.{first, same}
@@ -24,10 +24,10 @@ same-at l m i h g = rw (drop-cons l i 0 h, drop-cons m i 0 g, add-one)
 -- the first i bytes are those of the opening
 pub record Opening (bytes : List ℕ) (i : ℕ) : Type 0 where
   pub upto : i ≤ 4
-  pub long : 4 ≤ length bytes
+  pub long : 6 ≤ length bytes
   pub left : same (take 4 bytes) magic ≡ same (drop i (take 4 bytes)) (drop i magic)
 
-pub opening-start : (bytes : List ℕ) → 4 ≤ length bytes → Opening bytes 0
+pub opening-start : (bytes : List ℕ) → 6 ≤ length bytes → Opening bytes 0
 opening-start bytes h = record { upto = omega arith; long = h; left = refl }
 
 module _ (bytes : List ℕ) (i : ℕ) (o : Opening bytes i) where
@@ -51,6 +51,10 @@ module _ (bytes : List ℕ) (i : ℕ) (o : Opening bytes i) where
 
 -- ---- before the records
 
+not-not : (b : Bool) → not (not b) ≡ b
+not-not true = refl
+not-not false = refl
+
 -- no image holds more than 24 records
 pub few-records : (s n : ℕ) → overLimit s n ≡ false → n ≤ 24
 unfolding overLimit most
@@ -61,24 +65,33 @@ few-records s n e = by s (ltb-false (most s) n (or-none (ltb 8 s) (ltb (most s) 
     by (suc s) h = omega arith
 
 module _ (bytes : List ℕ) where
-  pub too-short : length bytes < 6 → readImage bytes ≡ refused 20
-  unfolding readImage imageRefusals first readUnless
+  pub too-short : length bytes < 6 → not (ltb (length bytes) 6 || not (same (take 4 bytes) magic)) ≡ false
   too-short h = rw (lt-ltb (length bytes) 6 h)
 
-  pub not-opened : same (take 4 bytes) magic ≡ false → readImage bytes ≡ refused 20
-  unfolding readImage imageRefusals first readUnless
-  not-opened e = rw (e, or-true (ltb (length bytes) 6))
+  pub opens-by : 6 ≤ length bytes → not (ltb (length bytes) 6 || not (same (take 4 bytes) magic)) ≡ same (take 4 bytes) magic
+  opens-by h = rw (le-ltb (length bytes) 6 h) (not-not (same (take 4 bytes) magic))
 
-  module _ (long : 6 ≤ length bytes) (opened : same (take 4 bytes) magic ≡ true) where
+  -- an image that opens has its six bytes
+  pub opens-long : not (ltb (length bytes) 6 || not (same (take 4 bytes) magic)) ≡ true → 6 ≤ length bytes
+  opens-long e = ltb-false (length bytes) 6 (or-none (ltb (length bytes) 6) (not (same (take 4 bytes) magic)) (not-true _ e) .0)
+
+  pub not-opened : not (ltb (length bytes) 6 || not (same (take 4 bytes) magic)) ≡ false → readImage bytes ≡ refused 20
+  unfolding readImage imageRefusals first readUnless
+  not-opened e = rw (not-false (ltb (length bytes) 6 || not (same (take 4 bytes) magic)) e)
+
+  module _ (opened : not (ltb (length bytes) 6 || not (same (take 4 bytes) magic)) ≡ true) where
+    opening : (ltb (length bytes) 6 || not (same (take 4 bytes) magic)) ≡ false
+    opening = not-true (ltb (length bytes) 6 || not (same (take 4 bytes) magic)) opened
+
     pub over : overLimit (siteIn bytes) (countIn bytes) ≡ true → readImage bytes ≡ refused 21
     unfolding readImage imageRefusals first readUnless
-    over e = rw (le-ltb (length bytes) 6 long, opened, e)
+    over e = rw (opening, e)
 
     module _ (within : overLimit (siteIn bytes) (countIn bytes) ≡ false) where
       pub not-exact : tableExact bytes ≡ false → readImage bytes ≡ refused 22
       unfolding readImage imageRefusals first readUnless
-      not-exact e = rw (le-ltb (length bytes) 6 long, opened, within, e)
+      not-exact e = rw (opening, within, e)
 
       pub by-records : tableExact bytes ≡ true → readImage bytes ≡ readUnless (first (recordRefusals (siteIn bytes) [] (recordsIn bytes))) bytes
       unfolding readImage imageRefusals first
-      by-records e = rw (le-ltb (length bytes) 6 long, opened, within, e)
+      by-records e = rw (opening, within, e)

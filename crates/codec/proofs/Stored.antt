@@ -1,11 +1,12 @@
 -- What the writer stores: bytes one behind the other in a buffer, the records of a log in turn, and the answer of the call. Assumes nothing.
-use Prim.Native.Nat.{ℕ, _+_, _-_, _≤_}
+use Prim.Native.Nat.{ℕ, suc, _+_, _-_, _≤_, _<_}
 use mathlib.Core.Path.{_≡_, refl, sym, _∙_}
 use mathlib.Core.List.{List, [], _∷_, _++_, append-assoc, append-nil}
 use native.Mathlib.Nat.{add-assoc, add-zero, zero-add}
 use native.Mathlib.Omega.{arith}
-use lib.ListN.{length, take, drop, length-append, length-take, length-drop, take-append-drop, drop-of-length-le}
-use lib.Seq.{sets, sets-eq, take-at, drop-at, drop-drop, take-all}
+use lib.ListN.{getD, set, length, take, drop, length-append, length-take, length-drop, take-append-drop, drop-of-length-le}
+use native.Mathlib.Numerals.{add-one}
+use lib.Seq.{drop-cons, sets, sets-eq, take-at, drop-at, drop-drop, take-all}
 use borrow.Rule.Slice.PartMut.{midOf, putMid}
 use Rattle.codec.specs.Lists.{first}
 use Rattle.codec.specs.Records.{bytesOf, lengthOf}
@@ -87,3 +88,17 @@ module _ {all start : List ℕ} {at : ℕ} {bytes buffer x rest : List ℕ} (l :
   pub left-put : (next : ℕ) → next ≡ at + length x → (y : List ℕ) → y ≡ stored 0 x (midOf at (length buffer - at) buffer)
       → Left all start next rest (putMid at (length buffer - at) buffer y)
   left-put next n y s = left-next next n (putMid at (length buffer - at) buffer y) (stored-part at x buffer y s)
+
+-- ---- one byte stored
+
+-- the bytes behind the first i of a list, with some behind them
+pub byte-next : (l tail : List ℕ) (i : ℕ) → i < length l → Next (drop i l ++ tail) (getD l i 0 ∷ []) (drop (i + 1) l ++ tail)
+byte-next l tail i h = record { split = rw (drop-cons l i 0 h, add-one) }
+
+pub set-stored : (buffer : List ℕ) (i b : ℕ) → i < length buffer → set buffer i b ≡ stored i (b ∷ []) buffer
+unfolding stored
+set-stored buffer i b h = sets-eq (b ∷ []) buffer i (omega arith)
+
+pub sets-stored : (buffer : List ℕ) (at a b : ℕ) → at + 2 ≤ length buffer → set (set buffer at a) (suc at) b ≡ stored at (a ∷ b ∷ []) buffer
+unfolding stored
+sets-stored buffer at a b h = sets-eq (a ∷ b ∷ []) buffer at h

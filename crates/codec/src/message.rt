@@ -50,16 +50,11 @@ impl Parts {
         let transaction = self.transaction;
         let participant = self.participant;
         let kind = self.kind;
-        if Parts::TRANSACTION < transaction {
-            return NumberAnswer::Refused;
-        }
-        if participant < 1 {
-            return NumberAnswer::Refused;
-        }
-        if Parts::PARTICIPANT < participant {
-            return NumberAnswer::Refused;
-        }
-        if Parts::KIND < kind {
+        let wrong = (Parts::TRANSACTION < transaction)
+            | (participant < 1)
+            | (Parts::PARTICIPANT < participant)
+            | (Parts::KIND < kind);
+        if wrong {
             return NumberAnswer::Refused;
         }
         NumberAnswer::Number(

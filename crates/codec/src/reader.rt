@@ -6,6 +6,8 @@ use crate::record::RecordAnswer;
 ghost use mathlib.Core.Path.{_≡_};
 ghost use Prim.Native.Nat.{_+_, _*_, _≤_, _<_};
 ghost use mathlib.Core.List.{[]};
+ghost use mathlib.Core.Bool.{not, _||_};
+ghost use lib.Dec.{ltb};
 ghost use lib.ListN.{length, take};
 ghost use Rattle.codec.specs.Lists.{first, same};
 ghost use Rattle.codec.specs.Records.{recordRefusals};
@@ -29,11 +31,13 @@ impl ImageAnswer {
     }
 }
 
-// Whether the opening stands at the start.
+// Whether there are six bytes, and the opening stands at their start.
 fn opens(bytes: &[u8]) -> bool
-    requires { ⌜ 4 ≤ length (now bytes) ⌝ }
-    ensures { λ r. ⌜ r ≡ same (take 4 (now (bytes .entry))) magic ⌝ }
+    ensures { λ r. ⌜ r ≡ not (ltb (length (now (bytes .entry))) 6 || not (same (take 4 (now (bytes .entry))) magic)) ⌝ }
 {
+    if bytes.len() < Log::FIXED {
+        return false;
+    }
     let mut i: usize = 0;
     while i < 4 {
         if bytes[i] != Log::OPENING[i] {
@@ -118,9 +122,6 @@ fn read_records(bytes: &[u8]) -> ImageAnswer
 pub fn read_image(bytes: &[u8]) -> ImageAnswer
     ensures { λ r. ⌜ imageValues r ≡ values (readImage (now (bytes .entry))) ⌝ }
 {
-    if bytes.len() < Log::FIXED {
-        return ImageAnswer::refused(20);
-    }
     if !opens(bytes) {
         return ImageAnswer::refused(20);
     }

@@ -16,10 +16,11 @@ fn write_head(site: u8, count: u8, out: &mut [u8])
     requires { ⌜ 6 ≤ length (now out) ⌝ }
     ensures { λ _. ⌜ now (out .exit) ≡ stored 0 (magic ++ site ∷ count ∷ []) (now (out .entry)) ⌝ }
 {
-    out[0] = Log::OPENING[0];
-    out[1] = Log::OPENING[1];
-    out[2] = Log::OPENING[2];
-    out[3] = Log::OPENING[3];
+    let mut i: usize = 0;
+    while i < 4 {
+        out[i] = Log::OPENING[i];
+        i += 1;
+    }
     out[4] = site;
     out[5] = count;
 }
