@@ -9,25 +9,15 @@ use lib.Seq.{getD-take}
 use Rattle.codec.specs.Lists.{first}
 use Rattle.codec.specs.Records.{LogRecord, bytesOf, recordOf, isRecord, recordRefusals}
 use Rattle.codec.specs.Image.{overLimit, logRefusals}
-use Rattle.codec.specs.Answers.{recordIn, bytesIn, noRecord, logIn, mayFollow, recordNumber, answerTo}
+use Rattle.codec.specs.Answers.{recordIn, bytesIn, noRecord, mayFollow, recordNumber, answerTo}
 use Rattle.codec.specs.declared.record.Record.{Record}
 use Rattle.codec.specs.declared.record.RecordAnswer.{RecordAnswer}
 use Rattle.codec.specs.declared.record.RecordAnswer.the-variants.{Accepted}
-use Rattle.codec.specs.declared.log.Log.{Log}
-use Rattle.codec.proofs.Lists.{getD-map-below, take-taken}
+use Rattle.codec.proofs.Lists.{getD-map-below}
 use Rattle.codec.proofs.Passed.{Passed, passed-next, stopped}
 
 pub records-length : (count : ℕ) (records : List Record) → count ≤ length records → length (bytesIn count records) ≡ count
 records-length count records h = simp (length-map, length-take) (omega arith)
-
--- a log counts no more records than there are
-pub log-few : (l : Log) → length (l .records) ≡ 24 → length (logIn l) ≤ 24
-unfolding logIn
-log-few l h = simp (length-take, length-map) (omega arith)
-
-pub log-counted : (l : Log) → bytesIn (length (logIn l)) (l .records) ≡ map bytesOf (logIn l)
-unfolding logIn
-log-counted l = ap (map bytesOf) (take-taken (l .count) (map recordIn (l .records)))
 
 pub refused-limit : (s : ℕ) (log : List LogRecord) → overLimit s (length log) ≡ true → first (logRefusals s log) ≡ 21
 unfolding logRefusals first

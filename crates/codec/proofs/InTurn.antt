@@ -1,5 +1,5 @@
 -- The records of a log in turn, as the loops of the writer pass them. Assumes nothing.
-use Prim.Native.Nat.{ℕ, _+_, _-_, _*_, _≤_, _<_, min, zero-le}
+use Prim.Native.Nat.{ℕ, _+_, _-_, _*_, _≤_, _<_, zero-le}
 use mathlib.Core.Path.{_≡_, refl, ap, _∙_}
 use mathlib.Core.List.{List, [], _∷_, _++_, map, flatten}
 use native.Mathlib.Nat.{lt-of-lt-of-le}
@@ -15,7 +15,7 @@ use Rattle.codec.specs.Answers.{recordIn, noRecord, logIn, bytesIn}
 use Rattle.codec.specs.declared.record.Record.{Record}
 use Rattle.codec.specs.declared.log.Log.{Log}
 use Rattle.codec.proofs.Fields.{bytes-length, length-most}
-use Rattle.codec.proofs.Lists.{take-taken}
+use Rattle.codec.proofs.Held.{held-count, held-bytes}
 use Rattle.codec.proofs.Tables.{length-table}
 use Rattle.codec.proofs.Stored.{Next}
 
@@ -83,10 +83,6 @@ module _ {records : List Record} {n i sum : ℕ} (w : Counted records n i sum) w
 
 -- ---- the whole log
 
-pub length-log : (log : Log) → length (log .records) ≡ 24 → length (logIn log) ≡ min (log .count) 24
-unfolding logIn
-length-log log e = simp (length-take, length-map, e)
-
 -- the table and the records of an image
 abbrev pub tableOf : ℕ → List Record → List ℕ
 tableOf n records = pairTable (headLength n) (bytesIn n records)
@@ -97,17 +93,10 @@ recordsOf n records = flatten (bytesIn n records)
 pub image-table : (n : ℕ) (records : List Record) → Next (tableOf n records ++ recordsOf n records) (tableOf n records) (recordsOf n records)
 image-table n records = record { split = refl }
 
-module _ (log : Log) (n : ℕ) (e : n ≡ length (logIn log)) where
-  pub log-few : length (log .records) ≡ 24 → n ≤ 24
-  log-few fit = omega (arith, length-log log fit)
+module _ (log : Log) (few : log .count ≤ 24) (fit : length (log .records) ≡ 24) where
+  pub table-length : length (tableOf (log .count) (log .records)) ≡ 4 * log .count
+  table-length = rw (length-table, held-bytes log few, length-map, held-count log fit)
 
-  pub bytes-all : bytesIn n (log .records) ≡ map bytesOf (logIn log)
-  unfolding logIn
-  bytes-all = rw (e, take-taken (log .count) (map recordIn (log .records)))
-
-  pub table-length : length (tableOf n (log .records)) ≡ 4 * n
-  table-length = rw (length-table, bytes-all, length-map, ← e)
-
-  pub image-head : Next (image (log .site) (logIn log)) (magic ++ log .site ∷ n ∷ []) (tableOf n (log .records) ++ recordsOf n (log .records))
+  pub image-head : Next (image (log .site) (logIn log)) (magic ++ log .site ∷ log .count ∷ []) (tableOf (log .count) (log .records) ++ recordsOf (log .count) (log .records))
   unfolding image magic
-  image-head = record { split = rw (bytes-all, e) }
+  image-head = record { split = rw (held-bytes log few, held-count log fit) }

@@ -17,3 +17,4 @@ mod Opened
 mod Numbered
 mod Copied
 mod RoundTrip
+mod Held

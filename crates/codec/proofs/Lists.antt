@@ -1,9 +1,9 @@
--- Lists: maps, stores and what is taken. Assumes nothing.
+-- Lists: maps and stores. Assumes nothing.
 use mathlib.Core.Path.{_≡_, refl, ap}
 use mathlib.Core.List.{List, [], _∷_, map}
 use Prim.Native.Nat.{ℕ, zero, suc, _<_}
 use native.Mathlib.Nat.{not-suc-le-zero, le-of-suc-le-suc}
-use lib.ListN.{length, getD, set, take}
+use lib.ListN.{length, getD, set}
 
 module _ {A B : Type 0} (f : A → B) where
   pub getD-map-below : (l : List A) (i : ℕ) (a : A) (b : B) → i < length l → getD (map f l) i b ≡ f (getD l i a)
@@ -15,8 +15,3 @@ module _ {A B : Type 0} (f : A → B) where
   map-set [] i y = refl
   map-set (x ∷ l) zero y = refl
   map-set (x ∷ l) (suc i) y = ap (f x ∷_) (map-set l i y)
-
-pub take-taken : {A : Type 0} (n : ℕ) (l : List A) → take (length (take n l)) l ≡ take n l
-take-taken zero l = refl
-take-taken (suc n) [] = refl
-take-taken (suc n) (x ∷ l) = ap (x ∷_) (take-taken n l)

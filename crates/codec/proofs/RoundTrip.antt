@@ -99,7 +99,7 @@ module _ (s : ℕ) (log : List LogRecord) where
   unfolding magic headLength
   head-length = simp (length-table, length-map) (omega arith)
 
-  image-length : length (image s log) ≡ headLength (length log) + length (flatten (map bytesOf log))
+  pub image-length : length (image s log) ≡ headLength (length log) + length (flatten (map bytesOf log))
   unfolding image
   image-length = rw (length-append, head-length)
 

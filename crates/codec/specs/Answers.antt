@@ -2,8 +2,8 @@
 use Prim.Native.Nat.{ℕ, _+_, _*_, _-_, _/_, _%_, _^_, _≤_}
 use mathlib.Core.Path.{_≡_}
 use mathlib.Core.Bool.{Bool, true, false}
-use mathlib.Core.List.{List, [], _∷_, map}
-use lib.ListN.{length, take, getD}
+use mathlib.Core.List.{List, [], _∷_, _++_, map}
+use lib.ListN.{length, take, getD, replicate}
 use lib.Dec.{eqb, leb}
 use Rattle.codec.specs.Lists.{every}
 use Rattle.codec.specs.Records.{LogRecord, bytesOf, lengthOf, agrees}
@@ -50,8 +50,9 @@ answerTo false b x = Wrong
 answerTo true false x = OutOfSequence
 answerTo true true x = Accepted x
 
+-- the first `count` of the 24 records that there are, and nothing in the place of those above
 unfoldable pub logIn : Log → List LogRecord
-logIn l = take (l .count) (map recordIn (l .records))
+logIn l = take (l .count) (map recordIn (l .records)) ++ replicate (l .count - 24) (recordIn noRecord)
 
 -- the first `count` of an array's records, as bytes
 abbrev pub bytesIn : ℕ → List Record → List (List ℕ)

@@ -4,12 +4,11 @@ use crate::record::Record;
 use crate::record::RecordAnswer;
 ghost use mathlib.Core.Path.{_≡_};
 ghost use mathlib.Core.List.{[]};
-ghost use lib.ListN.{length};
 ghost use Rattle.codec.specs.Lists.{first};
-ghost use Rattle.codec.specs.Image.{image, overLimit, logRefusals};
+ghost use Rattle.codec.specs.Image.{overLimit, logRefusals};
 ghost use Rattle.codec.specs.Answers.{logIn};
 
-// The first `count` of `records`, in log order.
+// The first `count` of `records`, in log order. A count above 24 is refused by 21.
 pub struct Log {
     pub site: u8,
     pub count: usize,
@@ -42,16 +41,6 @@ impl Log {
         }
     }
 
-    // How many records it holds: a count above the 24 that there are counts for 24.
-    pub fn len(self) -> usize
-        ensures { λ r. ⌜ r ≡ length (logIn self) ⌝ }
-    {
-        if Log::COORDINATOR_MOST < self.count {
-            return Log::COORDINATOR_MOST;
-        }
-        self.count
-    }
-
     // 21: site above 8, or more records than an image of the site holds.
     pub fn over_limit(site: u8, count: usize) -> bool
         ensures { λ r. ⌜ r ≡ overLimit site count ⌝ }
@@ -70,7 +59,7 @@ impl Log {
         ensures { λ r. ⌜ r ≡ first (logRefusals (self .site) (logIn self)) ⌝ }
     {
         let site = self.site;
-        let count = self.len();
+        let count = self.count;
         if Log::over_limit(site, count) {
             return 21;
         }
@@ -87,21 +76,5 @@ impl Log {
             i += 1;
         }
         0
-    }
-
-    // The length of the log's image.
-    pub fn size(self) -> usize
-        ensures { λ r. ⌜ r ≡ length (image (self .site) (logIn self)) ⌝ }
-    {
-        let count = self.len();
-        let records = self.records;
-        let mut size = Log::FIXED + Log::PAIR * count;
-        let mut i = 0;
-        while i < count {
-            let record = records[i];
-            size += record.length();
-            i += 1;
-        }
-        size
     }
 }

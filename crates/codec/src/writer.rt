@@ -4,7 +4,7 @@ use crate::reader::read_image;
 use crate::record::Record;
 ghost use mathlib.Core.Path.{_≡_};
 ghost use mathlib.Core.List.{[], _∷_, _++_, map, flatten};
-ghost use Prim.Native.Nat.{_<_, _≤_};
+ghost use Prim.Native.Nat.{_+_, _<_, _≤_};
 ghost use lib.ListN.{length};
 ghost use Rattle.codec.specs.Lists.{first};
 ghost use Rattle.codec.specs.Records.{bytesOf};
@@ -68,13 +68,28 @@ fn write_records(records: [Record; 24], count: usize, out: &mut [u8])
     }
 }
 
+// The length of the image of the first `count` records.
+fn size_of(records: [Record; 24], count: usize) -> usize
+    requires { ⌜ count ≤ 24 ⌝ }
+    ensures { λ r. ⌜ r ≡ headLength count + length (flatten (bytesIn count records)) ⌝ }
+{
+    let mut size = Log::FIXED + Log::PAIR * count;
+    let mut i = 0;
+    while i < count {
+        let record = records[i];
+        size += record.length();
+        i += 1;
+    }
+    size
+}
+
 // The image, at the front of a part of a buffer.
 fn write_front(log: Log, out: &mut [u8])
-    requires { ⌜ length (image (log .site) (logIn log)) ≤ length (now out) ⌝ }
+    requires { ⌜ (log .count ≤ 24) × (length (image (log .site) (logIn log)) ≤ length (now out)) ⌝ }
     ensures { λ _. ⌜ now (out .exit) ≡ stored 0 (image (log .site) (logIn log)) (now (out .entry)) ⌝ }
 {
     let site = log.site;
-    let count = log.len();
+    let count = log.count;
     write_head(site, count as u8, out);
     let records = log.records;
     write_pairs(records, count, &mut out[6..]);
@@ -87,7 +102,8 @@ fn place(log: Log, buffer: &mut [u8], at: usize) -> u8
     requires { ⌜ first (logRefusals (log .site) (logIn log)) ≡ 0 ⌝ }
     ensures { λ r. ⌜ written r (now (buffer .exit)) ≡ writeImage (log .site) (logIn log) at (now (buffer .entry)) ⌝ }
 {
-    let size = log.size();
+    let records = log.records;
+    let size = size_of(records, log.count);
     if buffer.len() < at {
         return 25;
     }

@@ -2,7 +2,6 @@ use denote.Ref.{now}
 use mathlib.Core.Path.{sym, _∙_}
 use Prim.Native.Nat.{_-_}
 use native.Mathlib.Omega.{arith}
-use borrow.Author.Needs.{needs}
 use Rattle.codec.specs.Image.{magic}
 use Rattle.codec.proofs.Opened.{Opening, opening-start, opening-next, opening-differs, opening-end, too-short, opens-by}
 use Rattle.codec.proofs.reader.opens.Statement.{statement}

@@ -10,7 +10,6 @@ use Rattle.codec.specs.Lists.{same}
 use Rattle.codec.specs.Image.{magic, siteIn, countIn, overLimit}
 use Rattle.codec.specs.Answers.{values}
 use Rattle.codec.proofs.Opened.{few-records, opens-long, not-opened, over, not-exact, by-records}
-use borrow.Author.Needs.{needs}
 use Rattle.codec.proofs.reader.read_image.Statement.{statement}
 use Rattle.codec.proofs.reader.read_image.Tie as tie
 

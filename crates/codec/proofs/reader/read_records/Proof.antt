@@ -4,7 +4,9 @@ use Prim.Native.Nat.{ℕ, _+_, _-_, _*_, _<_}
 use native.Mathlib.Omega.{arith}
 use borrow.Author.Needs.{needs}
 use Rattle.codec.specs.Image.{headLength, siteIn, countIn, readUnless}
-use Rattle.codec.specs.Answers.{Readable, Within, wordAt, recordNumber, logIn, values, imageValues}
+use Rattle.codec.specs.Answers.{Readable, Within, wordAt, recordNumber, values, imageValues}
+use Rattle.codec.specs.declared.log.Log.{Log}
+use Rattle.codec.proofs.Held.{held}
 use Rattle.codec.proofs.Passed.{not-accepted}
 use Rattle.codec.proofs.Filled.{Filled, filled-none, filled-next, filled-all, within, image-stopped, read-refused, answerAt}
 use Rattle.codec.proofs.reader.read_records.Statement.{statement}
@@ -123,9 +125,13 @@ loop-again c = let w = c .before .before .before .before .before .before .before
     (inv .0, (inv .1 .0, (inv .1 .1 .0, rw (c .with .ensures, c .before .before .before .before .before .before .end-of .ensures) (next .1))))
 
 returns-2 : tie.Need-returns-2 Inv-loop μ-loop
-unfolding imageValues logIn siteIn countIn
-returns-2 c = let w = c .before in
-    filled-all (now (w .before .before .before .before .before .args .bytes)) (w .loop .inv .0) (w .loop .records) (w .loop .newest .of) (w .loop .at) (w .loop .i) (w .loop .inv .1 .1 .1) (c .loop-test .left)
+unfolding imageValues siteIn countIn
+returns-2 c =
+    let w = c .before in
+    let bytes = now (w .before .before .before .before .before .args .bytes) in
+    let log : Log = record { site = siteIn bytes; count = countIn bytes; records = w .loop .records } in
+    rw (held log (w .loop .inv .0 .few))
+    (filled-all (now (w .before .before .before .before .before .args .bytes)) (w .loop .inv .0) (w .loop .records) (w .loop .newest .of) (w .loop .at) (w .loop .i) (w .loop .inv .1 .1 .1) (c .loop-test .left))
 
 pub read-records-spec : {M : Type 1} → statement M
 read-records-spec =

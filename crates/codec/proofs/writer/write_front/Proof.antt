@@ -1,4 +1,4 @@
-use mathlib.Core.Path.{refl, ap, sym, _∙_}
+use mathlib.Core.Path.{_≡_, refl, ap, sym, _∙_}
 use mathlib.Core.List.{_++_}
 use Prim.Native.Nat.{_+_, _-_, _*_, _≤_}
 use native.Mathlib.Nat.{le-refl, le-trans, le-add-right}
@@ -9,35 +9,33 @@ use borrow.Rule.Slice.PartMut.{putMid}
 use Rattle.codec.specs.Image.{magic, image}
 use Rattle.codec.specs.Answers.{logIn}
 use Rattle.codec.proofs.Stored.{Left, left-start, next-last, left-room, left-next, left-put, stored-part}
-use Rattle.codec.proofs.InTurn.{tableOf, recordsOf, head-fits, log-few, table-length, image-head, image-table}
+use Rattle.codec.proofs.InTurn.{tableOf, recordsOf, head-fits, table-length, image-head, image-table}
 use Rattle.codec.proofs.writer.write_front.Statement.{statement}
 use Rattle.codec.proofs.writer.write_front.Tie as tie
 
-len-requires : tie.Need-len-requires
-len-requires c κs = tt
+few : (c : tie.After-slice-known) → c .before .args .log .count ≤ 24
+few c = c .before .pre .0
 
-few : (c : tie.After-len) → c .len .result ≤ 24
-few c =
-    let s = c .before .before in
-    log-few (s .args .log) _ (c .len .ensures) (simp length-map at (s .good .0 .1 .1 .1 .1 .0 .1 .0 .1))
+fit : (c : tie.After-slice-known) → length (c .before .args .log .records) ≡ 24
+fit c = simp length-map at (c .before .good .0 .1 .1 .1 .1 .0 .1 .0 .1)
 
 cast-write-head : tie.Need-cast-write-head
 cast-write-head c = fits-below tt (few c)
 
 write-head-requires : tie.Need-write-head-requires
 unfolding image magic
-write-head-requires c κs = omega (arith, c .before .before .before .pre)
+write-head-requires c κs = omega (arith, c .before .before .pre .1)
 
 -- the table and the records are left
 headed : (c : tie.After-slice-known2)
     → let n = c .before .before .before .before in
-    let a = n .before .before .args in
-    Left (image (a .log .site) (logIn (a .log))) (a .out .now) 6 (tableOf (n .len .result) (a .log .records) ++ recordsOf (n .len .result) (a .log .records)) (c .before .before .write-head .last .1 .1 .0)
+    let a = n .before .args in
+    Left (image (a .log .site) (logIn (a .log))) (a .out .now) 6 (tableOf (n .before .args .log .count) (a .log .records) ++ recordsOf (n .before .args .log .count) (a .log .records)) (c .before .before .write-head .last .1 .1 .0)
 unfolding magic
 headed c =
     let n = c .before .before .before .before in
-    let s = n .before .before in
-    left-next (left-start (s .pre)) (image-head (s .args .log) (n .len .result) (n .len .ensures)) 6 refl _ (c .before .before .write-head .ensures)
+    let s = n .before in
+    left-next (left-start (s .pre .1)) (image-head (s .args .log) (few n) (fit n)) 6 refl _ (c .before .before .write-head .ensures)
 
 sub-write-pairs : tie.Need-sub-write-pairs
 sub-write-pairs c = le-trans (le-add-right _ _) (headed (c .before) .room)
@@ -52,7 +50,7 @@ write-pairs-requires : tie.Need-write-pairs-requires
 write-pairs-requires c κs =
     let h = c .before .before in
     let n = h .before .before .before .before in
-    (few n, left-room (headed h) (image-table (n .len .result) (n .before .before .args .log .records)))
+    (few n, left-room (headed h) (image-table (n .before .args .log .count) (n .before .args .log .records)))
 
 mul-at : tie.Need-mul-at
 mul-at c = head-fits (few (c .before .before .before .before .before .before .before .before .before)) .0
@@ -64,14 +62,14 @@ add-at c = head-fits (few (c .before .before .before .before .before .before .be
 tabled : (c : tie.After-slice-known3)
     → let h = c .before .before .before .before .before in
     let n = h .before .before .before .before in
-    let a = n .before .before .args in
+    let a = n .before .args in
     let out = h .before .before .write-head .last .1 .1 .0 in
-    Left (image (a .log .site) (logIn (a .log))) (a .out .now) (6 + 4 * n .len .result) (recordsOf (n .len .result) (a .log .records)) (putMid 6 (length out - 6) out (c .before .before .write-pairs .last .1 .1 .0))
+    Left (image (a .log .site) (logIn (a .log))) (a .out .now) (6 + 4 * n .before .args .log .count) (recordsOf (n .before .args .log .count) (a .log .records)) (putMid 6 (length out - 6) out (c .before .before .write-pairs .last .1 .1 .0))
 tabled c =
     let h = c .before .before .before .before .before in
     let n = h .before .before .before .before in
-    let log = n .before .before .args .log in
-    left-put (headed h) (image-table (n .len .result) (log .records)) _ (ap (6 +_) (sym (table-length log (n .len .result) (n .len .ensures)))) _ (c .before .before .write-pairs .ensures)
+    let log = n .before .args .log in
+    left-put (headed h) (image-table (n .before .args .log .count) (log .records)) _ (ap (6 +_) (sym (table-length log (few n) (fit n)))) _ (c .before .before .write-pairs .ensures)
 
 sub-write-records : tie.Need-sub-write-records
 sub-write-records c = le-trans (le-add-right _ _) (tabled c .room)
@@ -97,7 +95,6 @@ pub write-front-spec : {M : Type 1} → statement M
 write-front-spec =
     tie.close
     (tie.spec
-    len-requires
     cast-write-head
     write-head-requires
     sub-write-pairs

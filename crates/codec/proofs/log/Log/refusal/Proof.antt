@@ -12,7 +12,9 @@ use Rattle.codec.specs.Records.{bytesOf, isRecord}
 use Rattle.codec.specs.Answers.{logIn, bytesIn, noRecord, recordIn, mayFollow, answerTo, recordNumber}
 use Rattle.codec.specs.declared.record.Record.{Record}
 use Rattle.codec.proofs.Passed.{Passed, passed-none, passed-all, not-accepted}
-use Rattle.codec.proofs.Checked.{answerFor, records-length, log-few, log-counted, refused-limit, refused-record, log-stopped, log-next}
+use Rattle.codec.proofs.Opened.{few-records}
+use Rattle.codec.proofs.Held.{held-count, held-bytes}
+use Rattle.codec.proofs.Checked.{answerFor, records-length, refused-limit, refused-record, log-stopped, log-next}
 use Rattle.codec.proofs.log.Log.refusal.Statement.{statement}
 use Rattle.codec.proofs.log.Log.refusal.Tie as tie
 
@@ -22,49 +24,50 @@ Inv-loop site count records newest₀ i₀ newest i = (count ≤ 24) × ((length
 abbrev μ-loop : tie.MeasureT-loop
 μ-loop site count records newest₀ i₀ newest i = count - i
 
--- past the first test the records decide
-whole : (c : tie.After-records Inv-loop μ-loop)
-    → first (recordRefusals (c .before .before .before .before .args .self .site) [] (bytesIn (c .before .before .before .len .result) (c .before .before .before .before .args .self .records)))
-    ≡ first (logRefusals (c .before .before .before .before .args .self .site) (logIn (c .before .before .before .before .args .self)))
-whole c =
-    let w = c .before .before .before in
-    let l = w .before .args .self in
-    let limits : overLimit (l .site) (length (logIn l)) ≡ false =
-    ap (overLimit (l .site)) (sym (w .len .ensures)) ∙ sym (c .before .before .over-limit .ensures) ∙ c .before .if1 .left in
-    ap (λ (n : ℕ). first (recordRefusals (l .site) [] (bytesIn n (l .records)))) (w .len .ensures)
-    ∙ ap (λ (rs : List (List ℕ)). first (recordRefusals (l .site) [] rs)) (log-counted l)
-    ∙ sym (refused-record (l .site) (logIn l) limits)
+limits : (c : tie.Else1 Inv-loop μ-loop) → let l = c .before .before .args .self in overLimit (l .site) (l .count) ≡ false
+limits c = sym (c .before .over-limit .ensures) ∙ c .if1 .left
 
-few : (c : tie.At-loop Inv-loop μ-loop) → c .before .before .before .before .before .len .result ≤ length (c .before .before .before .before .before .before .args .self .records)
+fit : (c : tie.Start Inv-loop μ-loop) → length (c .args .self .records) ≡ 24
+fit c = simp length-map at (c .good .0 .1 .1 .1 .1 .0 .1 .0 .1)
+
+-- past the first test the records decide
+whole : (c : tie.Else1 Inv-loop μ-loop)
+    → let l = c .before .before .args .self in
+    first (recordRefusals (l .site) [] (bytesIn (l .count) (l .records))) ≡ first (logRefusals (l .site) (logIn l))
+whole c =
+    let s = c .before .before in
+    let l = s .args .self in
+    ap (λ (rs : List (List ℕ)). first (recordRefusals (l .site) [] rs)) (held-bytes l (few-records (l .site) (l .count) (limits c)))
+    ∙ sym (refused-record (l .site) (logIn l) (ap (overLimit (l .site)) (held-count l (fit s)) ∙ limits c))
+
+few : (c : tie.At-loop Inv-loop μ-loop) → let l = c .before .before .before .before .before .args .self in l .count ≤ length (l .records)
 few c = omega (arith, c .loop .inv .0, c .loop .inv .1 .0)
 
 answered : (c : tie.After-judged Inv-loop μ-loop)
-    → c .judged .result
-    ≡ answerFor (c .before .before .before .before .before .before .before .before .before .before .args .self .site) (c .before .before .before .before .loop .newest .of)
-    (getD (c .before .before .before .before .before .before .before .before .before .before .args .self .records) (c .before .before .before .before .loop .i) noRecord)
+    → let w = c .before .before .before .before in
+    let l = w .before .before .before .before .before .args .self in
+    c .judged .result ≡ answerFor (l .site) (w .loop .newest .of) (getD (l .records) (w .loop .i) noRecord)
 answered c =
     let w = c .before .before .before .before in
-    let l = w .before .before .before .before .before .before .args .self in
+    let l = w .before .before .before .before .before .args .self in
     let x = getD (l .records) (w .loop .i) noRecord in
     c .judged .ensures ∙ ap (λ (y : Record). answerTo (isRecord (l .site) (bytesOf (recordIn x))) (mayFollow (recordIn y) (recordIn x)) x) (c .before .behind .ensures)
-
-len-requires : tie.Need-len-requires Inv-loop μ-loop
-len-requires c κs = tt
 
 over-limit-requires : tie.Need-over-limit-requires Inv-loop μ-loop
 over-limit-requires c κs = tt
 
 returns : tie.Need-returns Inv-loop μ-loop
-returns c = let a = c .before .before .before .args in
-    sym (refused-limit (a .self .site) (logIn (a .self)) (ap (overLimit (a .self .site)) (sym (c .before .before .len .ensures)) ∙ sym (c .before .over-limit .ensures) ∙ c .if1 .taken))
+returns c = let s = c .before .before in
+    let l = s .args .self in
+    sym (refused-limit (l .site) (logIn l) (ap (overLimit (l .site)) (held-count l (fit s)) ∙ sym (c .before .over-limit .ensures) ∙ c .if1 .taken))
 
 none-requires : tie.Need-none-requires Inv-loop μ-loop
 none-requires c κs = tt
 
 loop-holds : tie.Need-loop-holds Inv-loop μ-loop
-loop-holds c = let w = c .before .before .before .before in
-    let size = simp length-map at (w .before .good .0 .1 .1 .1 .1 .0 .1 .0 .1) in
-    (omega (arith, w .len .ensures, log-few (w .before .args .self) size), (size, rw (c .none .ensures) (passed-none _ _)))
+loop-holds c = let w = c .before .before in
+    let l = w .before .before .args .self in
+    (few-records (l .site) (l .count) (limits w), (fit (w .before .before), rw (c .none .ensures) (passed-none _ _)))
 
 mul-next : tie.Need-mul-next Inv-loop μ-loop
 mul-next c = search needs
@@ -87,13 +90,12 @@ number-requires c κs = tt
 returns-2 : tie.Need-returns-2 Inv-loop μ-loop
 returns-2 c = let judged = c .before .before in
     let w = judged .before .before .before .before in
-    let len = w .before .before .before .before .before in
-    let l = len .before .args .self in
+    let l = w .before .before .before .before .before .args .self in
     let number = ap recordNumber (answered judged) in
     c .number .ensures ∙ number
-    ∙ log-stopped (l .site) (len .len .result) (l .records) (w .loop .newest .of) (w .loop .i) (w .loop .inv .1 .1) (judged .before .before .before .loop-test .taken) (few w)
+    ∙ log-stopped (l .site) (l .count) (l .records) (w .loop .newest .of) (w .loop .i) (w .loop .inv .1 .1) (judged .before .before .before .loop-test .taken) (few w)
     (λ e. not-accepted (judged .judged .result) (c .before .match .keys2) (number ∙ e))
-    ∙ whole (w .before .before)
+    ∙ whole (w .before .before .before)
 
 with-requires : tie.Need-with-requires Inv-loop μ-loop
 with-requires c κs = tt
@@ -106,22 +108,20 @@ loop-less c = search needs
 
 loop-again : tie.Need-loop-again Inv-loop μ-loop
 loop-again c = let w = c .before .before .before .before .before .before .before .before in
-    let len = w .before .before .before .before .before in
-    let l = len .before .args .self in
+    let l = w .before .before .before .before .before .args .self in
     let inv = w .loop .inv in (
       inv .0,
       (
         inv .1 .0,
-        rw (c .with .ensures) (log-next (l .site) (len .len .result) (l .records) (w .loop .newest .of) (w .loop .i) (inv .1 .1) (c .before .before .before .before .before .before .before .loop-test .taken) (few w)
+        rw (c .with .ensures) (log-next (l .site) (l .count) (l .records) (w .loop .newest .of) (w .loop .i) (inv .1 .1) (c .before .before .before .before .before .before .before .loop-test .taken) (few w)
             (c .before .before .answer .given .0 .0) (sym (answered (c .before .before .before .before)) ∙ c .before .before .answer .given .1) .1),
       ),
     )
 
 returns-3 : tie.Need-returns-3 Inv-loop μ-loop
 returns-3 c = let w = c .before in
-    let len = w .before .before .before .before .before in
-    let l = len .before .args .self in
-    sym (sym (whole (w .before .before)) ∙ passed-all (l .site) (bytesIn (len .len .result) (l .records)) (w .loop .newest .of) (w .loop .i) (rw (records-length (len .len .result) (l .records) (few w)) (c .loop-test .left)) (w .loop .inv .1 .1))
+    let l = w .before .before .before .before .before .args .self in
+    sym (sym (whole (w .before .before .before)) ∙ passed-all (l .site) (bytesIn (l .count) (l .records)) (w .loop .newest .of) (w .loop .i) (rw (records-length (l .count) (l .records) (few w)) (c .loop-test .left)) (w .loop .inv .1 .1))
 
 pub refusal-spec : {M : Type 1} → statement M
 refusal-spec =
@@ -129,7 +129,6 @@ refusal-spec =
     (tie.spec
     Inv-loop
     μ-loop
-    len-requires
     over-limit-requires
     returns
     none-requires

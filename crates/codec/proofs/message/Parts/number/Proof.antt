@@ -1,6 +1,5 @@
 use Rattle.codec.proofs.Numbered.{participant-one}
 use mathlib.Core.Path.{sym}
-use native.Mathlib.Omega.{arith}
 use Rattle.codec.specs.Messages.{messageNumber}
 use Rattle.codec.specs.Answers.{partsIn, numberValues}
 use Rattle.codec.proofs.Numbered.{wrong-parts, number-of}
