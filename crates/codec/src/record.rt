@@ -111,7 +111,7 @@ impl Record {
         second: 0,
     };
     // Length by kind.
-    const LENGTHS: [usize; 8] = [0, 4, 4, 2, 2, 3, 2, 2];
+    const LENGTHS: [u8; 8] = [0, 4, 4, 2, 2, 3, 2, 2];
     // The kinds that may stand behind a kind, of one transaction, as a mask: bit k is kind k.
     const NEXT: [u8; 8] = [0xFE, 0x14, 0x08, 0, 0, 0xC0, 0, 0];
 
@@ -122,7 +122,7 @@ impl Record {
         if Record::ABORTED < kind {
             return 0;
         }
-        Record::LENGTHS[kind as usize]
+        Record::LENGTHS[kind as usize] as usize
     }
 
     // How many bytes the record has: kind, transaction, and the fields of its kind.
