@@ -1,71 +1,70 @@
+use mathlib.Core.Path.{_≡_, ap, _∙_}
+use mathlib.Core.List.{List, [], _∷_}
+use Prim.Native.Nat.{ℕ}
+use borrow.Author.Tests.{eq-eqb}
+use lib.ListN.{getD}
+use Rattle.codec.specs.Image.{Written, writeImage}
+use Rattle.codec.specs.Records.{LogRecord}
+use Rattle.codec.specs.Answers.{logIn, written}
+use Rattle.codec.specs.Open.{codec-opens}
 use borrow.Author.Needs.{needs}
 use Rattle.codec_cases.proofs.buffers.Statement.{statement}
 use Rattle.codec_cases.proofs.buffers.Tie as tie
-use Rattle.codec_cases.proofs.buffers.Reads as reads
-use Rattle.codec_cases.proofs.buffers.Lts as lts
-use Rattle.check.proofs.expect.Reads as expect-reads
-use Rattle.check.proofs.same.Reads as same-reads
-use Rattle.codec.proofs.log.Log.new.Reads as new-reads
-use Rattle.codec.proofs.writer.copy_image.Reads as copy-image-reads
-use Rattle.codec.proofs.writer.write_image.Reads as write-image-reads
 
--- src/main.rt:36:31
+-- a log without records, in five bytes
+five-bytes : (s : ℕ) (log : List LogRecord) → s ≡ 1 → log ≡ [] → writeImage s log 0 (238 ∷ 238 ∷ 238 ∷ 238 ∷ 238 ∷ []) ≡ written 25 (238 ∷ 238 ∷ 238 ∷ 238 ∷ 238 ∷ [])
+unfolding codec-opens
+five-bytes s log e f = rw (e, f)
+
+short : (c : tie.After-write-image) → written (c .write-image .result) (c .write-image .last .1 .0) ≡ written 25 (238 ∷ 238 ∷ 238 ∷ 238 ∷ 238 ∷ [])
+short c =
+    let new = c .before .before .new in
+    c .write-image .ensures ∙ five-bytes (new .result .site) (logIn (new .result)) (new .ensures .0) (new .ensures .1 .1)
+
 new-requires : tie.Need-new-requires
-new-requires c κs = search needs
+new-requires c κs = tt
 
--- src/main.rt:36:44
 slice-aggregate-write-image : tie.Need-slice-aggregate-write-image
 slice-aggregate-write-image c = search needs
 
--- src/main.rt:36:19
 write-image-requires : tie.Need-write-image-requires
-write-image-requires c κs = search needs
+write-image-requires c κs = tt
 
--- src/main.rt:36:5
 expect-requires : tie.Need-expect-requires
-expect-requires c κs = ?
+expect-requires c κs = eq-eqb (c .before .write-image .result) 25 (ap (λ (w : Written). w .answer) (short (c .before)))
 
--- src/main.rt:37:19
 array-read-expect : tie.Need-array-read-expect
 array-read-expect c = search needs
 
--- src/main.rt:37:5
 expect-requires-2 : tie.Need-expect-requires-2
-expect-requires-2 c κs = ?
+expect-requires-2 c κs = eq-eqb (getD (c .before .before .write-image .last .1 .0) 0 0) 238 (ap (λ (w : Written). getD (w .buffer) 0 0) (short (c .before .before)))
 
--- src/main.rt:40:30
-slice-aggregate-copy-image : tie.Need-slice-aggregate-copy-image
-slice-aggregate-copy-image c = search needs
+slice-aggregate-dpr-image-copy : tie.Need-slice-aggregate-dpr-image-copy
+slice-aggregate-dpr-image-copy c = search needs
 
--- src/main.rt:40:87
-slice-aggregate-copy-image-2 : tie.Need-slice-aggregate-copy-image-2
-slice-aggregate-copy-image-2 c = search needs
+slice-aggregate-dpr-image-copy-2 : tie.Need-slice-aggregate-dpr-image-copy-2
+slice-aggregate-dpr-image-copy-2 c = search needs
 
--- src/main.rt:40:19
-copy-image-requires : tie.Need-copy-image-requires
-copy-image-requires c κs = search needs
+dpr-image-copy-requires : tie.Need-dpr-image-copy-requires
+dpr-image-copy-requires c κs = tt
 
--- src/main.rt:40:5
 expect-requires-3 : tie.Need-expect-requires-3
-expect-requires-3 c κs = ?
+unfolding codec-opens
+expect-requires-3 c κs = eq-eqb (c .before .dpr-image-copy .result) 0 (ap (λ (w : Written). w .answer) (c .before .dpr-image-copy .ensures))
 
--- src/main.rt:41:31
 slice-aggregate-same : tie.Need-slice-aggregate-same
 slice-aggregate-same c = search needs
 
--- src/main.rt:41:40
 slice-aggregate-same-2 : tie.Need-slice-aggregate-same-2
 slice-aggregate-same-2 c = search needs
 
--- src/main.rt:41:19
 same-requires : tie.Need-same-requires
-same-requires c κs = search needs
+same-requires c κs = tt
 
--- src/main.rt:41:5
 expect-requires-4 : tie.Need-expect-requires-4
-expect-requires-4 c κs = ?
+unfolding codec-opens
+expect-requires-4 c κs = c .same .ensures .1 (ap (λ (w : Written). w .buffer) (c .before .before .before .before .before .dpr-image-copy .ensures))
 
--- src/main.rt:33:1
 returns : tie.Need-returns
 returns c = search needs
 
@@ -79,9 +78,9 @@ buffers-spec =
     expect-requires
     array-read-expect
     expect-requires-2
-    slice-aggregate-copy-image
-    slice-aggregate-copy-image-2
-    copy-image-requires
+    slice-aggregate-dpr-image-copy
+    slice-aggregate-dpr-image-copy-2
+    dpr-image-copy-requires
     expect-requires-3
     slice-aggregate-same
     slice-aggregate-same-2

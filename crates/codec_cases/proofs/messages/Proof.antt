@@ -1,45 +1,46 @@
+use mathlib.Core.Path.{_≡_, ap, sym, _∙_}
+use borrow.Author.Tests.{eq-eqb}
+use mathlib.Core.List.{[], _∷_}
+use lib.ListN.{length, set}
+use Rattle.codec.specs.Image.{Written}
+use Rattle.codec.specs.Open.{codec-opens}
 use borrow.Author.Needs.{needs}
 use Rattle.codec_cases.proofs.messages.Statement.{statement}
 use Rattle.codec_cases.proofs.messages.Tie as tie
-use Rattle.codec_cases.proofs.messages.Reads as reads
-use Rattle.codec_cases.proofs.messages.Lts as lts
-use Rattle.check.proofs.expect.Reads as expect-reads
-use Rattle.check.proofs.same.Reads as same-reads
-use Rattle.codec.proofs.firmware.dpr_message_parts.Reads as dpr-message-parts-reads
 
--- src/main.rt:47:19
+-- the refusal left the three bytes as they were, and the second call has set them
+parts : (c : tie.After-dpr-message-parts2) → c .dpr-message-parts2 .last .1 .0 ≡ 7 ∷ 8 ∷ 6 ∷ []
+unfolding codec-opens
+parts c =
+    ap (λ (w : Written). w .buffer) (c .dpr-message-parts2 .ensures)
+    ∙ ap (λ (w : Written). set (set (set (w .buffer) 0 7) 1 8) 2 6) (c .before .before .before .dpr-message-parts .ensures)
+
 dpr-message-parts-requires : tie.Need-dpr-message-parts-requires
-dpr-message-parts-requires c κs = search needs
+dpr-message-parts-requires c κs = tt
 
--- src/main.rt:47:5
 expect-requires : tie.Need-expect-requires
-expect-requires c κs = ?
+unfolding codec-opens
+expect-requires c κs = eq-eqb (c .dpr-message-parts .result) 26 (ap (λ (w : Written). w .answer) (c .dpr-message-parts .ensures))
 
--- src/main.rt:48:19
 dpr-message-parts-requires-2 : tie.Need-dpr-message-parts-requires-2
-dpr-message-parts-requires-2 c κs = search needs
+dpr-message-parts-requires-2 c κs = tt
 
--- src/main.rt:48:5
 expect-requires-2 : tie.Need-expect-requires-2
-expect-requires-2 c κs = ?
+unfolding codec-opens
+expect-requires-2 c κs = eq-eqb (c .dpr-message-parts2 .result) 0 (ap (λ (w : Written). w .answer) (c .dpr-message-parts2 .ensures))
 
--- src/main.rt:49:31
 slice-aggregate-same : tie.Need-slice-aggregate-same
-slice-aggregate-same c = ?
+slice-aggregate-same c = sym (ap length (parts (c .before .before)))
 
--- src/main.rt:49:39
 slice-aggregate-same-2 : tie.Need-slice-aggregate-same-2
 slice-aggregate-same-2 c = search needs
 
--- src/main.rt:49:19
 same-requires : tie.Need-same-requires
-same-requires c κs = search needs
+same-requires c κs = tt
 
--- src/main.rt:49:5
 expect-requires-3 : tie.Need-expect-requires-3
-expect-requires-3 c κs = ?
+expect-requires-3 c κs = c .same .ensures .1 (parts (c .before .before .before .before))
 
--- src/main.rt:44:1
 returns : tie.Need-returns
 returns c = search needs
 
