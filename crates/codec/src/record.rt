@@ -3,11 +3,9 @@ use crate::sets::minus;
 use crate::sets::part;
 ghost use mathlib.Core.Path.{_≡_};
 ghost use mathlib.Core.Bool.{_&&_};
-ghost use Prim.Native.Nat.{_≤_};
 ghost use lib.Dec.{leb};
 ghost use lib.ListN.{length, getD, set, replicate};
 ghost use Rattle.codec.specs.Records.{bytesOf, lengthOf, recordKindAt, fieldsInRange, isRecord, recordOf};
-ghost use Rattle.codec.specs.Image.{stored};
 ghost use Rattle.codec.specs.Sets as sets;
 ghost use Rattle.codec.specs.Answers.{recordIn, recordFrom, noRecord, mayFollow, recordNumber, answerTo};
 
@@ -135,22 +133,6 @@ impl Record {
             return 2;
         }
         length
-    }
-
-    // Writes the record at the front of a part of a buffer.
-    pub fn write(self, out: &mut [u8])
-        requires { ⌜ length (bytesOf (recordIn self)) ≤ length (now out) ⌝ }
-        ensures { λ _. ⌜ now (out .exit) ≡ stored 0 (bytesOf (recordIn self)) (now (out .entry)) ⌝ }
-    {
-        let length = self.length();
-        out[0] = self.kind;
-        out[1] = self.transaction;
-        if 2 < length {
-            out[2] = self.first;
-        }
-        if 3 < length {
-            out[3] = self.second;
-        }
     }
 
     // The record that bytes are, if they are one.

@@ -9,7 +9,7 @@ ghost use lib.ListN.{length};
 ghost use Rattle.codec.specs.Lists.{first};
 ghost use Rattle.codec.specs.Records.{bytesOf};
 ghost use Rattle.codec.specs.Image.{magic, headLength, word, pairTable, image, stored, logRefusals, writeImage, copyImage};
-ghost use Rattle.codec.specs.Answers.{logIn, bytesIn, written};
+ghost use Rattle.codec.specs.Answers.{recordIn, logIn, bytesIn, written};
 
 // The opening, site and count.
 fn write_head(site: u8, count: u8, out: &mut [u8])
@@ -53,6 +53,22 @@ fn write_pairs(records: [Record; 24], count: usize, out: &mut [u8])
     }
 }
 
+// One record, at the front of a part of a buffer.
+fn write_record(x: Record, out: &mut [u8])
+    requires { ⌜ length (bytesOf (recordIn x)) ≤ length (now out) ⌝ }
+    ensures { λ _. ⌜ now (out .exit) ≡ stored 0 (bytesOf (recordIn x)) (now (out .entry)) ⌝ }
+{
+    let size = x.length();
+    out[0] = x.kind;
+    out[1] = x.transaction;
+    if 2 < size {
+        out[2] = x.first;
+    }
+    if 3 < size {
+        out[3] = x.second;
+    }
+}
+
 // The records, without gaps.
 fn write_records(records: [Record; 24], count: usize, out: &mut [u8])
     requires { ⌜ (count ≤ 24) × (length (flatten (bytesIn count records)) ≤ length (now out)) ⌝ }
@@ -62,7 +78,7 @@ fn write_records(records: [Record; 24], count: usize, out: &mut [u8])
     let mut i = 0;
     while i < count {
         let record = records[i];
-        record.write(&mut out[at..]);
+        write_record(record, &mut out[at..]);
         at += record.length();
         i += 1;
     }

@@ -26,17 +26,17 @@ mul-record c = place-fits (c .before .loop .inv .0) (c .loop-test .taken) .0
 array-copy-out-record : tie.Need-array-copy-out-record Inv-loop μ-loop
 array-copy-out-record c = index-below (c .before .loop .inv .0) (c .loop-test .taken)
 
-sub-write : tie.Need-sub-write Inv-loop μ-loop
-sub-write c = le-trans (le-add-right _ _) (c .before .before .loop .inv .1 .room)
+sub-write-record : tie.Need-sub-write-record Inv-loop μ-loop
+sub-write-record c = le-trans (le-add-right _ _) (c .before .before .loop .inv .1 .room)
 
-part-write-start : tie.Need-part-write-start Inv-loop μ-loop
-part-write-start c = sub-write c
+part-write-record-start : tie.Need-part-write-record-start Inv-loop μ-loop
+part-write-record-start c = sub-write-record c
 
-part-write-end : tie.Need-part-write-end Inv-loop μ-loop
-part-write-end c = le-refl _
+part-write-record-end : tie.Need-part-write-record-end Inv-loop μ-loop
+part-write-record-end c = le-refl _
 
-write-requires : tie.Need-write-requires Inv-loop μ-loop
-write-requires c κs =
+write-record-requires : tie.Need-write-record-requires Inv-loop μ-loop
+write-record-requires c κs =
     let i = c .before .before .before .loop .inv in
     left-room (i .1) (flat-next (i .0) (c .before .before .loop-test .taken))
 
@@ -63,7 +63,7 @@ loop-again c =
     let w = c .before .before .before .before .before .before in
     let i = w .before .loop .inv in (
       counted-next (i .0) (w .loop-test .taken) (c .length .ensures),
-      left-put (i .1) (flat-next (i .0) (w .loop-test .taken)) _ (ap (w .before .loop .at +_) (c .length .ensures)) _ (c .before .before .before .write .ensures),
+      left-put (i .1) (flat-next (i .0) (w .loop-test .taken)) _ (ap (w .before .loop .at +_) (c .length .ensures)) _ (c .before .before .before .write-record .ensures),
     )
 
 same-length : tie.Need-same-length Inv-loop μ-loop
@@ -84,10 +84,10 @@ write-records-spec =
     loop-holds
     mul-record
     array-copy-out-record
-    sub-write
-    part-write-start
-    part-write-end
-    write-requires
+    sub-write-record
+    part-write-record-start
+    part-write-record-end
+    write-record-requires
     length-requires
     add-at
     add-i
