@@ -8,7 +8,8 @@ use lib.ListN.{getD}
 use Rattle.codec.specs.Lists.{every, same}
 use Rattle.codec.specs.Sets.{empty, minus}
 use Rattle.codec.specs.Records.{lengths, lengthOf, membersIn, presumeCommitIn, awaitsAcks, agrees}
-use Rattle.codec.specs.Answers.{recordIn, nextKinds, mayFollow}
+use Rattle.codec.specs.Answers.{recordIn}
+use Rattle.codec.specs.Inside.{nextKinds, mayFollow}
 use Rattle.codec.specs.declared.record.Record.{Record}
 use Rattle.codec.proofs.Fields.{and-true}
 use Rattle.codec.proofs.Sequence.{may-next}

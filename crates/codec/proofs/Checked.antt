@@ -9,7 +9,8 @@ use lib.Seq.{getD-take}
 use Rattle.codec.specs.Lists.{first}
 use Rattle.codec.specs.Records.{LogRecord, bytesOf, recordOf, isRecord, recordRefusals}
 use Rattle.codec.specs.Image.{overLimit, logRefusals}
-use Rattle.codec.specs.Answers.{recordIn, bytesIn, noRecord, mayFollow, recordNumber, answerTo}
+use Rattle.codec.specs.Answers.{recordIn, noRecord, recordNumber}
+use Rattle.codec.specs.Inside.{bytesIn, mayFollow, answerTo}
 use Rattle.codec.specs.declared.record.Record.{Record}
 use Rattle.codec.specs.declared.record.RecordAnswer.{RecordAnswer}
 use Rattle.codec.specs.declared.record.RecordAnswer.the-variants.{Accepted}

@@ -11,7 +11,8 @@ use lib.ListN.{length, getD, take, List·getD-eq-default}
 use Rattle.codec.specs.Lists.{every}
 use Rattle.codec.specs.Records.{LogRecord, bytesOf, recordOf, lengths, lengthOf, membersIn, presumeCommitIn, recordKindAt, masksInRange, fieldsInRange, isRecord}
 use Rattle.codec.specs.Sets.{empty, part}
-use Rattle.codec.specs.Answers.{recordIn, recordFrom, noRecord, mayFollow, answerTo}
+use Rattle.codec.specs.Answers.{recordIn, noRecord}
+use Rattle.codec.specs.Inside.{recordFrom, mayFollow, answerTo}
 use Rattle.codec.specs.declared.record.Record.{Record}
 use Rattle.codec.proofs.Tests.{below, below-at, of-true, lt-or-le}
 

@@ -12,7 +12,8 @@ use lib.Seq.{getD-drop, take-suc-set, take-all}
 use Rattle.codec.specs.Lists.{first}
 use Rattle.codec.specs.Records.{recordOf, isRecord, recordRefusals}
 use Rattle.codec.specs.Image.{headLength, siteIn, countIn, pairsIn, recordsIn, exact, tableExact, refused, readUnless}
-use Rattle.codec.specs.Answers.{wordAt, Within, recordIn, recordFrom, noRecord, mayFollow, recordNumber, answerTo, values, Readable}
+use Rattle.codec.specs.Answers.{recordIn, noRecord, recordNumber, values}
+use Rattle.codec.specs.Inside.{wordAt, Within, recordFrom, mayFollow, answerTo, Readable}
 use Rattle.codec.specs.declared.record.Record.{Record}
 use Rattle.codec.specs.declared.record.RecordAnswer.{RecordAnswer}
 use Rattle.codec.specs.declared.record.RecordAnswer.the-variants.{Accepted}

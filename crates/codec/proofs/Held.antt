@@ -7,7 +7,8 @@ use lib.ListN.{length, take, length-append, length-take, length-map, length-repl
 use Rattle.codec.specs.Lists.{first}
 use Rattle.codec.specs.Records.{LogRecord, bytesOf}
 use Rattle.codec.specs.Image.{headLength, image, overLimit, logRefusals}
-use Rattle.codec.specs.Answers.{recordIn, logIn, bytesIn}
+use Rattle.codec.specs.Answers.{recordIn, logIn}
+use Rattle.codec.specs.Inside.{bytesIn}
 use Rattle.codec.specs.declared.log.Log.{Log}
 use Rattle.codec.proofs.Refusals.{passed}
 use Rattle.codec.proofs.Opened.{few-records}

@@ -11,7 +11,8 @@ use mir.Syntax.{w64}
 use mir.Val.{Fits}
 use Rattle.codec.specs.Records.{bytesOf}
 use Rattle.codec.specs.Image.{magic, headLength, word, pairTable, image}
-use Rattle.codec.specs.Answers.{recordIn, noRecord, logIn, bytesIn}
+use Rattle.codec.specs.Answers.{recordIn, noRecord, logIn}
+use Rattle.codec.specs.Inside.{bytesIn}
 use Rattle.codec.specs.declared.record.Record.{Record}
 use Rattle.codec.specs.declared.log.Log.{Log}
 use Rattle.codec.proofs.Fields.{bytes-length, length-most}

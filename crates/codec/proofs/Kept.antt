@@ -10,7 +10,8 @@ use lib.ListN.{length, getD, set, replicate, getD-replicate, length-set}
 use lib.Seq.{getD-set-same, getD-set-other}
 use Rattle.codec.specs.Lists.{select, any, same}
 use Rattle.codec.specs.Records.{LogRecord, sequences, ofTransaction, inSequence}
-use Rattle.codec.specs.Answers.{recordIn, noRecord, mayFollow}
+use Rattle.codec.specs.Answers.{recordIn, noRecord}
+use Rattle.codec.specs.Inside.{mayFollow}
 use Rattle.codec.specs.declared.record.Record.{Record}
 use Rattle.codec.proofs.Sequence.{kinds, legal, lastOr, none, by-newest}
 

@@ -9,7 +9,7 @@ use lib.Dec.{eqb}
 use lib.ListN.{length, getD, take, drop, length-take, length-drop, length-map, drop-of-length-le}
 use lib.Seq.{getD-take, getD-drop, drop-drop}
 use Rattle.codec.specs.Image.{headLength, pairsOf, countIn, pairsIn, recordsIn, exact, tableExact}
-use Rattle.codec.specs.Answers.{wordAt}
+use Rattle.codec.specs.Inside.{wordAt}
 use Rattle.codec.proofs.Tables.{length-pairs}
 
 pairs-drop : (i : ℕ) (table : List ℕ) → drop i (pairsOf table) ≡ pairsOf (drop (4 * i) table)

@@ -12,7 +12,8 @@ use lib.ListN.{length, getD, set, take, drop, replicate, length-map, drop-of-len
 use lib.Seq.{drop-cons, take-suc}
 use Rattle.codec.specs.Lists.{every, first}
 use Rattle.codec.specs.Records.{LogRecord, recordOf, recordKindAt, isRecord, inSequence, recordTests, recordRefusals}
-use Rattle.codec.specs.Answers.{recordIn, noRecord, mayFollow, recordNumber, answerTo}
+use Rattle.codec.specs.Answers.{recordIn, noRecord, recordNumber}
+use Rattle.codec.specs.Inside.{mayFollow, answerTo}
 use Rattle.codec.specs.declared.record.Record.{Record}
 use Rattle.codec.specs.declared.record.RecordAnswer.{RecordAnswer}
 use Rattle.codec.specs.declared.record.RecordAnswer.the-variants.{Accepted, Wrong, OutOfSequence}

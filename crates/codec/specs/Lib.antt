@@ -4,4 +4,5 @@ pub mod Records
 pub mod Image
 pub mod Messages
 pub mod Answers
+pub mod Inside
 pub mod Open

@@ -3,10 +3,9 @@ use crate::record::Newest;
 use crate::record::Record;
 use crate::record::RecordAnswer;
 ghost use mathlib.Core.Path.{_≡_};
-ghost use mathlib.Core.List.{[]};
 ghost use Rattle.codec.specs.Lists.{first};
 ghost use Rattle.codec.specs.Image.{overLimit, logRefusals};
-ghost use Rattle.codec.specs.Answers.{logIn};
+ghost use Rattle.codec.specs.Answers.{logIn, noLog};
 
 // The first `count` of `records`, in log order. A count above 24 is refused by 21.
 pub struct Log {
@@ -32,7 +31,7 @@ impl Log {
     pub const PARTICIPANT_MOST: usize = 16;
 
     pub fn new(site: u8) -> Log
-        ensures { λ r. ⌜ (r .site ≡ site) × ((r .count ≡ 0) × (logIn r ≡ [])) ⌝ }
+        ensures { λ r. ⌜ r ≡ noLog site ⌝ }
     {
         Log {
             site,

@@ -12,7 +12,8 @@ ghost use lib.ListN.{length, take};
 ghost use Rattle.codec.specs.Lists.{first, same};
 ghost use Rattle.codec.specs.Records.{recordRefusals};
 ghost use Rattle.codec.specs.Image.{magic, siteIn, recordsIn, refused, readUnless, readImage, tableExact};
-ghost use Rattle.codec.specs.Answers.{values, imageValues, wordAt, Readable, Within};
+ghost use Rattle.codec.specs.Answers.{values, imageValues};
+ghost use Rattle.codec.specs.Inside.{wordAt, Readable, Within};
 
 // 0 and the log, or the number that refuses and no log.
 pub struct ImageAnswer {

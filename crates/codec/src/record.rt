@@ -7,7 +7,8 @@ ghost use lib.Dec.{leb};
 ghost use lib.ListN.{length, getD, set, replicate};
 ghost use Rattle.codec.specs.Records.{bytesOf, lengthOf, recordKindAt, fieldsInRange, isRecord, recordOf};
 ghost use Rattle.codec.specs.Sets as sets;
-ghost use Rattle.codec.specs.Answers.{recordIn, recordFrom, noRecord, mayFollow, recordNumber, answerTo};
+ghost use Rattle.codec.specs.Answers.{recordIn, noRecord, recordNumber};
+ghost use Rattle.codec.specs.Inside.{recordFrom, mayFollow, answerTo};
 
 // The fields behind the transaction are members and PC in a record 1 or 2, and the presumption in a record 5.
 pub struct Record {

@@ -9,7 +9,8 @@ ghost use lib.ListN.{length};
 ghost use Rattle.codec.specs.Lists.{first};
 ghost use Rattle.codec.specs.Records.{bytesOf};
 ghost use Rattle.codec.specs.Image.{magic, headLength, word, pairTable, image, stored, logRefusals, writeImage, copyImage};
-ghost use Rattle.codec.specs.Answers.{recordIn, logIn, bytesIn, written};
+ghost use Rattle.codec.specs.Answers.{recordIn, logIn, written};
+ghost use Rattle.codec.specs.Inside.{bytesIn};
 
 // The opening, site and count.
 fn write_head(site: u8, count: u8, out: &mut [u8])

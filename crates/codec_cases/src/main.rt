@@ -2,6 +2,7 @@
 use codec::log::Log;
 use codec::message::dpr_message_parts;
 use codec::reader::read_image;
+use codec::record::Record;
 use codec::writer::dpr_image_copy;
 use codec::writer::write_image;
 ghost use mathlib.Core.Path.{_≡_};
@@ -54,6 +55,38 @@ fn buffers() {
     ));
 }
 
+fn logs() {
+    let mut buffer = [0xEEu8; 40];
+    // 21: site 9.
+    check::expect(write_image(Log::new(9), &mut buffer, 0) == 21);
+    // 23: 05 00 02.
+    let mut one = Log::new(1);
+    one.records[0] = Record {
+        kind: Record::PREPARED,
+        transaction: 0,
+        first: 2,
+        second: 0,
+    };
+    one.count = 1;
+    check::expect(write_image(one, &mut buffer, 0) == 23);
+    // 24: 05 00 00 05 00 00.
+    let mut two = Log::new(1);
+    two.records[0] = Record {
+        kind: Record::PREPARED,
+        transaction: 0,
+        first: 0,
+        second: 0,
+    };
+    two.records[1] = Record {
+        kind: Record::PREPARED,
+        transaction: 0,
+        first: 0,
+        second: 0,
+    };
+    two.count = 2;
+    check::expect(write_image(two, &mut buffer, 0) == 24);
+}
+
 fn messages() {
     // 26: message number 01C0.
     let mut parts = [0xEEu8; 3];
@@ -65,5 +98,6 @@ fn messages() {
 fn main() {
     images();
     buffers();
+    logs();
     messages();
 }

@@ -1,25 +1,22 @@
 use mathlib.Core.Path.{_≡_, ap, _∙_}
-use mathlib.Core.List.{List, [], _∷_}
-use Prim.Native.Nat.{ℕ}
+use mathlib.Core.List.{[], _∷_}
 use borrow.Author.Tests.{eq-eqb}
 use lib.ListN.{getD}
 use Rattle.codec.specs.Image.{Written, writeImage}
-use Rattle.codec.specs.Records.{LogRecord}
-use Rattle.codec.specs.Answers.{logIn, written}
+use Rattle.codec.specs.declared.log.Log.{Log}
+use Rattle.codec.specs.Answers.{logIn, noLog, written}
 use Rattle.codec.specs.Open.{codec-opens}
 use borrow.Author.Needs.{needs}
 use Rattle.codec_cases.proofs.buffers.Statement.{statement}
 use Rattle.codec_cases.proofs.buffers.Tie as tie
 
 -- a log without records, in five bytes
-five-bytes : (s : ℕ) (log : List LogRecord) → s ≡ 1 → log ≡ [] → writeImage s log 0 (238 ∷ 238 ∷ 238 ∷ 238 ∷ 238 ∷ []) ≡ written 25 (238 ∷ 238 ∷ 238 ∷ 238 ∷ 238 ∷ [])
-unfolding codec-opens
-five-bytes s log e f = rw (e, f)
+five-bytes : (l : Log) → l ≡ noLog 1 → writeImage (l .site) (logIn l) 0 (238 ∷ 238 ∷ 238 ∷ 238 ∷ 238 ∷ []) ≡ written 25 (238 ∷ 238 ∷ 238 ∷ 238 ∷ 238 ∷ [])
+unfolding codec-opens logIn
+five-bytes l e = ap (λ (l : Log). writeImage (l .site) (logIn l) 0 (238 ∷ 238 ∷ 238 ∷ 238 ∷ 238 ∷ [])) e
 
 short : (c : tie.After-write-image) → written (c .write-image .result) (c .write-image .last .1 .0) ≡ written 25 (238 ∷ 238 ∷ 238 ∷ 238 ∷ 238 ∷ [])
-short c =
-    let new = c .before .before .new in
-    c .write-image .ensures ∙ five-bytes (new .result .site) (logIn (new .result)) (new .ensures .0) (new .ensures .1 .1)
+short c = c .write-image .ensures ∙ five-bytes (c .before .before .new .result) (c .before .before .new .ensures)
 
 new-requires : tie.Need-new-requires
 new-requires c κs = tt

@@ -4,7 +4,8 @@ use Prim.Native.Nat.{ℕ, _+_, _-_, _*_, _<_}
 use native.Mathlib.Omega.{arith}
 use borrow.Author.Needs.{needs}
 use Rattle.codec.specs.Image.{headLength, siteIn, countIn, readUnless}
-use Rattle.codec.specs.Answers.{Readable, Within, wordAt, recordNumber, values, imageValues}
+use Rattle.codec.specs.Answers.{recordNumber, values, imageValues}
+use Rattle.codec.specs.Inside.{Readable, Within, wordAt}
 use Rattle.codec.specs.declared.log.Log.{Log}
 use Rattle.codec.proofs.Held.{held}
 use Rattle.codec.proofs.Passed.{not-accepted}

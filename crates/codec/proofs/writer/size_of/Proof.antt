@@ -5,7 +5,7 @@ use native.Mathlib.Nat.{le-refl}
 use native.Mathlib.Omega.{arith}
 use lib.ListN.{length, length-append}
 use Rattle.codec.specs.Image.{headLength}
-use Rattle.codec.specs.Answers.{bytesIn}
+use Rattle.codec.specs.Inside.{bytesIn}
 use Rattle.codec.proofs.InTurn.{Counted, bytesFrom, bytes-end, flat-next, counted-start, counted-next, head-fits, index-below, place-fits, next-fits, next-less, sum-fits}
 use Rattle.codec.proofs.writer.size_of.Statement.{statement}
 use Rattle.codec.proofs.writer.size_of.Tie as tie

@@ -2,7 +2,7 @@ use mathlib.Core.Path.{ap}
 use Prim.Native.Nat.{_-_, _*_}
 use native.Mathlib.Nat.{le-refl, le-trans, le-add-right, mul-add}
 use Rattle.codec.specs.Image.{headLength, word, pairTable}
-use Rattle.codec.specs.Answers.{bytesIn}
+use Rattle.codec.specs.Inside.{bytesIn}
 use Rattle.codec.proofs.Stored.{Left, left-start, left-end, left-room, left-put}
 use Rattle.codec.proofs.InTurn.{Counted, bytesFrom, bytes-end, table-next, counted-start, counted-next, head-fits, index-below, place-fits, next-fits, next-less, sum-fits, pair-small}
 use Rattle.codec.proofs.writer.write_pairs.Statement.{statement}

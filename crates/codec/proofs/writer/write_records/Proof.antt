@@ -2,7 +2,7 @@ use mathlib.Core.Path.{ap}
 use mathlib.Core.List.{flatten}
 use Prim.Native.Nat.{_+_, _-_, zero-le}
 use native.Mathlib.Nat.{le-refl, le-trans, le-add-right}
-use Rattle.codec.specs.Answers.{bytesIn}
+use Rattle.codec.specs.Inside.{bytesIn}
 use Rattle.codec.proofs.Stored.{Left, left-start, left-end, left-room, left-put}
 use Rattle.codec.proofs.InTurn.{Counted, bytesFrom, bytes-end, flat-next, counted-start, counted-next, index-below, place-fits, next-fits, next-less, sum-fits}
 use Rattle.codec.proofs.writer.write_records.Statement.{statement}

@@ -9,7 +9,8 @@ use Rattle.codec.specs.Lists.{first}
 use Rattle.codec.specs.Records.{recordRefusals}
 use Rattle.codec.specs.Image.{overLimit, logRefusals}
 use Rattle.codec.specs.Records.{bytesOf, isRecord}
-use Rattle.codec.specs.Answers.{logIn, bytesIn, noRecord, recordIn, mayFollow, answerTo, recordNumber}
+use Rattle.codec.specs.Answers.{logIn, noRecord, recordIn, recordNumber}
+use Rattle.codec.specs.Inside.{bytesIn, mayFollow, answerTo}
 use Rattle.codec.specs.declared.record.Record.{Record}
 use Rattle.codec.proofs.Passed.{Passed, passed-none, passed-all, not-accepted}
 use Rattle.codec.proofs.Opened.{few-records}

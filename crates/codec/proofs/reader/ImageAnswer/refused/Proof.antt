@@ -1,15 +1,16 @@
-use Rattle.codec.specs.Answers.{values, imageValues}
-use borrow.Author.Needs.{needs}
+use mathlib.Core.Path.{ap}
+use Rattle.codec.specs.Answers.{logIn, Values, values, imageValues}
+use Rattle.codec.specs.declared.log.Log.{Log}
+use Rattle.codec.specs.declared.reader.ImageAnswer.{ImageAnswer}
 use Rattle.codec.proofs.reader.ImageAnswer.refused.Statement.{statement}
 use Rattle.codec.proofs.reader.ImageAnswer.refused.Tie as tie
 
 new-requires : tie.Need-new-requires
-new-requires c κs = search needs
+new-requires c κs = tt
 
 returns : tie.Need-returns
-unfolding values imageValues
-returns c = let e = c .new .ensures in
-    rw (e .1 .1, e .0, e .1 .0)
+unfolding values imageValues logIn
+returns c = ap (λ (l : Log). imageValues (record { answer = c .before .args .answer; log = l })) (c .new .ensures)
 
 pub refused-spec : {M : Type 1} → statement M
 refused-spec = tie.close (tie.spec new-requires returns)

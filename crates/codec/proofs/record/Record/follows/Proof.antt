@@ -1,5 +1,5 @@
 use mathlib.Core.Path.{sym}
-use Rattle.codec.specs.Answers.{nextKinds}
+use Rattle.codec.specs.Inside.{nextKinds}
 use Rattle.codec.proofs.Behind.{newest-no-kind, next-no-kind, follows-is}
 use borrow.Author.Needs.{needs}
 use Rattle.codec.proofs.record.Record.follows.Statement.{statement}

@@ -1,4 +1,4 @@
-use Rattle.codec.specs.Answers.{recordFrom}
+use Rattle.codec.specs.Inside.{recordFrom}
 use borrow.Author.Needs.{needs}
 use Rattle.codec.proofs.record.Record.from_bytes.Statement.{statement}
 use Rattle.codec.proofs.record.Record.from_bytes.Tie as tie

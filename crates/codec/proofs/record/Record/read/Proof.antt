@@ -1,7 +1,7 @@
 use denote.Ref.{now}
 use mathlib.Core.Path.{sym, _∙_, ap}
 use Rattle.codec.specs.Records.{lengthOf}
-use Rattle.codec.specs.Answers.{answerTo, recordFrom}
+use Rattle.codec.specs.Inside.{answerTo, recordFrom}
 use Rattle.codec.specs.declared.record.Record.{Record}
 use Rattle.codec.proofs.Fields.{wrong-length, read-as}
 use Rattle.codec.proofs.record.Record.read.Statement.{statement}
