@@ -111,7 +111,8 @@ impl Record {
     };
     // Length by kind.
     const LENGTHS: [u8; 8] = [0, 4, 4, 2, 2, 3, 2, 2];
-    // The kinds that may stand behind a kind, of one transaction, as a mask: bit k is kind k.
+    // The kinds that may stand behind a kind of their transaction, as a mask, bit k for kind k: first any, behind 1 2 and 4,
+    // behind 2 3, behind 5 6 and 7.
     const NEXT: [u8; 8] = [0xFE, 0x14, 0x08, 0, 0, 0xC0, 0, 0];
 
     // How many bytes a record of a kind has; 0 for what is no kind.
