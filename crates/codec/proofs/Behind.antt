@@ -1,6 +1,6 @@
 -- One record behind the newest one of its transaction, as the program tests it. Assumes nothing.
 use mathlib.Core.Path.{_≡_, refl, ap, ap₂, sym, _∙_}
-use mathlib.Core.Bool.{Bool, true, false, not, _&&_, _||_, and-false, and-assoc, and-eq-true-iff}
+use mathlib.Core.Bool.{Bool, true, false, not, _&&_, _||_, and-false, and-assoc, and-eq-true-iff, and-true}
 use Prim.Native.Nat.{_/_, _%_, _^_, _<_, _≤_}
 use borrow.Author.Tests.{lt-leb, eqb-true}
 use lib.Dec.{eqb, leb}
@@ -11,7 +11,6 @@ use Rattle.codec.specs.Records.{lengths, lengthOf, membersIn, presumeCom
 use Rattle.codec.specs.Answers.{recordIn}
 use Rattle.codec.specs.Inside.{nextKinds, mayFollow}
 use Rattle.codec.specs.declared.record.Record.{Record}
-use Rattle.codec.proofs.Fields.{and-true}
 use Rattle.codec.proofs.Sequence.{may-next}
 
 -- what the second condition says, only where the first holds

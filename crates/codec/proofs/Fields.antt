@@ -1,6 +1,6 @@
 -- One record: its length, the tests on it, and its bytes. Assumes nothing.
 use mathlib.Core.Path.{_≡_, refl, ap, sym, _∙_}
-use mathlib.Core.Bool.{Bool, true, false, not, _&&_, and-eq-true-iff, and-false, false≢true}
+use mathlib.Core.Bool.{Bool, true, false, not, _&&_, and-eq-true-iff, and-false, false≢true, and-true}
 use mathlib.Core.List.{List, [], _∷_}
 use mathlib.Core.Logic.{⊎-elim}
 use Prim.Native.Nat.{ℕ, zero, suc, _+_, _-_, _<_, _≤_}
@@ -145,10 +145,6 @@ module _ (s : ℕ) (x : Record) where
   pub right-record : recordKindAt s (x .kind) ≡ true → x .transaction ≤ 7 → fieldsInRange (recordIn x) ≡ true → isRecord s (bytesOf (recordIn x)) ≡ true
   unfolding every
   right-record e h f = rw (is-record s x, e, le-leb (x .transaction) 7 h, f)
-
-pub and-true : (b : Bool) → (b && true) ≡ b
-and-true true = refl
-and-true false = refl
 
 module _ (x : Record) (h : x .first < 256) where
   masks : every (leb 1 (x .first) ∷ leb (x .first) 255 ∷ part (x .second) (x .first) ∷ []) ≡ (leb 1 (x .first) && part (x .second) (x .first))

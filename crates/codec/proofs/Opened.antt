@@ -2,7 +2,7 @@
 use native.Mathlib.Numerals.{add-one}
 use lib.Seq.{drop-cons, getD-take}
 use mathlib.Core.Path.{_≡_, refl, _∙_}
-use mathlib.Core.Bool.{Bool, true, false, not, _&&_, _||_}
+use mathlib.Core.Bool.{true, false, not, _&&_, _||_, Bool·not-not}
 use mathlib.Core.List.{List, []}
 use Prim.Native.Nat.{ℕ, zero, suc, _+_, _<_, _≤_}
 use native.Mathlib.Omega.{arith}
@@ -51,10 +51,6 @@ module _ (bytes : List ℕ) (i : ℕ) (o : Opening bytes i) where
 
 -- ---- before the records
 
-not-not : (b : Bool) → not (not b) ≡ b
-not-not true = refl
-not-not false = refl
-
 -- no image holds more than 24 records
 pub few-records : (s n : ℕ) → overLimit s n ≡ false → n ≤ 24
 unfolding overLimit most
@@ -69,7 +65,7 @@ module _ (bytes : List ℕ) where
   too-short h = rw (lt-ltb (length bytes) 6 h)
 
   pub opens-by : 6 ≤ length bytes → not (ltb (length bytes) 6 || not (same (take 4 bytes) magic)) ≡ same (take 4 bytes) magic
-  opens-by h = rw (le-ltb (length bytes) 6 h) (not-not (same (take 4 bytes) magic))
+  opens-by h = rw (le-ltb (length bytes) 6 h) (Bool·not-not (same (take 4 bytes) magic))
 
   -- an image that opens has its six bytes
   pub opens-long : not (ltb (length bytes) 6 || not (same (take 4 bytes) magic)) ≡ true → 6 ≤ length bytes

@@ -33,10 +33,10 @@ pairs-cons (a ∷ b ∷ c ∷ []) h = absurd (omega arith)
 pairs-cons (a ∷ b ∷ c ∷ d ∷ rest) h = refl
 
 module _ (bytes : List ℕ) (whole : headLength (countIn bytes) ≤ length bytes) where
-  abbrev table : List ℕ
+  abbrev pub table : List ℕ
   table = take (4 * countIn bytes) (drop 6 bytes)
 
-  table-length : length table ≡ 4 * countIn bytes
+  pub table-length : length table ≡ 4 * countIn bytes
   unfolding headLength
   table-length = simp (length-take, length-drop) (omega (arith, whole))
 

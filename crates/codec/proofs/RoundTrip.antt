@@ -4,15 +4,16 @@ use mathlib.Core.Path.{_≡_, refl, sym, ap, _∙_}
 use mathlib.Core.Bool.{true, false, not, _||_, and-eq-true-iff}
 use mathlib.Core.List.{List, [], _∷_, _++_, map, flatten, append-assoc}
 use lib.Dec.{leb, ltb}
-use lib.ListN.{length, getD, take, drop, length-map, length-append, length-drop, take-append-drop}
+use lib.ListN.{length, getD, take, drop, length-map, length-append, take-append-drop}
 use lib.Seq.{take-append-seam, drop-at, drop-drop, drop-cons, take-at, getD-drop, length-take-le}
 use native.Mathlib.Omega.{arith}
 use borrow.Author.Tests.{leb-true, ltb-false, not-false, le-leb, le-ltb}
 use Rattle.codec.specs.Lists.{same, first}
 use Rattle.codec.specs.Records.{LogRecord, bytesOf, recordOf, recordRefusals}
 use Rattle.codec.specs.Image.{magic, headLength, pairTable, image, pairsOf, siteIn, countIn, pairsIn, recordsIn, overLimit, exact, tableExact, imageRefusals, accepted, readingNumber, readUnless, readImage, logRefusals, stored, writeImage, copyReading, copyImage}
+use Rattle.codec.proofs.Pairs.{table-length, records-length}
 use Rattle.codec.proofs.Refusals.{or-none, same-list, passed, records-bytes, log-records, write-whole, write-passed}
-use Rattle.codec.proofs.Tables.{bytes-take, length-pairs, length-table, exact-records, exact-table, named-table, table-exact}
+use Rattle.codec.proofs.Tables.{bytes-take, length-table, exact-records, exact-table, named-table, table-exact}
 
 -- ---- accepted images
 
@@ -57,13 +58,8 @@ module _ (bytes : List ℕ) (s : ℕ) (log : List LogRecord) (a : Accepted bytes
   records-written : map bytesOf log ≡ recordsIn bytes
   records-written = rw (← a .records) (records-bytes (siteIn bytes) [] (recordsIn bytes) (a .whole))
 
-  table-length : length (take (4 * countIn bytes) (drop 6 bytes)) ≡ 4 * countIn bytes
-  unfolding headLength
-  table-length = length-take-le (4 * countIn bytes) (drop 6 bytes) (simp length-drop (omega (arith, a .fits)))
-
   log-length : length log ≡ countIn bytes
-  unfolding recordsIn pairsIn
-  log-length = rw (← a .records, length-map, length-map, length-pairs, table-length) (omega arith)
+  log-length = rw (← a .records, length-map) (records-length bytes (a .fits))
 
 -- the parts of an image, joined again
 joined : (bytes : List ℕ) (n : ℕ) → 6 ≤ length bytes
@@ -146,7 +142,7 @@ same-bytes bytes small s log e =
     let n = countIn bytes in
     let table = take (4 * n) (drop 6 bytes) in
     let table-bytes = bytes-take (4 * n) (drop 6 bytes) (λ i. rw getD-drop (small (6 + i))) in
-    let length-4 = table-length bytes s log a in
+    let length-4 = table-length bytes (a .fits) in
     let same-table = exact-table bytes (headLength n) table table-bytes (omega arith) (a .placed) in
     let rest = exact-records bytes (headLength n) (pairsOf table) (a .placed) in
     rw (records-written bytes s log a, log-length bytes s log a, same-table, rest, ← a .site, ← a .opening) (joined bytes n (a .long))

@@ -1,6 +1,6 @@
 -- The sequence of a transaction's records is kept by looking at its newest record alone. Assumes nothing.
 use mathlib.Core.Path.{_≡_, refl, sym, subst}
-use mathlib.Core.Bool.{Bool, true, false, not, _&&_, _||_}
+use mathlib.Core.Bool.{Bool, true, false, not, _&&_, _||_, and-true}
 use mathlib.Core.List.{List, [], _∷_, _++_, map}
 use Prim.Native.Nat.{ℕ, _/_, _%_, _^_, _≤_}
 use native.Mathlib.Omega.{arith}
@@ -13,7 +13,6 @@ use Rattle.codec.specs.Answers.{recordIn, noRecord}
 use Rattle.codec.specs.Inside.{nextKinds, mayFollow}
 use Rattle.codec.proofs.Tests.{alike, alike-eq, below, below-at, and-left, and-right, of-true}
 use Rattle.codec.proofs.Refusals.{same-list}
-use Rattle.codec.proofs.Fields.{and-true}
 
 -- ---- kinds
 

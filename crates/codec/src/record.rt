@@ -2,11 +2,8 @@
 use crate::sets::minus;
 use crate::sets::part;
 ghost use mathlib.Core.Path.{_≡_};
-ghost use mathlib.Core.Bool.{_&&_};
-ghost use lib.Dec.{leb};
 ghost use lib.ListN.{length, getD, set, replicate};
 ghost use Rattle.codec.specs.Records.{bytesOf, lengthOf, recordKindAt, fieldsInRange, isRecord, recordOf};
-ghost use Rattle.codec.specs.Sets as sets;
 ghost use Rattle.codec.specs.Answers.{recordIn, noRecord, recordNumber};
 ghost use Rattle.codec.specs.Inside.{recordFrom, mayFollow, answerTo};
 

@@ -3,7 +3,7 @@ use crate::log::Log;
 use crate::reader::read_image;
 use crate::record::Record;
 ghost use mathlib.Core.Path.{_≡_};
-ghost use mathlib.Core.List.{[], _∷_, _++_, map, flatten};
+ghost use mathlib.Core.List.{[], _∷_, _++_, flatten};
 ghost use Prim.Native.Nat.{_+_, _<_, _≤_};
 ghost use lib.ListN.{length};
 ghost use Rattle.codec.specs.Lists.{first};
