@@ -1,9 +1,11 @@
-/* dpr.h: log images and message numbers of the handover engine, for C and C++ firmware.
+/* dpr.h: log images, message numbers and one site's step of the handover engine, for C and C++ firmware.
  *
- * Link libcodec.a, which `rt staticlib codec` writes to target/staticlib. It is compiled for x86-64, and needs nothing of
- * the C library but, at most, memcpy, memmove, memset, memcmp and bcmp.
+ * Link libcodec.a for dpr_image_copy and dpr_message_parts, and libsite.a for dpr_site_step, libsite.a before libcodec.a
+ * where both are linked. `rt staticlib codec` and `rt staticlib site` write them to target/staticlib. They are compiled
+ * for x86-64, and need nothing of the C library but, at most, memcpy, memmove, memset, memcmp and bcmp.
  *
- * Both calls return a number: DPR_ACCEPTED, or the number of a refusal. A refusal leaves the caller's memory as it was.
+ * dpr_image_copy and dpr_message_parts return a number: DPR_ACCEPTED, or the number of a refusal. A refusal leaves the
+ * caller's memory as it was. dpr_site_step returns eight bytes in one number; the lowest of them is such an answer.
  * Every value of every number, length and byte is answered; there is no error beside these numbers.
  * No call allocates, keeps state from one call to the next, waits or blocks. Calls may run at the same time, also from an
  * interrupt, as long as no memory that one of them writes is in use by another.
@@ -66,6 +68,105 @@ uint8_t dpr_image_copy(const uint8_t *image, size_t image_len, uint8_t *buffer, 
  * 3 Commit, 4 Abort, 5 CommitAck, 6 AbortAck).
  * DPR_REFUSED_MESSAGE: the number is above 447, and the three bytes are as they were. */
 uint8_t dpr_message_parts(uint16_t number, uint8_t parts[3]);
+
+/* One site's step. Handovers are 0 to 7; site 0 is the hub, sites 1 to 8 are boxes. A set of boxes is a mask. */
+#define DPR_HUB 0
+#define DPR_BIT(box) ((uint8_t)(1u << ((box) - 1))) /* of a box, 1 to 8, in a mask */
+
+/* Kinds: what a site gets, and what it sends. */
+#define DPR_PREPARE 0    /* hub to box */
+#define DPR_YES 1        /* box to hub */
+#define DPR_NO 2         /* box to hub */
+#define DPR_COMMIT 3     /* hub to box */
+#define DPR_ABORT 4      /* hub to box */
+#define DPR_COMMIT_ACK 5 /* box to hub */
+#define DPR_ABORT_ACK 6  /* box to hub */
+#define DPR_BEGIN 16     /* no message: the hub begins */
+#define DPR_TIMER 17     /* no message: the timer of the hub or of a box */
+
+/* Phases of the hub, with the set that it waits for. */
+#define DPR_HUB_OPEN 0       /* none */
+#define DPR_HUB_COLLECTING 1 /* votes missing */
+#define DPR_HUB_COMMITTING 2 /* acks missing */
+#define DPR_HUB_ABORTING 3   /* acks missing */
+#define DPR_HUB_UNKNOWN 4    /* none */
+
+/* Phases of a box. Its waiting set is always 0. */
+#define DPR_BOX_WORKING 0
+#define DPR_BOX_PREPARED 1
+#define DPR_BOX_COMMITTED 2
+#define DPR_BOX_ABORTED 3
+#define DPR_BOX_UNKNOWN 4
+
+/* What a box presumes where nothing is known of a handover. */
+#define DPR_PRESUME_ABORT 0
+#define DPR_PRESUME_COMMIT 1
+
+/* Log records, 1 to 4 of the hub, 5 to 7 of a box. Their fields, a byte each, in this order: */
+#define DPR_RECORD_INIT 1       /* 1, handover, members, presume_commit */
+#define DPR_RECORD_COMMIT 2     /* 2, handover, members, presume_commit */
+#define DPR_RECORD_COMMIT_END 3 /* 3, handover */
+#define DPR_RECORD_ABORT_END 4  /* 4, handover */
+#define DPR_RECORD_PREPARED 5   /* 5, handover, presumption */
+#define DPR_RECORD_COMMITTED 6  /* 6, handover */
+#define DPR_RECORD_ABORTED 7    /* 7, handover */
+
+#define DPR_OUTCOME_NONE 0
+#define DPR_OUTCOME_COMMIT 1
+#define DPR_OUTCOME_ABORT 2
+
+/* The eight bytes of the number that dpr_site_step returns. */
+#define DPR_STEP_ANSWER(step) ((uint8_t)(step))          /* DPR_ACCEPTED or DPR_REFUSED_ARGUMENT */
+#define DPR_STEP_PHASE(step) ((uint8_t)((step) >> 8))    /* phase after */
+#define DPR_STEP_WAITING(step) ((uint8_t)((step) >> 16)) /* waiting set after */
+#define DPR_STEP_RECORD(step) ((uint8_t)((step) >> 24))  /* kind of the record to append, or 0 */
+#define DPR_STEP_FORCED(step) ((uint8_t)((step) >> 32))  /* 1: force the log */
+#define DPR_STEP_OUTCOME(step) ((uint8_t)((step) >> 40)) /* outcome to enter, or DPR_OUTCOME_NONE */
+#define DPR_STEP_MESSAGE(step) ((uint8_t)((step) >> 48)) /* kind of the message to send */
+#define DPR_STEP_BOXES(step) ((uint8_t)((step) >> 56))   /* boxes that it goes to; 0: no message */
+
+/* Refusal of dpr_site_step. */
+#define DPR_REFUSED_ARGUMENT 1
+
+/* One step of one site on one handover. The caller keeps the site's phase and waiting set, passes them, acts on the
+ * number that comes back, and stores the phase and the waiting set that are in it.
+ *
+ * Each argument has to be as follows, or the whole number is DPR_REFUSED_ARGUMENT, its other bytes 0:
+ *   site            0 to 8.
+ *   kind            at the hub DPR_YES, DPR_NO, DPR_COMMIT_ACK, DPR_ABORT_ACK, DPR_BEGIN or DPR_TIMER; at a box
+ *                   DPR_PREPARE, DPR_COMMIT, DPR_ABORT or DPR_TIMER.
+ *   handover        0 to 7.
+ *   box             a member, 1 to 8: at the hub the message's sender, at a box the site itself, at its timer too.
+ *                   At the hub with DPR_BEGIN and DPR_TIMER: 0.
+ *   presumption     that of `box`, with every kind: DPR_PRESUME_COMMIT if it is in presume_commit, else
+ *                   DPR_PRESUME_ABORT. Where box is 0: 0.
+ *   phase           0 to 4, the hub's or the box's.
+ *   waiting         at a box, in DPR_HUB_OPEN and in DPR_HUB_UNKNOWN: 0. Else not 0, and a part of
+ *                   the members in DPR_HUB_COLLECTING,
+ *                   the members that are not in presume_commit in DPR_HUB_COMMITTING,
+ *                   presume_commit in DPR_HUB_ABORTING.
+ *   members         not 0.
+ *   presume_commit  a part of the members.
+ * A box's step, and the hub's on a message in DPR_HUB_UNKNOWN, depend on no other member: a site that does not know the
+ * members passes the set of `box` alone, and that set or 0 as presume_commit, by its presumption.
+ *
+ * DPR_ACCEPTED: do in this order what the number says, and nothing where its byte is 0:
+ *   1. append the record, its fields as passed to this call;
+ *   2. force the log: all records of the site's one log become stable, those of other handovers too;
+ *   3. enter the outcome;
+ *   4. send the message, one to each box of the set. A box sends its message to the hub, and the set is that box alone.
+ *      Look at the set, not at the kind: where nothing is sent both are 0, and 0 is DPR_PREPARE too.
+ * But DPR_RECORD_ABORT_END is appended last, after 3 and 4. Keep to the order: after a loss of power the effects that
+ * happened have to be the first of them.
+ * DPR_PREPARE goes to the lowest box first. DPR_COMMIT and DPR_ABORT go first to the boxes of the set that owe an ack for
+ * it, the lowest first, then to the others, the lowest first. For DPR_COMMIT the boxes that are not in presume_commit owe
+ * one, for DPR_ABORT those that are in it.
+ *
+ * A step may change nothing: the phase and the waiting set as they came, all other bytes 0. Either there is no rule for
+ * the kind in this phase, or its rule has nothing to do, as for a vote that comes again; the number does not tell
+ * which. */
+uint64_t dpr_site_step(uint8_t site, uint8_t kind, uint8_t handover, uint8_t box, uint8_t presumption, uint8_t phase,
+                       uint8_t waiting, uint8_t members, uint8_t presume_commit);
 
 #ifdef __cplusplus
 }

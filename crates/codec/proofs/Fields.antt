@@ -14,7 +14,7 @@ use Rattle.codec.specs.Sets.{empty, part}
 use Rattle.codec.specs.Answers.{recordIn, noRecord}
 use Rattle.codec.specs.Inside.{recordFrom, mayFollow, answerTo}
 use Rattle.codec.specs.declared.record.Record.{Record}
-use Rattle.codec.proofs.Tests.{below, below-at, of-true, lt-or-le}
+use Rattle.codec.specs.laws.Tests.{below, below-at, of-true, lt-or-le}
 
 -- ---- lengths
 

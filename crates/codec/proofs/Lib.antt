@@ -1,6 +1,4 @@
-mod Tests
 mod Lists
-mod Masks
 mod Fields
 mod Behind
 mod Refusals

@@ -14,8 +14,7 @@ use Rattle.codec.specs.Messages.{Parts, messageNumber, messageParts, mes
 use Rattle.codec.specs.Answers.{written, partsValues}
 use Rattle.codec.specs.declared.message.PartsAnswer.{PartsAnswer}
 use Rattle.codec.specs.declared.message.PartsAnswer.the-variants.{Message, Refused}
-use Rattle.codec.proofs.Tests.{lt-or-le}
-use Rattle.codec.proofs.Refusals.{or-none}
+use Rattle.codec.specs.laws.Tests.{or-none, leb-ltb, lt-or-le}
 use denote.Enum.Declared.{tagOf}
 use types.Run.{OneOf}
 use Rattle.codec.proofs.message.PartsAnswer.{the-type}
@@ -41,9 +40,6 @@ parts-refused none parts e = refl
 parts-refused (some m) parts e = let z : _≡_ {A = ℕ} 26 0 = cc in absurd (omega arith)
 
 -- ---- a message's number
-
-leb-ltb : (m n : ℕ) → leb m n ≡ not (ltb n m)
-leb-ltb m n = ⊎-elim (λ h. lt-leb m n h ∙ sym (ap not (lt-ltb n m h))) (λ h. le-leb m n h ∙ sym (ap not (le-ltb n m h))) (lt-or-le n m)
 
 none-of : (a b c d : Bool) → (not a && (not b && (not c && (not d && true)))) ≡ not (((a || b) || c) || d)
 none-of true b c d = refl

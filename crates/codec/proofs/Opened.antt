@@ -9,10 +9,10 @@ use native.Mathlib.Omega.{arith}
 use borrow.Author.Tests.{lt-ltb, le-ltb, ltb-false, eq-eqb, ne-eqb, not-true, not-false}
 use lib.Dec.{eqb, ltb}
 use lib.ListN.{length, getD, take, drop, length-take, drop-of-length-le}
+use Rattle.codec.specs.laws.Tests.{or-none}
 use Rattle.codec.specs.Lists.{first, same}
 use Rattle.codec.specs.Records.{recordRefusals}
 use Rattle.codec.specs.Image.{magic, siteIn, countIn, recordsIn, most, overLimit, tableExact, imageRefusals, refused, readUnless, readImage}
-use Rattle.codec.proofs.Refusals.{or-none}
 
 -- ---- the opening, compared byte by byte
 

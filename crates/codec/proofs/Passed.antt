@@ -20,7 +20,7 @@ use Rattle.codec.specs.declared.record.RecordAnswer.the-variants.{Accept
 use denote.Enum.Declared.{tagOf}
 use types.Run.{OneOf}
 use Rattle.codec.proofs.record.RecordAnswer.{the-type}
-use Rattle.codec.proofs.Tests.{lt-or-le}
+use Rattle.codec.specs.laws.Tests.{lt-or-le}
 use Rattle.codec.proofs.Fields.{no-kind-high}
 use Rattle.codec.proofs.Kept.{Kept, kept-none, kept-next, in-sequence}
 

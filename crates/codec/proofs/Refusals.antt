@@ -13,21 +13,6 @@ use Rattle.codec.specs.Image.{image, overLimit, logRefusals, writeRefusa
 use Rattle.codec.specs.Answers.{written}
 use Rattle.codec.proofs.Fields.{not-one, no-kind-low}
 
--- ---- tests
-
-pub or-none : (a b : Bool) → (a || b) ≡ false → (a ≡ false) × (b ≡ false)
-or-none true b e = (e, cc)
-or-none false b e = (refl, e)
-
-pub same-list : (l m : List ℕ) → same l m ≡ true → l ≡ m
-unfolding same
-same-list [] [] e = refl
-same-list [] (n ∷ m) e = cc
-same-list (k ∷ l) [] e = cc
-same-list (k ∷ l) (n ∷ m) e =
-    let both = and-eq-true-iff (eqb k n) (same l m) .0 e in
-    ap₂ _∷_ (eqb-true k n (both .0)) (same-list l m (both .1))
-
 -- ---- lists of refusals
 
 -- the first refusal does not strike, nor do those behind it

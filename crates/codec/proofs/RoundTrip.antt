@@ -8,11 +8,12 @@ use lib.ListN.{length, getD, take, drop, length-map, length-append, take-append-
 use lib.Seq.{take-append-seam, drop-at, drop-drop, drop-cons, take-at, getD-drop, length-take-le}
 use native.Mathlib.Omega.{arith}
 use borrow.Author.Tests.{leb-true, ltb-false, not-false, le-leb, le-ltb}
+use Rattle.codec.specs.laws.Tests.{or-none, same-list}
 use Rattle.codec.specs.Lists.{same, first}
 use Rattle.codec.specs.Records.{LogRecord, bytesOf, recordOf, recordRefusals}
 use Rattle.codec.specs.Image.{magic, headLength, pairTable, image, pairsOf, siteIn, countIn, pairsIn, recordsIn, overLimit, exact, tableExact, imageRefusals, accepted, readingNumber, readUnless, readImage, logRefusals, stored, writeImage, copyReading, copyImage}
 use Rattle.codec.proofs.Pairs.{table-length, records-length}
-use Rattle.codec.proofs.Refusals.{or-none, same-list, passed, records-bytes, log-records, write-whole, write-passed}
+use Rattle.codec.proofs.Refusals.{passed, records-bytes, log-records, write-whole, write-passed}
 use Rattle.codec.proofs.Tables.{bytes-take, length-table, exact-records, exact-table, named-table, table-exact}
 
 -- ---- accepted images

@@ -11,8 +11,7 @@ use Rattle.codec.specs.Lists.{any, all, every, same}
 use Rattle.codec.specs.Records.{LogRecord, sequences, agrees}
 use Rattle.codec.specs.Answers.{recordIn, noRecord}
 use Rattle.codec.specs.Inside.{nextKinds, mayFollow}
-use Rattle.codec.proofs.Tests.{alike, alike-eq, below, below-at, and-left, and-right, of-true}
-use Rattle.codec.proofs.Refusals.{same-list}
+use Rattle.codec.specs.laws.Tests.{alike, alike-eq, below, below-at, and-left, and-right, of-true, same-list}
 
 -- ---- kinds
 

@@ -27,6 +27,10 @@ bits f (p ∷ ps) = cond (f p) (2 ^ (p - 1)) 0 + bits f ps
 unfoldable pub those : (ℕ → Bool) → ℕ
 those f = bits f participants
 
+-- the set of one participant
+unfoldable pub only : ℕ → ℕ
+only q = those λ p. eqb p q
+
 unfoldable pub without : ℕ → ℕ → ℕ
 without q mask = those λ p. member p mask && not (eqb p q)
 

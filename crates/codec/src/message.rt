@@ -20,6 +20,20 @@ pub enum NumberAnswer {
 }
 
 impl Parts {
+    // Kinds; `PREPARE`, `COMMIT` and `ABORT` go from the coordinator to a participant, the others back.
+    pub const PREPARE: u8 = 0;
+
+    pub const YES: u8 = 1;
+
+    pub const NO: u8 = 2;
+
+    pub const COMMIT: u8 = 3;
+
+    pub const ABORT: u8 = 4;
+
+    pub const COMMIT_ACK: u8 = 5;
+
+    pub const ABORT_ACK: u8 = 6;
     // The largest message number, and the largest value of each part.
     pub const LAST: u16 = 447;
 

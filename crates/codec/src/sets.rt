@@ -2,6 +2,40 @@
 ghost use mathlib.Core.Path.{_≡_};
 ghost use Rattle.codec.specs.Sets as sets;
 
+// Whether a participant is a member.
+pub fn member(participant: u8, mask: u8) -> bool
+    ensures { λ r. ⌜ r ≡ sets.member participant mask ⌝ }
+{
+    if (participant < 1) | (8 < participant) {
+        return false;
+    }
+    (mask >> (participant - 1)) % 2 == 1
+}
+
+// The set of one participant; empty for what is none.
+pub fn only(participant: u8) -> u8
+    ensures { λ r. ⌜ r ≡ sets.only participant ⌝ }
+{
+    if (participant < 1) | (8 < participant) {
+        return 0;
+    }
+    1 << (participant - 1)
+}
+
+// The members but one.
+pub fn without(participant: u8, mask: u8) -> u8
+    ensures { λ r. ⌜ r ≡ sets.without participant mask ⌝ }
+{
+    minus(mask, only(participant))
+}
+
+// The members of both.
+pub fn both(a: u8, b: u8) -> u8
+    ensures { λ r. ⌜ r ≡ sets.both a b ⌝ }
+{
+    a & b
+}
+
 // The members of `a` that are not in `b`.
 pub fn minus(a: u8, b: u8) -> u8
     ensures { λ r. ⌜ r ≡ sets.minus a b ⌝ }

@@ -33,10 +33,14 @@ telling o p c = record { effects = send (tell o) p ∷ []; phase = c }
 unfoldable pub inTurn : ℕ → List ℕ
 inTurn to = listed to
 
+-- the order of sending to a set: first those that are in `first`
+unfoldable pub ordered : ℕ → ℕ → List ℕ
+ordered first to = select (λ p. member p first) (inTurn to) ++ select (λ p. not (member p first)) (inTurn to)
+
 module _ (g : Cohort) where
   -- the order of sending an outcome: first those that owe an ack for it
   unfoldable pub inOrder : Outcome → ℕ → List ℕ
-  inOrder o to = select (λ p. member p (owing g o)) (inTurn to) ++ select (λ p. not (member p (owing g o))) (inTurn to)
+  inOrder o to = ordered (owing g o) to
 
   unfoldable pub tellAll : Outcome → ℕ → List Effect
   tellAll o to = map (send (tell o)) (inOrder o to)

@@ -4,3 +4,5 @@ pub mod Step
 pub mod Coordinator
 pub mod Participant
 pub mod Numbers
+pub mod Answers
+pub mod Inside

@@ -1,17 +1,17 @@
 -- One site's step on numbers, as the lock controllers' firmware calls it. Phases count from 0 in 01's order.
 use Prim.Native.Nat.{ℕ, zero, suc, _+_, _*_, _^_, _-_}
-use mathlib.Core.Bool.{Bool, false, cond, not, _&&_}
+use mathlib.Core.Bool.{Bool, false, cond, not, _&&_, _||_}
 use mathlib.Core.List.{List, [], _∷_}
-use mathlib.Core.Option.{Option, none, some}
+use mathlib.Core.Option.{some}
 use lib.ListN.{getD}
 use lib.Dec.{eqb, leb}
 use Rattle.codec.specs.Lists.{any, every}
-use Rattle.codec.specs.Sets.{member, empty, part}
-use Rattle.site.specs.Presumption.{Outcome, commit, abort, presumptionNumber}
-use Rattle.site.specs.Step.{prepare, messages, messageKind, Input, begin, timer, received, Effect, append, force, enter, send, Row}
+use Rattle.codec.specs.Sets.{participants, member, empty, part}
+use Rattle.site.specs.Presumption.{Outcome, commit, abort, Presumption, presumptionNumber}
+use Rattle.site.specs.Step.{prepare, messages, messageKind, Input, begin, timer, received, Effect, append, force, enter, send, Answer, refused, noRow, row, answered, answerIf}
 use Rattle.site.specs.Cohort.{Cohort, presumptionOf, owing}
 use Rattle.site.specs.Coordinator.{Coordinator, initial, collecting, awaitingAcks, coordinatorStep}
-use Rattle.site.specs.Participant.{Participant, working, prepared, decided, participantStep}
+use Rattle.site.specs.Participant.{Participant, working, prepared, decided, participantStep, participantRestart}
 
 -- ---- phases, waiting sets and inputs as numbers
 
@@ -45,6 +45,27 @@ participantOf phase = getD (working ∷ prepared ∷ decided commit ∷ decided 
 unfoldable pub inputOf : ℕ → ℕ → Input
 inputOf kind p = cond (eqb kind 16) begin (cond (eqb kind 17) timer (received (getD messages kind prepare) p))
 
+-- the kinds that a site receives
+unfoldable pub kindsReceived : ℕ → List ℕ
+kindsReceived zero = 1 ∷ 2 ∷ 5 ∷ 6 ∷ 16 ∷ 17 ∷ []
+kindsReceived (suc n) = 0 ∷ 3 ∷ 4 ∷ 17 ∷ []
+
+unfoldable pub receives : ℕ → ℕ → Bool
+receives s kind = any (eqb kind) (kindsReceived s)
+
+-- the step by the kind's number: refused are a kind that the coordinator never receives, and a message of what is no member
+unfoldable pub coordinatorAnswer : Cohort → ℕ → ℕ → Coordinator → Answer Coordinator
+coordinatorAnswer g kind p c =
+    answerIf (receives 0 kind && (leb 16 kind || member p (g .members))) (coordinatorStep g (inputOf kind p) c)
+
+-- refused are a kind that participant p never receives, and what is no participant
+unfoldable pub participantAnswer : Presumption → ℕ → ℕ → Participant → Answer Participant
+participantAnswer presumption p kind x =
+    answerIf (receives 1 kind && any (eqb p) participants) (participantStep presumption p (inputOf kind p) x)
+
+unfoldable pub participantRestarted : Presumption → ℕ → (ℕ → Bool) → Answer Participant
+participantRestarted presumption p has = answerIf (any (eqb p) participants) (some (participantRestart presumption p has))
+
 -- ---- the arguments, in the order of the call; the last are members and PC
 
 pub record Arguments : Type 0 where
@@ -56,11 +77,6 @@ pub record Arguments : Type 0 where
   pub phase : ℕ
   pub waiting : ℕ
   pub cohort : Cohort
-
--- the kinds that a site receives
-unfoldable pub kindsReceived : ℕ → List ℕ
-kindsReceived zero = 1 ∷ 2 ∷ 5 ∷ 6 ∷ 16 ∷ 17 ∷ []
-kindsReceived (suc n) = 0 ∷ 3 ∷ 4 ∷ 17 ∷ []
 
 -- the coordinator's waiting set: a part of the members, not empty in Collecting, Committing (PrA members only)
 -- and Aborting (PrC members only), and 0 in Open and Unknown
@@ -95,7 +111,7 @@ unfoldable pub argumentsInRange : Arguments → Bool
 argumentsInRange a =
     every
     (leb (a .site) 8
-    ∷ any (eqb (a .kind)) (kindsReceived (a .site))
+    ∷ receives (a .site) (a .kind)
     ∷ leb (a .transaction) 7
     ∷ leb (a .phase) 4
     ∷ leb 1 (a .cohort .members)
@@ -142,24 +158,31 @@ stepResult phase w es =
     let x = summary es in
     0 ∷ phase ∷ w ∷ x .appended ∷ x .forced ∷ x .entered ∷ x .message ∷ x .to ∷ []
 
--- a row, or none: answer 0 with nothing changed
-unfoldable pub coordinatorResult : Arguments → Option (Row Coordinator) → List ℕ
-coordinatorResult a none = stepResult (a .phase) (a .waiting) []
-coordinatorResult a (some row) = stepResult (coordinatorPhase (row .phase)) (waitingSet (row .phase)) (row .effects)
+-- a refusal is 1, and zeros
+unfoldable pub refusal : List ℕ
+refusal = 1 ∷ 0 ∷ 0 ∷ 0 ∷ 0 ∷ 0 ∷ 0 ∷ 0 ∷ []
 
-unfoldable pub participantResult : Arguments → Option (Row Participant) → List ℕ
-participantResult a none = stepResult (a .phase) 0 []
-participantResult a (some row) = stepResult (participantPhase (row .phase)) 0 (row .effects)
+-- the numbers of each answer; no row: 0, with phase and waiting set as they came
+unfoldable pub coordinatorResult : ℕ → ℕ → Answer Coordinator → List ℕ
+coordinatorResult phase w refused = refusal
+coordinatorResult phase w noRow = stepResult phase w []
+coordinatorResult phase w (row r) = stepResult (coordinatorPhase (r .phase)) (waitingSet (r .phase)) (r .effects)
+
+unfoldable pub participantResult : ℕ → Answer Participant → List ℕ
+participantResult phase refused = refusal
+participantResult phase noRow = stepResult phase 0 []
+participantResult phase (row r) = stepResult (participantPhase (r .phase)) 0 (r .effects)
 
 unfoldable pub stepAt : ℕ → Arguments → List ℕ
 stepAt zero a =
-    coordinatorResult a (coordinatorStep (a .cohort) (inputOf (a .kind) (a .participant)) (coordinatorOf (a .phase) (a .waiting)))
+    coordinatorResult (a .phase) (a .waiting)
+    (answered (coordinatorStep (a .cohort) (inputOf (a .kind) (a .participant)) (coordinatorOf (a .phase) (a .waiting))))
 stepAt (suc n) a =
-    participantResult a (participantStep (presumptionOf (a .cohort) (suc n)) (suc n) (inputOf (a .kind) (suc n)) (participantOf (a .phase)))
+    participantResult (a .phase)
+    (answered (participantStep (presumptionOf (a .cohort) (suc n)) (suc n) (inputOf (a .kind) (suc n)) (participantOf (a .phase))))
 
--- a refusal is 1, and zeros
 unfoldable pub siteStep : Arguments → List ℕ
-siteStep a = cond (argumentsInRange a) (stepAt (a .site) a) (1 ∷ 0 ∷ 0 ∷ 0 ∷ 0 ∷ 0 ∷ 0 ∷ 0 ∷ [])
+siteStep a = cond (argumentsInRange a) (stepAt (a .site) a) refusal
 
 -- the result of the C call: eight bytes in one number, the first lowest
 unfoldable pub packed : List ℕ → ℕ

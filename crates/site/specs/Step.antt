@@ -1,7 +1,8 @@
 -- What one site's step is made of: messages, inputs, effects and rows.
 use Prim.Native.Nat.{ℕ}
-use mathlib.Core.Bool.{Bool, cond}
+use mathlib.Core.Bool.{Bool, true, false, cond}
 use mathlib.Core.List.{List, [], _∷_}
+use mathlib.Core.Option.{Option, none, some}
 use Rattle.site.specs.Presumption.{Outcome, commit, abort}
 
 -- `voteYes` is 01's Yes, `voteNo` its No, `tell` its Commit and Abort, `ack` its CommitAck and AbortAck.
@@ -51,3 +52,16 @@ pub record Row (Phase : Type 0) : Type 0 where
 
 unfoldable pub given : Bool → List Effect → List Effect
 given b es = cond b es []
+
+-- what a step answers: refused by 1; no row; a row, which may be without effects
+pub data Answer (Phase : Type 0) : Type 0 where
+  refused noRow : Answer Phase
+  row : Row Phase → Answer Phase
+
+unfoldable pub answered : {Phase : Type 0} → Option (Row Phase) → Answer Phase
+answered none = noRow
+answered (some r) = row r
+
+unfoldable pub answerIf : {Phase : Type 0} → Bool → Option (Row Phase) → Answer Phase
+answerIf true r = answered r
+answerIf false r = refused

@@ -1,1 +1,7 @@
-// The definitions stand in specs/.
+// One site's step on one transaction: the coordinator's and a participant's, and the call for C.
+pub mod coordinator;
+pub mod effects;
+pub mod numbers;
+pub mod participant;
+pub mod phases;
+pub mod presumption;

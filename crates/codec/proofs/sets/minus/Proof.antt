@@ -1,7 +1,7 @@
 use mathlib.Core.Path.{sym}
 use native.Mathlib.Omega.{arith}
 use borrow.Author.Needs.{needs}
-use Rattle.codec.proofs.Masks.{minus-and}
+use Rattle.codec.specs.laws.Masks.{minus-and}
 use Rattle.codec.proofs.sets.minus.Statement.{statement}
 use Rattle.codec.proofs.sets.minus.Tie as tie
 

@@ -1,6 +1,6 @@
 use native.Mathlib.Omega.{arith}
 use Rattle.codec.specs.Sets.{part}
-use Rattle.codec.proofs.Masks.{both-and}
+use Rattle.codec.specs.laws.Masks.{both-and}
 use Rattle.codec.proofs.sets.part.Statement.{statement}
 use Rattle.codec.proofs.sets.part.Tie as tie
 

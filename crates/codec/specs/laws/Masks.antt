@@ -7,7 +7,7 @@ use native.Mathlib.Omega.{arith}
 use lib.Dec.{eqb, eqb→eq}
 use lib.Bits.{bitAnd, and-step, and-shr, and-le-l}
 use Rattle.codec.specs.Sets.{participants, member, bits, those, both, minus}
-use Rattle.codec.proofs.Tests.{alike, alike-eq, below-at, below-at-2}
+use Rattle.codec.specs.laws.Tests.{alike, alike-eq, below-at, below-at-2}
 
 double : (a b : ℕ) → 2 * bitAnd a b ≡ bitAnd (2 * a) (2 * b)
 double a b =
@@ -33,7 +33,7 @@ member-and p a b =
     ∙ last-both (2 * a / 2 ^ p % 2) (2 * b / 2 ^ p % 2) (omega arith) (omega arith)
 
 -- participants are told apart by their places, 0 to 7
-those-alike : (f g : ℕ → Bool) → ((i : ℕ) → i < 8 → f (suc i) ≡ g (suc i)) → those f ≡ those g
+pub those-alike : (f g : ℕ → Bool) → ((i : ℕ) → i < 8 → f (suc i) ≡ g (suc i)) → those f ≡ those g
 unfolding those bits participants
 those-alike f g h =
     rw (

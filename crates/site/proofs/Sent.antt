@@ -1,0 +1,100 @@
+-- Messages sent to a set. Assumes nothing.
+use mathlib.Core.Path.{_≡_, refl, ap, ap₂, sym, subst, _∙_}
+use mathlib.Core.Bool.{Bool, true, false, cond, not, false≢true}
+use mathlib.Core.Logic.{_⊎_, inl, inr}
+use mathlib.Core.List.{List, [], _∷_, _++_, map}
+use Prim.Native.Nat.{ℕ, suc, _*_, _/_, _%_, _^_, _-_, _<_}
+use native.Mathlib.Nat.{zero-div}
+use native.Mathlib.Omega.{arith}
+use lib.ListN.{getD}
+use lib.Dec.{eqb, leb}
+use Rattle.codec.specs.Lists.{select, same}
+use Rattle.codec.specs.Sets.{participants, member, listed, bits, those, only}
+use Rattle.codec.specs.laws.Tests.{below-at, true-of, same-list}
+use Rattle.codec.specs.laws.Members.{noParticipant, numbered, no-member}
+use Rattle.site.specs.Presumption.{Outcome, commit, abort}
+use Rattle.site.specs.Step.{Message, prepare, voteYes, voteNo, tell, ack, messages, messageKind, Effect, send, given}
+use Rattle.site.specs.Coordinator.{inTurn, ordered}
+use Rattle.site.specs.Answers.{sending}
+use Rattle.site.specs.Inside.{Numbered}
+
+-- ---- the order
+
+select-none : (f : ℕ → Bool) (l : List ℕ) → ((n : ℕ) → f n ≡ false) → select f l ≡ []
+unfolding select
+select-none f [] h = refl
+select-none f (n ∷ l) h = rw (h n) (select-none f l h)
+
+select-all : (f : ℕ → Bool) (l : List ℕ) → ((n : ℕ) → f n ≡ true) → select f l ≡ l
+unfolding select
+select-all f [] h = refl
+select-all f (n ∷ l) h = rw (h n) (ap (n ∷_) (select-all f l h))
+
+none-in : (p : ℕ) → member p 0 ≡ false
+unfolding member
+none-in p = rw (zero-div (2 ^ p)) refl
+
+pub ordered-by-turn : (to : ℕ) → ordered 0 to ≡ inTurn to
+unfolding ordered
+ordered-by-turn to =
+    ap₂ _++_ (select-none (λ p. member p 0) (inTurn to) none-in)
+    (select-all (λ p. not (member p 0)) (inTurn to) (λ p. ap not (none-in p)))
+
+pub ordered-none : (first : ℕ) → ordered first 0 ≡ []
+unfolding ordered inTurn listed select participants member
+ordered-none first = refl
+
+one-listed : (i : ℕ) → i < 8 → listed (only (suc i)) ≡ suc i ∷ []
+unfolding same listed select only those bits participants member
+one-listed i h =
+    same-list _ _ (true-of _ (below-at 8 (λ i. same (listed (only (suc i))) (suc i ∷ [])) tt i h))
+
+one-alone : (p : ℕ) → Numbered p → listed (only p) ≡ p ∷ []
+one-alone p h =
+    let e : p ≡ suc (p - 1) = omega (arith, h .0) in
+    subst (λ (q : ℕ). listed (only q) ≡ q ∷ []) (sym e) (one-listed (p - 1) (omega (arith, h .0, h .1)))
+
+pub ordered-one : (first p : ℕ) → Numbered p → ordered first (only p) ≡ p ∷ []
+unfolding ordered inTurn select
+ordered-one first p h = rw (one-alone p h) (by (member p first) refl)
+  where
+    by : (b : Bool) → member p first ≡ b → (select (λ q. member q first) (p ∷ []) ++ select (λ q. not (member q first)) (p ∷ [])) ≡ p ∷ []
+    by true e = rw e refl
+    by false e = rw e refl
+
+-- a member of a mask of a byte is a participant
+pub member-numbered : (p m : ℕ) → m < 256 → member p m ≡ true → Numbered p
+member-numbered p m h e = by (noParticipant p) refl
+  where
+    by : (b : Bool) → noParticipant p ≡ b → Numbered p
+    by true n = absurd (false≢true (sym (no-member p m h n) ∙ e))
+    by false n = numbered p n
+
+-- ---- messages by kind
+
+pub sending-kind : (m : Message) (first to : ℕ) → sending (messageKind m) first to ≡ map (send m) (ordered first to)
+unfolding sending given messageKind messages
+sending-kind prepare first to = refl
+sending-kind voteYes first to = refl
+sending-kind voteNo first to = refl
+sending-kind (tell commit) first to = refl
+sending-kind (tell abort) first to = refl
+sending-kind (ack commit) first to = refl
+sending-kind (ack abort) first to = refl
+
+-- ---- a participant's own message
+
+pub own-sent : (m : Message) (p : ℕ) → Numbered p → sending (messageKind m) 0 (only p) ≡ send m p ∷ []
+own-sent m p h = sending-kind m 0 (only p) ∙ ap (map (send m)) (ordered-one 0 p h)
+
+pub own-sent-if : (m : Message) (p : ℕ) (b : Bool) → Numbered p → sending (messageKind m) 0 (cond b (only p) 0) ≡ given b (send m p ∷ [])
+unfolding given
+own-sent-if m p true h = own-sent m p h
+own-sent-if m p false h = sending-kind m 0 0 ∙ ap (map (send m)) (ordered-none 0)
+
+-- a vote, by its number
+pub vote-sent : (b : Bool) (kind p : ℕ) → Numbered p → ((b ≡ true) × (kind ≡ 1)) ⊎ ((b ≡ false) × (kind ≡ 2))
+    → sending kind 0 (only p) ≡ send (cond b voteYes voteNo) p ∷ []
+unfolding messageKind
+vote-sent b kind p h (inl v) = rw (v .0, v .1) (own-sent voteYes p h)
+vote-sent b kind p h (inr v) = rw (v .0, v .1) (own-sent voteNo p h)

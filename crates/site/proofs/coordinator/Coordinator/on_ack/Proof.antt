@@ -1,0 +1,64 @@
+use Rattle.site.specs.Presumption.{sameOutcome}
+use Rattle.site.specs.Step.{answered}
+use Rattle.site.specs.Coordinator.{onAck, ackedIf}
+use Rattle.site.proofs.NoRow.{no-commit-ack, no-abort-ack}
+use borrow.Author.Needs.{needs}
+use Rattle.site.proofs.coordinator.Coordinator.on_ack.Statement.{statement}
+use Rattle.site.proofs.coordinator.Coordinator.on_ack.Tie as tie
+
+enum-told : tie.Need-enum-told
+enum-told c = search needs
+
+enum-known-phase : tie.Need-enum-known-phase
+enum-known-phase c = search needs
+
+without-requires : tie.Need-without-requires
+without-requires c κs = search needs
+
+acked-requires : tie.Need-acked-requires
+acked-requires c κs = search needs
+
+enum-told-2 : tie.Need-enum-told-2
+enum-told-2 c = search needs
+
+enum-known-phase-2 : tie.Need-enum-known-phase-2
+enum-known-phase-2 c = search needs
+
+without-requires-2 : tie.Need-without-requires-2
+without-requires-2 c κs = search needs
+
+acked-requires-2 : tie.Need-acked-requires-2
+acked-requires-2 c κs = search needs
+
+returns : tie.Need-returns
+unfolding answered onAck ackedIf sameOutcome
+returns c = rw (c .acked .ensures, c .before .without .ensures, c .before .before .before .phase .given .1, c .before .before .before .before .before .enum-told .given .1)
+
+returns-2 : tie.Need-returns-2
+unfolding answered
+returns-2 c = rw (c .before .enum-told .given .1, no-commit-ack (c .before .before .before .args .participant) (c .before .before .before .args .self .phase) (c .match2 .keys2))
+
+returns-3 : tie.Need-returns-3
+unfolding answered onAck ackedIf sameOutcome
+returns-3 c = rw (c .acked2 .ensures, c .before .without2 .ensures, c .before .before .before .phase2 .given .1, c .before .before .before .before .before .enum-told2 .given .1)
+
+returns-4 : tie.Need-returns-4
+unfolding answered
+returns-4 c = rw (c .before .enum-told2 .given .1, no-abort-ack (c .before .before .before .args .participant) (c .before .before .before .args .self .phase) (c .match3 .keys2))
+
+pub on-ack-spec : {M : Type 1} → statement M
+on-ack-spec =
+    tie.close
+    (tie.spec
+    enum-told
+    enum-known-phase
+    without-requires
+    acked-requires
+    enum-told-2
+    enum-known-phase-2
+    without-requires-2
+    acked-requires-2
+    returns
+    returns-2
+    returns-3
+    returns-4)

@@ -1,0 +1,40 @@
+use mathlib.Core.Logic.{inl, inr, ⊎-elim}
+use Rattle.site.specs.Answers.{effectsIn, appending, entering, closing, sending}
+use Rattle.site.specs.Answers.{cohortIn, hasKind}
+use Rattle.site.specs.Step.{messages, given}
+use Rattle.site.specs.Coordinator.{restartFrom, coordinatorRestart}
+use Rattle.site.proofs.Sent.{ordered-none}
+use Rattle.site.proofs.Rows.{tell-owing}
+use borrow.Author.Needs.{needs}
+use Rattle.site.proofs.coordinator.Coordinator.restart.Statement.{statement}
+use Rattle.site.proofs.coordinator.Coordinator.restart.Tie as tie
+
+owing-requires : tie.Need-owing-requires
+owing-requires c κs = search needs
+
+resuming-requires : tie.Need-resuming-requires
+resuming-requires c κs = search needs
+
+returns : tie.Need-returns
+unfolding coordinatorRestart restartFrom hasKind
+returns c =
+    let s = c .before .before .before .before .args in
+    let w = c .before .before .owing .result in
+    let told = tell-owing (cohortIn (s .self)) w (c .before .if2 .to) (⊎-elim (λ h. inl (h .0 .taken, h .1)) (λ h. inr (h .0 .left, h .1)) (c .before .if2 .came)) in
+    rw (c .resuming .ensures, told, c .before .before .owing .ensures, c .before .before .before .if1 .taken)
+
+resuming-requires-2 : tie.Need-resuming-requires-2
+resuming-requires-2 c κs = search needs
+
+returns-2 : tie.Need-returns-2
+unfolding coordinatorRestart restartFrom hasKind
+returns-2 c = rw (c .resuming2 .ensures, c .before .before .if1 .left, c .before .if3 .taken)
+
+returns-3 : tie.Need-returns-3
+unfolding coordinatorRestart restartFrom hasKind effectsIn appending entering closing sending messages given
+returns-3 c = rw (c .before .if1 .left, c .if3 .left, ordered-none 0)
+
+pub restart-spec : {M : Type 1} → statement M
+restart-spec =
+    tie.close
+    (tie.spec owing-requires resuming-requires returns resuming-requires-2 returns-2 returns-3)

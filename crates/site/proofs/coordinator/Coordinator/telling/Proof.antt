@@ -1,0 +1,21 @@
+use Rattle.site.specs.Answers.{effectsIn, appending, entering, closing, sending}
+use Rattle.site.specs.Answers.{outcomeIn}
+use Rattle.site.specs.Step.{tell, given}
+use Rattle.site.specs.Coordinator.{tellAll, inOrder}
+use Rattle.site.proofs.Sent.{sending-kind}
+use borrow.Author.Needs.{needs}
+use Rattle.site.proofs.coordinator.Coordinator.telling.Statement.{statement}
+use Rattle.site.proofs.coordinator.Coordinator.telling.Tie as tie
+
+message-requires : tie.Need-message-requires
+message-requires c κs = search needs
+
+owing-requires : tie.Need-owing-requires
+owing-requires c κs = search needs
+
+returns : tie.Need-returns
+unfolding effectsIn appending entering closing given tellAll inOrder
+returns c = rw (c .before .message .ensures, c .owing .ensures, sending-kind (tell (outcomeIn (c .before .before .args .outcome))))
+
+pub telling-spec : {M : Type 1} → statement M
+telling-spec = tie.close (tie.spec message-requires owing-requires returns)

@@ -1,0 +1,24 @@
+use Rattle.codec.specs.Sets.{empty}
+use borrow.Author.Tests.{ne-eqb}
+use Rattle.site.specs.Answers.{effectsIn, appending, entering, closing, sending}
+use Rattle.codec.specs.Records.{lengths, lengthOf}
+use Rattle.site.specs.Step.{messages, given}
+use Rattle.site.specs.Coordinator.{inTurn, ordered, voted}
+use Rattle.site.proofs.Sent.{ordered-none}
+use borrow.Author.Needs.{needs}
+use Rattle.site.proofs.coordinator.Coordinator.voted.Statement.{statement}
+use Rattle.site.proofs.coordinator.Coordinator.voted.Tie as tie
+
+committing-requires : tie.Need-committing-requires
+committing-requires c κs = search needs
+
+returns : tie.Need-returns
+unfolding voted empty
+returns c = rw (c .committing .ensures, c .before .if1 .taken)
+
+returns-2 : tie.Need-returns-2
+unfolding voted empty effectsIn appending entering closing sending messages given
+returns-2 c = rw (ne-eqb (c .before .args .waiting) 0 (c .if1 .left), ordered-none 0)
+
+pub voted-spec : {M : Type 1} → statement M
+voted-spec = tie.close (tie.spec committing-requires returns returns-2)

@@ -1,0 +1,69 @@
+use mathlib.Core.Path.{_≡_, sym}
+use mathlib.Core.Bool.{true, false}
+use native.Mathlib.Omega.{arith}
+use Rattle.site.specs.Answers.{argumentsIn}
+use Rattle.site.specs.Numbers.{packed, refusal}
+use Rattle.site.proofs.Accepted.{wrong, call-refused, call-coordinator, call-foreign, call-participant, call-beyond}
+use borrow.Author.Needs.{needs}
+use Rattle.site.proofs.numbers.dpr_site_step.Statement.{statement}
+use Rattle.site.proofs.numbers.dpr_site_step.Tie as tie
+
+part-requires : tie.Need-part-requires
+part-requires c κs = search needs
+
+returns : tie.Need-returns
+unfolding packed refusal
+returns c =
+    let s = c .before .before in
+    let a = argumentsIn (s .args .site) (s .args .kind) (s .args .transaction) (s .args .participant) (s .args .presumption) (s .args .phase) (s .args .waiting) (s .args .members) (s .args .presume-commit) in
+    let e : wrong a ≡ true = rw (sym (c .before .part .ensures)) (c .if1 .taken) in
+    rw (call-refused a (omega arith) e)
+
+coordinator-step-requires : tie.Need-coordinator-step-requires
+coordinator-step-requires c κs = search needs
+
+returns-2 : tie.Need-returns-2
+unfolding packed refusal
+returns-2 c =
+    let s = c .before .before .before .before .before in
+    let a = argumentsIn (s .args .site) (s .args .kind) (s .args .transaction) (s .args .participant) (s .args .presumption) (s .args .phase) (s .args .waiting) (s .args .members) (s .args .presume-commit) in
+    let e : wrong a ≡ false = rw (sym (c .before .before .before .before .part .ensures)) (c .before .before .before .if1 .left) in
+    rw (call-foreign a (omega arith) e (c .before .before .match .rest .1) (c .if3 .taken))
+
+participant-step-requires : tie.Need-participant-step-requires
+participant-step-requires c κs = search needs
+
+returns-3 : tie.Need-returns-3
+returns-3 c =
+    let s = c .before .before .before .before in
+    let a = argumentsIn (s .args .site) (s .args .kind) (s .args .transaction) (s .args .participant) (s .args .presumption) (s .args .phase) (s .args .waiting) (s .args .members) (s .args .presume-commit) in
+    let e : wrong a ≡ false = rw (sym (c .before .before .before .part .ensures)) (c .before .before .if1 .left) in
+    rw (c .coordinator-step .ensures, call-coordinator a (omega arith) e (c .before .match .keys1))
+
+returns-4 : tie.Need-returns-4
+returns-4 c =
+    let s = c .before .before .before .before .before .before in
+    let a = argumentsIn (s .args .site) (s .args .kind) (s .args .transaction) (s .args .participant) (s .args .presumption) (s .args .phase) (s .args .waiting) (s .args .members) (s .args .presume-commit) in
+    let e : wrong a ≡ false = rw (sym (c .before .before .before .before .before .part .ensures)) (c .before .before .before .before .if1 .left) in
+    rw (c .participant-step .ensures, call-participant a (omega arith) e (c .before .before .before .match .rest .1) (c .before .before .if2 .taken) (c .before .if3 .left))
+
+returns-5 : tie.Need-returns-5
+unfolding packed refusal
+returns-5 c =
+    let s = c .before .before .before .before in
+    let a = argumentsIn (s .args .site) (s .args .kind) (s .args .transaction) (s .args .participant) (s .args .presumption) (s .args .phase) (s .args .waiting) (s .args .members) (s .args .presume-commit) in
+    let e : wrong a ≡ false = rw (sym (c .before .before .before .part .ensures)) (c .before .before .if1 .left) in
+    rw (call-beyond a (omega arith) e (c .if2 .left))
+
+pub dpr-site-step-spec : {M : Type 1} → statement M
+dpr-site-step-spec =
+    tie.close
+    (tie.spec
+    part-requires
+    returns
+    coordinator-step-requires
+    returns-2
+    participant-step-requires
+    returns-3
+    returns-4
+    returns-5)

@@ -1,0 +1,53 @@
+use mathlib.Core.Path.{sym}
+use Rattle.site.specs.Numbers.{summary, packed, refusal, stepResult, participantResult}
+use borrow.Author.Needs.{needs}
+use Rattle.site.proofs.numbers.participant_result.Statement.{statement}
+use Rattle.site.proofs.numbers.participant_result.Tie as tie
+
+enum-told : tie.Need-enum-told
+enum-told c = search needs
+
+enum-told-2 : tie.Need-enum-told-2
+enum-told-2 c = search needs
+
+packed-requires : tie.Need-packed-requires
+packed-requires c κs = search needs
+
+enum-known-answer : tie.Need-enum-known-answer
+enum-known-answer c = search needs
+
+number-requires : tie.Need-number-requires
+number-requires c κs = search needs
+
+summary-requires : tie.Need-summary-requires
+summary-requires c κs = search needs
+
+packed-requires-2 : tie.Need-packed-requires-2
+packed-requires-2 c κs = search needs
+
+returns : tie.Need-returns
+unfolding participantResult refusal packed
+returns c = rw (c .enum-told .given .1)
+
+returns-2 : tie.Need-returns-2
+unfolding participantResult stepResult summary
+returns-2 c = rw (c .packed .ensures, c .before .enum-told2 .given .1)
+
+returns-3 : tie.Need-returns-3
+unfolding participantResult stepResult
+returns-3 c = rw (c .packed2 .ensures, c .before .before .number .ensures, c .before .before .before .before .before .answer .given .1, sym (c .before .summary .ensures))
+
+pub participant-result-spec : {M : Type 1} → statement M
+participant-result-spec =
+    tie.close
+    (tie.spec
+    enum-told
+    enum-told-2
+    packed-requires
+    enum-known-answer
+    number-requires
+    summary-requires
+    packed-requires-2
+    returns
+    returns-2
+    returns-3)

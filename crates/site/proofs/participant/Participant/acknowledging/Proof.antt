@@ -1,0 +1,28 @@
+use Rattle.site.specs.Answers.{effectsIn, appending, entering, closing, sending}
+use Rattle.site.specs.Step.{ack, given}
+use Rattle.site.specs.Answers.{presumptionIn, outcomeIn}
+use Rattle.site.specs.Presumption.{acks}
+use Rattle.site.specs.Participant.{acking}
+use Rattle.site.proofs.Sent.{own-sent-if}
+use borrow.Author.Needs.{needs}
+use Rattle.site.proofs.participant.Participant.acknowledging.Statement.{statement}
+use Rattle.site.proofs.participant.Participant.acknowledging.Tie as tie
+
+ack-requires : tie.Need-ack-requires
+ack-requires c κs = search needs
+
+acks-requires : tie.Need-acks-requires
+acks-requires c κs = search needs
+
+own-requires : tie.Need-own-requires
+own-requires c κs = search needs
+
+returns : tie.Need-returns
+unfolding effectsIn appending entering closing given acking
+returns c =
+    let s = c .before .before .before in
+    let o = outcomeIn (s .args .outcome) in
+    rw (c .own .ensures, c .before .acks .ensures, c .before .before .ack .ensures, own-sent-if (ack o) (s .args .self .number) (acks (presumptionIn (s .args .self .presumption)) o) (s .pre))
+
+pub acknowledging-spec : {M : Type 1} → statement M
+acknowledging-spec = tie.close (tie.spec ack-requires acks-requires own-requires returns)

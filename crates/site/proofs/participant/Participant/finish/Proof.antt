@@ -1,0 +1,57 @@
+use Rattle.site.specs.Answers.{effectsIn, appending, entering, closing, sending}
+use Rattle.site.specs.Step.{ack, given}
+use Rattle.site.specs.Answers.{presumptionIn, outcomeIn}
+use Rattle.site.specs.Presumption.{acks}
+use Rattle.site.specs.Participant.{acking, finish}
+use Rattle.site.proofs.Sent.{own-sent-if}
+use Rattle.site.proofs.Rows.{entering-outcome, outcome-appended}
+use borrow.Author.Needs.{needs}
+use Rattle.site.proofs.participant.Participant.finish.Statement.{statement}
+use Rattle.site.proofs.participant.Participant.finish.Tie as tie
+
+acks-requires : tie.Need-acks-requires
+acks-requires c κs = search needs
+
+outcome-record-requires : tie.Need-outcome-record-requires
+outcome-record-requires c κs = search needs
+
+number-requires : tie.Need-number-requires
+number-requires c κs = search needs
+
+ack-requires : tie.Need-ack-requires
+ack-requires c κs = search needs
+
+own-requires : tie.Need-own-requires
+own-requires c κs = search needs
+
+decided-requires : tie.Need-decided-requires
+decided-requires c κs = search needs
+
+returns : tie.Need-returns
+unfolding effectsIn closing given acking finish
+returns c =
+    let s = c .before .before .before .before .before .before in
+    let o = outcomeIn (s .args .outcome) in
+    rw (
+      c .decided .ensures,
+      c .before .own .ensures,
+      c .before .before .ack .ensures,
+      c .before .before .before .number .ensures,
+      c .before .before .before .before .outcome-record .ensures,
+      c .before .before .before .before .before .acks .ensures,
+      outcome-appended o 0 0,
+      entering-outcome o,
+      own-sent-if (ack o) (s .args .self .number) (acks (presumptionIn (s .args .self .presumption)) o) (s .pre),
+    )
+
+pub finish-spec : {M : Type 1} → statement M
+finish-spec =
+    tie.close
+    (tie.spec
+    acks-requires
+    outcome-record-requires
+    number-requires
+    ack-requires
+    own-requires
+    decided-requires
+    returns)

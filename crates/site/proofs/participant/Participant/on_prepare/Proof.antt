@@ -1,0 +1,71 @@
+use Rattle.site.specs.Step.{answered}
+use Rattle.site.specs.Participant.{onPrepare}
+use borrow.Author.Needs.{needs}
+use Rattle.site.proofs.participant.Participant.on_prepare.Statement.{statement}
+use Rattle.site.proofs.participant.Participant.on_prepare.Tie as tie
+
+enum-told : tie.Need-enum-told
+enum-told c = search needs
+
+preparing-requires : tie.Need-preparing-requires
+preparing-requires c κs = c .before .before .pre
+
+enum-told-2 : tie.Need-enum-told-2
+enum-told-2 c = search needs
+
+voting-requires : tie.Need-voting-requires
+voting-requires c κs = c .before .before .pre
+
+enum-told-3 : tie.Need-enum-told-3
+enum-told-3 c = search needs
+
+enum-told-4 : tie.Need-enum-told-4
+enum-told-4 c = search needs
+
+voting-requires-2 : tie.Need-voting-requires-2
+voting-requires-2 c κs = c .before .before .pre
+
+enum-told-5 : tie.Need-enum-told-5
+enum-told-5 c = search needs
+
+voting-requires-3 : tie.Need-voting-requires-3
+voting-requires-3 c κs = c .before .before .pre
+
+returns : tie.Need-returns
+unfolding answered onPrepare
+returns c = rw (c .preparing .ensures, c .before .enum-told .given .1)
+
+returns-2 : tie.Need-returns-2
+unfolding answered onPrepare
+returns-2 c = rw (c .voting .ensures, c .before .enum-told2 .given .1)
+
+returns-3 : tie.Need-returns-3
+unfolding answered onPrepare
+returns-3 c = rw (c .enum-told3 .given .1)
+
+returns-4 : tie.Need-returns-4
+unfolding answered onPrepare
+returns-4 c = rw (c .voting2 .ensures, c .before .enum-told4 .given .1)
+
+returns-5 : tie.Need-returns-5
+unfolding answered onPrepare
+returns-5 c = rw (c .voting3 .ensures, c .before .enum-told5 .given .1)
+
+pub on-prepare-spec : {M : Type 1} → statement M
+on-prepare-spec =
+    tie.close
+    (tie.spec
+    enum-told
+    preparing-requires
+    enum-told-2
+    voting-requires
+    enum-told-3
+    enum-told-4
+    voting-requires-2
+    enum-told-5
+    voting-requires-3
+    returns
+    returns-2
+    returns-3
+    returns-4
+    returns-5)

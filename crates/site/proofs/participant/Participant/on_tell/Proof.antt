@@ -1,0 +1,115 @@
+use Rattle.site.specs.Presumption.{sameOutcome}
+use Rattle.site.specs.Step.{answered}
+use Rattle.site.specs.Participant.{onTell, ackingIf}
+use borrow.Author.Needs.{needs}
+use Rattle.site.proofs.participant.Participant.on_tell.Statement.{statement}
+use Rattle.site.proofs.participant.Participant.on_tell.Tie as tie
+
+enum-told : tie.Need-enum-told
+enum-told c = search needs
+
+enum-told-2 : tie.Need-enum-told-2
+enum-told-2 c = search needs
+
+enum-told-3 : tie.Need-enum-told-3
+enum-told-3 c = search needs
+
+finish-requires : tie.Need-finish-requires
+finish-requires c κs = search needs
+
+enum-told-4 : tie.Need-enum-told-4
+enum-told-4 c = search needs
+
+finish-requires-2 : tie.Need-finish-requires-2
+finish-requires-2 c κs = search needs
+
+enum-told-5 : tie.Need-enum-told-5
+enum-told-5 c = search needs
+
+enum-told-6 : tie.Need-enum-told-6
+enum-told-6 c = search needs
+
+acknowledging-requires : tie.Need-acknowledging-requires
+acknowledging-requires c κs = search needs
+
+enum-told-7 : tie.Need-enum-told-7
+enum-told-7 c = search needs
+
+enum-told-8 : tie.Need-enum-told-8
+enum-told-8 c = search needs
+
+enum-told-9 : tie.Need-enum-told-9
+enum-told-9 c = search needs
+
+enum-told-10 : tie.Need-enum-told-10
+enum-told-10 c = search needs
+
+acknowledging-requires-2 : tie.Need-acknowledging-requires-2
+acknowledging-requires-2 c κs = search needs
+
+enum-told-11 : tie.Need-enum-told-11
+enum-told-11 c = search needs
+
+acknowledging-requires-3 : tie.Need-acknowledging-requires-3
+acknowledging-requires-3 c κs = search needs
+
+returns : tie.Need-returns
+unfolding answered onTell
+returns c = rw (c .before .before .enum-told .given .1, c .enum-told2 .given .1)
+
+returns-2 : tie.Need-returns-2
+unfolding answered onTell
+returns-2 c = rw (c .finish .ensures, c .before .before .before .enum-told .given .1, c .before .enum-told3 .given .1)
+
+returns-3 : tie.Need-returns-3
+unfolding answered onTell
+returns-3 c = rw (c .finish2 .ensures, c .before .enum-told4 .given .1)
+
+returns-4 : tie.Need-returns-4
+unfolding answered onTell ackingIf sameOutcome
+returns-4 c = rw (c .acknowledging .ensures, c .before .before .before .enum-told5 .given .1, c .before .enum-told6 .given .1)
+
+returns-5 : tie.Need-returns-5
+unfolding answered onTell ackingIf sameOutcome
+returns-5 c = rw (c .before .before .enum-told5 .given .1, c .enum-told7 .given .1)
+
+returns-6 : tie.Need-returns-6
+unfolding answered onTell ackingIf sameOutcome
+returns-6 c = rw (c .before .before .enum-told8 .given .1, c .enum-told9 .given .1)
+
+returns-7 : tie.Need-returns-7
+unfolding answered onTell ackingIf sameOutcome
+returns-7 c = rw (c .acknowledging2 .ensures, c .before .before .before .enum-told8 .given .1, c .before .enum-told10 .given .1)
+
+returns-8 : tie.Need-returns-8
+unfolding answered onTell
+returns-8 c = rw (c .acknowledging3 .ensures, c .before .enum-told11 .given .1)
+
+pub on-tell-spec : {M : Type 1} → statement M
+on-tell-spec =
+    tie.close
+    (tie.spec
+    enum-told
+    enum-told-2
+    enum-told-3
+    finish-requires
+    enum-told-4
+    finish-requires-2
+    enum-told-5
+    enum-told-6
+    acknowledging-requires
+    enum-told-7
+    enum-told-8
+    enum-told-9
+    enum-told-10
+    acknowledging-requires-2
+    enum-told-11
+    acknowledging-requires-3
+    returns
+    returns-2
+    returns-3
+    returns-4
+    returns-5
+    returns-6
+    returns-7
+    returns-8)

@@ -1,0 +1,34 @@
+use Rattle.site.specs.Answers.{effectsIn, appending, entering, closing, sending}
+use Rattle.site.specs.Step.{messages, given, answered}
+use Rattle.site.specs.Answers.{presumptionIn}
+use Rattle.site.specs.Participant.{participantTimer}
+use Rattle.site.proofs.Sent.{ordered-none}
+use Rattle.site.proofs.NoRow.{no-own-timer}
+use borrow.Author.Needs.{needs}
+use Rattle.site.proofs.participant.Participant.on_timer.Statement.{statement}
+use Rattle.site.proofs.participant.Participant.on_timer.Tie as tie
+
+enum-told : tie.Need-enum-told
+enum-told c = search needs
+
+enum-told-2 : tie.Need-enum-told-2
+enum-told-2 c = search needs
+
+voting-requires : tie.Need-voting-requires
+voting-requires c κs = search needs
+
+returns : tie.Need-returns
+unfolding answered participantTimer effectsIn appending entering closing sending messages given
+returns c = rw (c .enum-told .given .1, ordered-none 0)
+
+returns-2 : tie.Need-returns-2
+unfolding answered participantTimer
+returns-2 c = rw (c .voting .ensures, c .before .enum-told2 .given .1)
+
+returns-3 : tie.Need-returns-3
+unfolding answered
+returns-3 c = rw (no-own-timer (presumptionIn (c .before .args .self .presumption)) (c .before .args .self .number) (c .before .args .self .phase) (c .match .keys3))
+
+pub on-timer-spec : {M : Type 1} → statement M
+on-timer-spec =
+    tie.close (tie.spec enum-told enum-told-2 voting-requires returns returns-2 returns-3)

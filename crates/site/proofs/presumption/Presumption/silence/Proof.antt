@@ -1,0 +1,21 @@
+use Rattle.site.specs.Presumption.{silence}
+use borrow.Author.Needs.{needs}
+use Rattle.site.proofs.presumption.Presumption.silence.Statement.{statement}
+use Rattle.site.proofs.presumption.Presumption.silence.Tie as tie
+
+enum-told : tie.Need-enum-told
+enum-told c = search needs
+
+enum-told-2 : tie.Need-enum-told-2
+enum-told-2 c = search needs
+
+returns : tie.Need-returns
+unfolding silence
+returns c = rw (c .enum-told .given .1)
+
+returns-2 : tie.Need-returns-2
+unfolding silence
+returns-2 c = rw (c .enum-told2 .given .1)
+
+pub silence-spec : {M : Type 1} → statement M
+silence-spec = tie.close (tie.spec enum-told enum-told-2 returns returns-2)

@@ -1,0 +1,120 @@
+-- What the program's values stand for. Nothing here says what is right: Coordinator, Participant and Numbers do.
+use Prim.Native.Nat.{ℕ, zero, suc, _-_, _/_, _%_, _^_}
+use mathlib.Core.Bool.{Bool}
+use mathlib.Core.List.{List, [], _∷_, _++_, map}
+use lib.ListN.{take, getD}
+use lib.Dec.{eqb, leb}
+use Rattle.codec.specs.Records.{lengthOf}
+use Rattle.site.specs.Presumption as plain
+use Rattle.site.specs.Cohort.{Cohort}
+use Rattle.site.specs.Step.{prepare, messages, Effect, append, force, enter, send, Row, given, Answer, refused, noRow, row}
+use Rattle.site.specs.Coordinator as plain-coordinator
+use Rattle.site.specs.Coordinator.{ordered}
+use Rattle.site.specs.Participant as plain-participant
+use Rattle.site.specs.Numbers as numbers
+use Rattle.site.specs.declared.presumption.Outcome.{Outcome}
+use Rattle.site.specs.declared.presumption.Outcome.the-variants as outcome
+use Rattle.site.specs.declared.presumption.Presumption.{Presumption}
+use Rattle.site.specs.declared.presumption.Presumption.the-variants as presumption
+use Rattle.site.specs.declared.phases.CoordinatorPhase.{CoordinatorPhase}
+use Rattle.site.specs.declared.phases.CoordinatorPhase.the-variants as coordinator
+use Rattle.site.specs.declared.phases.ParticipantPhase.{ParticipantPhase}
+use Rattle.site.specs.declared.phases.ParticipantPhase.the-variants as participant
+use Rattle.site.specs.declared.effects.Effects.{Effects}
+use Rattle.site.specs.declared.effects.Summary.{Summary}
+use Rattle.site.specs.declared.coordinator.Coordinator.{Coordinator}
+use Rattle.site.specs.declared.coordinator.CoordinatorRow.{CoordinatorRow}
+use Rattle.site.specs.declared.coordinator.CoordinatorAnswer.{CoordinatorAnswer}
+use Rattle.site.specs.declared.coordinator.CoordinatorAnswer.the-variants as coordinator-answer
+use Rattle.site.specs.declared.participant.ParticipantRow.{ParticipantRow}
+use Rattle.site.specs.declared.participant.ParticipantAnswer.{ParticipantAnswer}
+use Rattle.site.specs.declared.participant.ParticipantAnswer.the-variants as participant-answer
+
+-- ---- outcomes, presumptions, phases
+
+abbrev pub outcomeIn : Outcome → plain.Outcome
+outcomeIn outcome.Commit = plain.commit
+outcomeIn outcome.Abort = plain.abort
+
+abbrev pub presumptionIn : Presumption → plain.Presumption
+presumptionIn presumption.Abort = plain.presumedAbort
+presumptionIn presumption.Commit = plain.presumedCommit
+
+abbrev pub coordinatorIn : CoordinatorPhase → plain-coordinator.Coordinator
+coordinatorIn coordinator.Open = plain-coordinator.initial
+coordinatorIn (coordinator.Collecting w) = plain-coordinator.collecting w
+coordinatorIn (coordinator.Committing w) = plain-coordinator.awaitingAcks plain.commit w
+coordinatorIn (coordinator.Aborting w) = plain-coordinator.awaitingAcks plain.abort w
+coordinatorIn coordinator.Unknown = plain-coordinator.unknown
+
+abbrev pub participantIn : ParticipantPhase → plain-participant.Participant
+participantIn participant.Working = plain-participant.working
+participantIn participant.Prepared = plain-participant.prepared
+participantIn participant.Committed = plain-participant.decided plain.commit
+participantIn participant.Aborted = plain-participant.decided plain.abort
+participantIn participant.Unknown = plain-participant.unknown
+
+abbrev pub cohortIn : Coordinator → Cohort
+cohortIn c = record { members = c .members; presumeCommit = c .«presume_commit» }
+
+-- a set of record kinds, bit k for kind k
+unfoldable pub hasKind : ℕ → ℕ → Bool
+hasKind kinds k = eqb (kinds / 2 ^ k % 2) 1
+
+-- ---- the effects that a row's numbers stand for, in their order: 0 is none, and what is no outcome or message has no effect
+
+unfoldable pub appending : ℕ → List ℕ → List Effect
+appending zero fs = []
+appending (suc k) fs = append (suc k) fs ∷ []
+
+unfoldable pub entering : ℕ → List Effect
+entering n = getD ([] ∷ (enter plain.commit ∷ []) ∷ (enter plain.abort ∷ []) ∷ []) n []
+
+unfoldable pub sending : ℕ → ℕ → ℕ → List Effect
+sending kind first to = given (leb kind 6) (map (send (getD messages kind prepare)) (ordered first to))
+
+unfoldable pub closing : ℕ → List Effect → List Effect
+closing zero es = es
+closing (suc k) es = es ++ append (suc k) [] ∷ []
+
+-- a record has as many of its two fields as its kind
+unfoldable pub effectsIn : Effects → List Effect
+effectsIn e =
+    appending (e .appended) (take (lengthOf (e .appended) - 2) (e .first ∷ e .second ∷ []))
+    ++ (given (e .forced) (force ∷ []) ++ (entering (e .entered) ++ closing (e .last) (sending (e .message) (e .owing) (e .to))))
+
+abbrev pub summaryIn : Summary → numbers.Summary
+summaryIn x = record { appended = x .appended; forced = x .forced; entered = x .entered; message = x .message; to = x .to }
+
+-- ---- rows and answers
+
+abbrev pub coordinatorRowIn : CoordinatorRow → Row plain-coordinator.Coordinator
+coordinatorRowIn r = record { effects = effectsIn (r .effects); phase = coordinatorIn (r .phase) }
+
+abbrev pub participantRowIn : ParticipantRow → Row plain-participant.Participant
+participantRowIn r = record { effects = effectsIn (r .effects); phase = participantIn (r .phase) }
+
+abbrev pub coordinatorAnswerIn : CoordinatorAnswer → Answer plain-coordinator.Coordinator
+coordinatorAnswerIn (coordinator-answer.Row r) = row (coordinatorRowIn r)
+coordinatorAnswerIn coordinator-answer.NoRow = noRow
+coordinatorAnswerIn coordinator-answer.Refused = refused
+
+abbrev pub participantAnswerIn : ParticipantAnswer → Answer plain-participant.Participant
+participantAnswerIn (participant-answer.Row r) = row (participantRowIn r)
+participantAnswerIn participant-answer.NoRow = noRow
+participantAnswerIn participant-answer.Refused = refused
+
+-- ---- the call's arguments
+
+abbrev pub argumentsIn : ℕ → ℕ → ℕ → ℕ → ℕ → ℕ → ℕ → ℕ → ℕ → numbers.Arguments
+argumentsIn s k t p q ph w m pc =
+    record {
+      site = s;
+      kind = k;
+      transaction = t;
+      participant = p;
+      presumption = q;
+      phase = ph;
+      waiting = w;
+      cohort = record { members = m; presumeCommit = pc };
+    }

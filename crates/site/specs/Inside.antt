@@ -1,0 +1,42 @@
+-- What the program's inner functions promise each other. No reader has to believe it: proofs/ shows what it has to do with 01.
+use Prim.Native.Nat.{ℕ, _≤_}
+use mathlib.Core.Bool.{cond, _&&_}
+use mathlib.Core.List.{List, [], _∷_}
+use Rattle.site.specs.Presumption.{Outcome, Presumption, presumptionNumber}
+use Rattle.site.specs.Cohort.{Cohort, presumptionOf, owing}
+use Rattle.site.specs.Step.{voteYes, append, force, enter, send, Row, answered}
+use Rattle.site.specs.Coordinator.{Coordinator, untilAcked, tellAll}
+use Rattle.site.specs.Participant.{Participant, prepared, acking, participantStep}
+use Rattle.site.specs.Numbers.{Arguments, participantOf, inputOf, receives, isMember, inRangeAt, refusal, participantResult, stepAt}
+
+-- an outcome told again to a set, the phase as it is
+abbrev pub toldAgain : Cohort → Outcome → ℕ → Coordinator → Row Coordinator
+toldAgain g o to c = record { effects = tellAll g o to; phase = c }
+
+-- at restart: an outcome entered again, and told to a set
+abbrev pub resuming : Cohort → Outcome → ℕ → Row Coordinator
+resuming g o to = record { effects = enter o ∷ tellAll g o to; phase = untilAcked o (owing g o) }
+
+-- a participant's number
+abbrev pub Numbered : ℕ → Type 0
+Numbered p = (1 ≤ p) × (p ≤ 8)
+
+-- the row of a first Prepare
+abbrev pub preparing : Presumption → ℕ → Row Participant
+preparing presumption p =
+    record { effects = append 5 (presumptionNumber presumption ∷ []) ∷ force ∷ send voteYes p ∷ []; phase = prepared }
+
+-- an outcome acknowledged again, if at all, the phase as it is
+abbrev pub acknowledging : Presumption → ℕ → Outcome → Participant → Row Participant
+acknowledging presumption p o x = record { effects = acking presumption p o; phase = x }
+
+-- the step on numbers at the coordinator, and at participant p, once the other arguments have passed
+unfoldable pub coordinatorNumbers : Arguments → List ℕ
+coordinatorNumbers a = cond (receives 0 (a .kind) && inRangeAt 0 a) (stepAt 0 a) refusal
+
+unfoldable pub participantNumbers : Arguments → List ℕ
+participantNumbers a =
+    cond (receives 1 (a .kind) && isMember a)
+    (participantResult (a .phase)
+    (answered (participantStep (presumptionOf (a .cohort) (a .participant)) (a .participant) (inputOf (a .kind) (a .participant)) (participantOf (a .phase)))))
+    refusal

@@ -1,0 +1,233 @@
+// A participant's step (01: a box) on one transaction, and its restart.
+use crate::effects::Effects;
+use crate::phases::ParticipantPhase;
+use crate::presumption::Outcome;
+use crate::presumption::Presumption;
+use codec::message::Parts;
+use codec::record::Record;
+use codec::sets::only;
+ghost use mathlib.Core.Path.{_≡_};
+ghost use mathlib.Core.Bool.{cond};
+ghost use Rattle.codec.specs.Sets.{only};
+ghost use Rattle.site.specs.Participant as participant;
+ghost use Rattle.site.specs.Step.{voteYes, voteNo, answered};
+ghost use Rattle.site.specs.Numbers.{participantAnswer, participantRestarted};
+ghost use Rattle.site.specs.Answers.{outcomeIn, presumptionIn, participantIn, hasKind, participantRowIn, participantAnswerIn};
+ghost use Rattle.site.specs.Inside.{Numbered, preparing, acknowledging};
+
+// One transaction at participant `number`: its phase, and what silence means to it.
+pub struct Participant {
+    pub phase: ParticipantPhase,
+    pub presumption: Presumption,
+    pub number: u8,
+}
+
+pub struct ParticipantRow {
+    pub effects: Effects,
+    pub phase: ParticipantPhase,
+}
+
+// What a step gives. `NoRow` is not a row without effects: the joint run tells them apart.
+pub enum ParticipantAnswer {
+    Row(ParticipantRow),
+    NoRow,
+    Refused,
+}
+
+impl Participant {
+    pub const FIRST: u8 = 1;
+
+    pub const LAST: u8 = 8;
+    // The kind that is no message.
+    pub const TIMER: u8 = 17;
+
+    // The participant itself, if it sends.
+    fn own(self, sends: bool) -> u8
+        ensures { λ r. ⌜ r ≡ cond sends (only (self .number)) 0 ⌝ }
+    {
+        if sends {
+            return only(self.number);
+        }
+        0
+    }
+
+    // A vote sent again, and the phase.
+    fn voting(self, phase: ParticipantPhase, yes: bool) -> ParticipantRow
+        requires { ⌜ Numbered (self .number) ⌝ }
+        ensures { λ r. ⌜ participantRowIn r ≡ participant.voting (presumptionIn (self .presumption)) (self .number) (participantIn phase) (cond yes voteYes voteNo) ⌝ }
+    {
+        let mut effects = Effects::NONE;
+        effects.message = if yes { Parts::YES } else { Parts::NO };
+        effects.to = self.own(true);
+        ParticipantRow {
+            effects: effects,
+            phase: phase,
+        }
+    }
+
+    // Prepared: from now on only the coordinator can tell the outcome.
+    fn preparing(self) -> ParticipantRow
+        requires { ⌜ Numbered (self .number) ⌝ }
+        ensures { λ r. ⌜ participantRowIn r ≡ preparing (presumptionIn (self .presumption)) (self .number) ⌝ }
+    {
+        let presumption = self.presumption;
+        ParticipantRow {
+            effects: Effects {
+                appended: Record::PREPARED,
+                first: presumption.number(),
+                second: 0,
+                forced: true,
+                entered: 0,
+                message: Parts::YES,
+                to: self.own(true),
+                owing: 0,
+                last: 0,
+            },
+            phase: ParticipantPhase::Prepared,
+        }
+    }
+
+    // An outcome acknowledged again, and the phase as it is.
+    fn acknowledging(self, outcome: Outcome) -> ParticipantRow
+        requires { ⌜ Numbered (self .number) ⌝ }
+        ensures { λ r. ⌜ participantRowIn r ≡ acknowledging (presumptionIn (self .presumption)) (self .number) (outcomeIn outcome) (participantIn (self .phase)) ⌝ }
+    {
+        let presumption = self.presumption;
+        let mut effects = Effects::NONE;
+        effects.message = outcome.ack();
+        effects.to = self.own(presumption.acks(outcome));
+        let phase = self.phase;
+        ParticipantRow {
+            effects: effects,
+            phase: phase,
+        }
+    }
+
+    // The outcome is new.
+    fn finish(self, outcome: Outcome) -> ParticipantRow
+        requires { ⌜ Numbered (self .number) ⌝ }
+        ensures { λ r. ⌜ participantRowIn r ≡ participant.finish (presumptionIn (self .presumption)) (self .number) (outcomeIn outcome) ⌝ }
+    {
+        let presumption = self.presumption;
+        let acks = presumption.acks(outcome);
+        ParticipantRow {
+            effects: Effects {
+                appended: outcome.outcome_record(),
+                first: 0,
+                second: 0,
+                forced: acks,
+                entered: outcome.number(),
+                message: outcome.ack(),
+                to: self.own(acks),
+                owing: 0,
+                last: 0,
+            },
+            phase: ParticipantPhase::decided(outcome),
+        }
+    }
+
+    fn on_prepare(self) -> ParticipantAnswer
+        requires { ⌜ Numbered (self .number) ⌝ }
+        ensures { λ r. ⌜ participantAnswerIn r ≡ answered (participant.onPrepare (presumptionIn (self .presumption)) (self .number) (participantIn (self .phase))) ⌝ }
+    {
+        let phase = self.phase;
+        match phase {
+            ParticipantPhase::Working => ParticipantAnswer::Row(self.preparing()),
+            ParticipantPhase::Prepared => ParticipantAnswer::Row(self.voting(phase, true)),
+            ParticipantPhase::Committed => ParticipantAnswer::NoRow,
+            ParticipantPhase::Aborted => ParticipantAnswer::Row(self.voting(phase, false)),
+            ParticipantPhase::Unknown => ParticipantAnswer::Row(self.voting(phase, false)),
+        }
+    }
+
+    fn on_tell(self, outcome: Outcome) -> ParticipantAnswer
+        requires { ⌜ Numbered (self .number) ⌝ }
+        ensures { λ r. ⌜ participantAnswerIn r ≡ answered (participant.onTell (presumptionIn (self .presumption)) (self .number) (outcomeIn outcome) (participantIn (self .phase))) ⌝ }
+    {
+        let phase = self.phase;
+        match phase {
+            ParticipantPhase::Working => match outcome {
+                Outcome::Commit => ParticipantAnswer::NoRow,
+                Outcome::Abort => ParticipantAnswer::Row(self.finish(outcome)),
+            },
+            ParticipantPhase::Prepared => ParticipantAnswer::Row(self.finish(outcome)),
+            ParticipantPhase::Committed => match outcome {
+                Outcome::Commit => ParticipantAnswer::Row(self.acknowledging(outcome)),
+                Outcome::Abort => ParticipantAnswer::NoRow,
+            },
+            ParticipantPhase::Aborted => match outcome {
+                Outcome::Commit => ParticipantAnswer::NoRow,
+                Outcome::Abort => ParticipantAnswer::Row(self.acknowledging(outcome)),
+            },
+            ParticipantPhase::Unknown => ParticipantAnswer::Row(self.acknowledging(outcome)),
+        }
+    }
+
+    fn on_timer(self) -> ParticipantAnswer
+        requires { ⌜ Numbered (self .number) ⌝ }
+        ensures { λ r. ⌜ participantAnswerIn r ≡ answered (participant.participantTimer (presumptionIn (self .presumption)) (self .number) (participantIn (self .phase))) ⌝ }
+    {
+        let phase = self.phase;
+        match phase {
+            ParticipantPhase::Working => {
+                let mut effects = Effects::NONE;
+                effects.entered = Effects::ABORT;
+                ParticipantAnswer::Row(ParticipantRow {
+                    effects: effects,
+                    phase: ParticipantPhase::Unknown,
+                })
+            }
+            ParticipantPhase::Prepared => ParticipantAnswer::Row(self.voting(phase, true)),
+            _ => ParticipantAnswer::NoRow,
+        }
+    }
+
+    // The step by the kind's number: a kind that a participant never receives, and what is no participant, is refused.
+    pub fn step(self, kind: u8) -> ParticipantAnswer
+        ensures { λ r. ⌜ participantAnswerIn r ≡ participantAnswer (presumptionIn (self .presumption)) (self .number) kind (participantIn (self .phase)) ⌝ }
+    {
+        let number = self.number;
+        if (number < Participant::FIRST) | (Participant::LAST < number) {
+            return ParticipantAnswer::Refused;
+        }
+        match kind {
+            Parts::PREPARE => self.on_prepare(),
+            Parts::COMMIT => self.on_tell(Outcome::Commit),
+            Parts::ABORT => self.on_tell(Outcome::Abort),
+            Participant::TIMER => self.on_timer(),
+            _ => ParticipantAnswer::Refused,
+        }
+    }
+
+    // From the kinds of record that the stable log has of the transaction, bit k for kind k.
+    pub fn restart(self, kinds: u16) -> ParticipantAnswer
+        ensures { λ r. ⌜ participantAnswerIn r ≡ participantRestarted (presumptionIn (self .presumption)) (self .number) (hasKind kinds) ⌝ }
+    {
+        let number = self.number;
+        if (number < Participant::FIRST) | (Participant::LAST < number) {
+            return ParticipantAnswer::Refused;
+        }
+        let mut effects = Effects::NONE;
+        if kinds / 64 % 2 == 1 {
+            effects.entered = Effects::COMMIT;
+            return ParticipantAnswer::Row(ParticipantRow {
+                effects: effects,
+                phase: ParticipantPhase::Committed,
+            });
+        }
+        if kinds / 128 % 2 == 1 {
+            effects.entered = Effects::ABORT;
+            return ParticipantAnswer::Row(ParticipantRow {
+                effects: effects,
+                phase: ParticipantPhase::Aborted,
+            });
+        }
+        if kinds / 32 % 2 == 1 {
+            return ParticipantAnswer::Row(self.voting(ParticipantPhase::Prepared, true));
+        }
+        ParticipantAnswer::Row(ParticipantRow {
+            effects: effects,
+            phase: ParticipantPhase::Unknown,
+        })
+    }
+}
