@@ -1,9 +1,11 @@
--- Phases by number. Assumes nothing.
+-- Phases and record kinds by number. Assumes nothing.
 use mathlib.Core.Path.{_≡_, refl}
 use mathlib.Core.Bool.{false, not, _&&_}
 use mathlib.Core.List.{List, [], _∷_}
 use mathlib.Core.Logic.{inl, inr}
-use Prim.Native.Nat.{ℕ, zero, suc, _≤_}
+use Prim.Native.Nat.{ℕ, zero, suc, _*_, _/_, _^_, _<_, _≤_}
+use native.Mathlib.Nat.{div-lt-iff-lt-mul}
+use lib.Pow.{pow-pos, pow-mono}
 use native.Mathlib.Omega.{arith}
 use lib.ListN.{getD, List·getD-eq-default}
 use denote.Enum.Declared.{tagOf}
@@ -14,7 +16,7 @@ use Rattle.site.specs.Cohort.{Cohort, owing}
 use Rattle.site.specs.Coordinator as coordinator
 use Rattle.site.specs.Participant as participant
 use Rattle.site.specs.Numbers.{waitingSet, coordinatorOf, participantOf, waitingInRange}
-use Rattle.site.specs.Answers.{coordinatorIn}
+use Rattle.site.specs.Answers.{coordinatorIn, hasKind}
 use Rattle.site.specs.declared.phases.CoordinatorPhase.{CoordinatorPhase}
 use Rattle.site.specs.declared.phases.CoordinatorPhase.the-variants.{Open, Collecting, Committing, Aborting, Unknown}
 use Rattle.site.proofs.phases.CoordinatorPhase.{the-type}
@@ -63,3 +65,13 @@ no-phase g phase w a b c d =
     ∷ empty w
     ∷ [])
     false (none-of-five phase (λ e. a (inl e)) b c d (λ e. a (inr e)))
+
+-- ---- kinds of record
+
+pub no-kind : (kinds k : ℕ) → kinds < 65536 → 15 < k → hasKind kinds k ≡ false
+unfolding hasKind
+no-kind kinds k h l =
+    let small : kinds < 1 * 2 ^ k = omega (arith, pow-mono {i = 16} {j = k} l) in
+    let none : kinds / 2 ^ k < 1 = div-lt-iff-lt-mul (pow-pos k) .1 small in
+    let e : kinds / 2 ^ k ≡ 0 = omega arith in
+    rw e refl

@@ -1,5 +1,6 @@
 // The coordinator's step (01: the hub) on one transaction, and its restart.
 use crate::effects::Effects;
+use crate::kinds::has;
 use crate::phases::CoordinatorPhase;
 use crate::presumption::Outcome;
 use crate::presumption::Presumption;
@@ -279,7 +280,9 @@ impl Coordinator {
             Parts::ABORT_ACK => self.on_ack(Outcome::Abort, participant),
             Coordinator::BEGIN => self.on_begin(),
             Coordinator::TIMER => self.on_timer(),
-            _ => CoordinatorAnswer::Refused,
+            Parts::PREPARE | Parts::COMMIT..=Parts::ABORT | 7..=15 | 18..=255 => {
+                CoordinatorAnswer::Refused
+            }
         }
     }
 
@@ -303,10 +306,10 @@ impl Coordinator {
     pub fn restart(self, kinds: u16) -> CoordinatorRow
         ensures { λ r. ⌜ coordinatorRowIn r ≡ coordinator.coordinatorRestart (cohortIn self) (hasKind kinds) ⌝ }
     {
-        let init = kinds / 2 % 2 == 1;
-        let commit = kinds / 4 % 2 == 1;
-        let commit_end = kinds / 8 % 2 == 1;
-        let abort_end = kinds / 16 % 2 == 1;
+        let init = has(kinds, Record::INIT);
+        let commit = has(kinds, Record::COMMIT);
+        let commit_end = has(kinds, Record::COMMIT_END);
+        let abort_end = has(kinds, Record::ABORT_END);
         if commit & !commit_end {
             let owing = self.owing(Outcome::Commit);
             let to = if owing == 0 { 0 } else { self.members };

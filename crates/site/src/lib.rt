@@ -1,6 +1,7 @@
 // One site's step on one transaction: the coordinator's and a participant's, and the call for C.
 pub mod coordinator;
 pub mod effects;
+pub mod kinds;
 pub mod numbers;
 pub mod participant;
 pub mod phases;

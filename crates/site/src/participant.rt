@@ -1,5 +1,7 @@
 // A participant's step (01: a box) on one transaction, and its restart.
+use crate::coordinator::Coordinator;
 use crate::effects::Effects;
+use crate::kinds::has;
 use crate::phases::ParticipantPhase;
 use crate::presumption::Outcome;
 use crate::presumption::Presumption;
@@ -35,12 +37,6 @@ pub enum ParticipantAnswer {
 }
 
 impl Participant {
-    pub const FIRST: u8 = 1;
-
-    pub const LAST: u8 = 8;
-    // The kind that is no message.
-    pub const TIMER: u8 = 17;
-
     // The participant itself, if it sends.
     fn own(self, sends: bool) -> u8
         ensures { λ r. ⌜ r ≡ cond sends (only (self .number)) 0 ⌝ }
@@ -187,15 +183,15 @@ impl Participant {
         ensures { λ r. ⌜ participantAnswerIn r ≡ participantAnswer (presumptionIn (self .presumption)) (self .number) kind (participantIn (self .phase)) ⌝ }
     {
         let number = self.number;
-        if (number < Participant::FIRST) | (Participant::LAST < number) {
+        if (number < 1) | (Parts::PARTICIPANT < number) {
             return ParticipantAnswer::Refused;
         }
         match kind {
             Parts::PREPARE => self.on_prepare(),
             Parts::COMMIT => self.on_tell(Outcome::Commit),
             Parts::ABORT => self.on_tell(Outcome::Abort),
-            Participant::TIMER => self.on_timer(),
-            _ => ParticipantAnswer::Refused,
+            Coordinator::TIMER => self.on_timer(),
+            Parts::YES..=Parts::NO | 5..=16 | 18..=255 => ParticipantAnswer::Refused,
         }
     }
 
@@ -204,25 +200,25 @@ impl Participant {
         ensures { λ r. ⌜ participantAnswerIn r ≡ participantRestarted (presumptionIn (self .presumption)) (self .number) (hasKind kinds) ⌝ }
     {
         let number = self.number;
-        if (number < Participant::FIRST) | (Participant::LAST < number) {
+        if (number < 1) | (Parts::PARTICIPANT < number) {
             return ParticipantAnswer::Refused;
         }
         let mut effects = Effects::NONE;
-        if kinds / 64 % 2 == 1 {
+        if has(kinds, Record::COMMITTED) {
             effects.entered = Effects::COMMIT;
             return ParticipantAnswer::Row(ParticipantRow {
                 effects: effects,
                 phase: ParticipantPhase::Committed,
             });
         }
-        if kinds / 128 % 2 == 1 {
+        if has(kinds, Record::ABORTED) {
             effects.entered = Effects::ABORT;
             return ParticipantAnswer::Row(ParticipantRow {
                 effects: effects,
                 phase: ParticipantPhase::Aborted,
             });
         }
-        if kinds / 32 % 2 == 1 {
+        if has(kinds, Record::PREPARED) {
             return ParticipantAnswer::Row(self.voting(ParticipantPhase::Prepared, true));
         }
         ParticipantAnswer::Row(ParticipantRow {

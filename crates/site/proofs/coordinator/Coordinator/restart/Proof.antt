@@ -1,6 +1,7 @@
+use mathlib.Core.Path.{sym}
 use mathlib.Core.Logic.{inl, inr, ⊎-elim}
 use Rattle.site.specs.Answers.{effectsIn, appending, entering, closing, sending}
-use Rattle.site.specs.Answers.{cohortIn, hasKind}
+use Rattle.site.specs.Answers.{cohortIn}
 use Rattle.site.specs.Step.{messages, given}
 use Rattle.site.specs.Coordinator.{restartFrom, coordinatorRestart}
 use Rattle.site.proofs.Sent.{ordered-none}
@@ -9,6 +10,18 @@ use borrow.Author.Needs.{needs}
 use Rattle.site.proofs.coordinator.Coordinator.restart.Statement.{statement}
 use Rattle.site.proofs.coordinator.Coordinator.restart.Tie as tie
 
+has-requires : tie.Need-has-requires
+has-requires c κs = search needs
+
+has-requires-2 : tie.Need-has-requires-2
+has-requires-2 c κs = search needs
+
+has-requires-3 : tie.Need-has-requires-3
+has-requires-3 c κs = search needs
+
+has-requires-4 : tie.Need-has-requires-4
+has-requires-4 c κs = search needs
+
 owing-requires : tie.Need-owing-requires
 owing-requires c κs = search needs
 
@@ -16,25 +29,39 @@ resuming-requires : tie.Need-resuming-requires
 resuming-requires c κs = search needs
 
 returns : tie.Need-returns
-unfolding coordinatorRestart restartFrom hasKind
+unfolding coordinatorRestart restartFrom
 returns c =
-    let s = c .before .before .before .before .args in
+    let h = c .before .before .before .before in
     let w = c .before .before .owing .result in
-    let told = tell-owing (cohortIn (s .self)) w (c .before .if2 .to) (⊎-elim (λ h. inl (h .0 .taken, h .1)) (λ h. inr (h .0 .left, h .1)) (c .before .if2 .came)) in
-    rw (c .resuming .ensures, told, c .before .before .owing .ensures, c .before .before .before .if1 .taken)
+    let told = tell-owing (cohortIn (h .before .before .before .before .args .self)) w (c .before .if2 .to) (⊎-elim (λ h. inl (h .0 .taken, h .1)) (λ h. inr (h .0 .left, h .1)) (c .before .if2 .came)) in
+    rw (c .resuming .ensures, told, c .before .before .owing .ensures, sym (h .before .before .has2 .ensures), sym (h .before .has3 .ensures), c .before .before .before .if1 .taken)
 
 resuming-requires-2 : tie.Need-resuming-requires-2
 resuming-requires-2 c κs = search needs
 
 returns-2 : tie.Need-returns-2
-unfolding coordinatorRestart restartFrom hasKind
-returns-2 c = rw (c .resuming2 .ensures, c .before .before .if1 .left, c .before .if3 .taken)
+unfolding coordinatorRestart restartFrom
+returns-2 c =
+    let h = c .before .before .before in
+    rw (c .resuming2 .ensures, sym (h .before .before .before .has .ensures), sym (h .before .before .has2 .ensures), sym (h .before .has3 .ensures), sym (h .has4 .ensures), c .before .before .if1 .left, c .before .if3 .taken)
 
 returns-3 : tie.Need-returns-3
-unfolding coordinatorRestart restartFrom hasKind effectsIn appending entering closing sending messages given
-returns-3 c = rw (c .before .if1 .left, c .if3 .left, ordered-none 0)
+unfolding coordinatorRestart restartFrom effectsIn appending entering closing sending messages given
+returns-3 c =
+    let h = c .before .before in
+    rw (sym (h .before .before .before .has .ensures), sym (h .before .before .has2 .ensures), sym (h .before .has3 .ensures), sym (h .has4 .ensures), c .before .if1 .left, c .if3 .left, ordered-none 0)
 
 pub restart-spec : {M : Type 1} → statement M
 restart-spec =
     tie.close
-    (tie.spec owing-requires resuming-requires returns resuming-requires-2 returns-2 returns-3)
+    (tie.spec
+    has-requires
+    has-requires-2
+    has-requires-3
+    has-requires-4
+    owing-requires
+    resuming-requires
+    returns
+    resuming-requires-2
+    returns-2
+    returns-3)

@@ -83,9 +83,15 @@ returns-7 c =
     (sym (coordinator-takes (cohortIn (s .args .self)) (s .args .kind) (s .args .participant) (coordinatorIn (s .args .self .phase)) 17 (c .before .match .keys6) refl (ap (leb 16 (s .args .kind) ||_) (sym (c .before .before .before .member .ensures)) ∙ not-false (leb 16 (s .args .kind) || c .before .before .before .member .result) (c .before .before .if1 .left))))
 
 returns-8 : tie.Need-returns-8
+unfolding receives kindsReceived any
 returns-8 c =
     let s = c .before .before .before in
-    let r = c .match .rest in
+    sym (coordinator-kindless (cohortIn (s .args .self)) (s .args .kind) (s .args .participant) (coordinatorIn (s .args .self .phase)) (rw (c .match .keys7) refl))
+
+returns-9 : tie.Need-returns-9
+returns-9 c =
+    let s = c .before .before .before in
+    let r = c .match .rest .0 in
     sym (coordinator-kindless (cohortIn (s .args .self)) (s .args .kind) (s .args .participant) (coordinatorIn (s .args .self .phase)) (never-coordinator (s .args .kind) (r .0 .0 .0 .0 .0 .1) (r .0 .0 .0 .0 .1) (r .0 .0 .0 .1) (r .0 .0 .1) (r .0 .1) (r .1)))
 
 pub step-spec : {M : Type 1} → statement M
@@ -106,4 +112,5 @@ step-spec =
     returns-5
     returns-6
     returns-7
-    returns-8)
+    returns-8
+    returns-9)
