@@ -12,7 +12,8 @@ use Rattle.joint.specs.State.{Run, fresh}
 use Rattle.joint.specs.Run.{after, siteImage}
 use Rattle.joint.specs.Drill.{eventsIn, ascii, drill}
 use Rattle.codec.specs.Open.{codec-opens}
-use Rattle.joint.proofs.Open.{site-opens, joint-opens}
+use Rattle.site.specs.Open.{site-opens}
+use Rattle.joint.proofs.Open.{joint-opens}
 
 -- ---- hexadecimal text as bytes; what stands below '0' in ASCII only separates
 

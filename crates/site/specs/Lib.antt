@@ -6,3 +6,4 @@ pub mod Participant
 pub mod Numbers
 pub mod Answers
 pub mod Inside
+pub mod Open
