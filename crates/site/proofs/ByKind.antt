@@ -1,50 +1,52 @@
--- The steps by the kind's number. Assumes nothing.
+-- The steps by the kind's number, from what the program has tested. Assumes nothing.
 use mathlib.Core.Path.{_≡_, refl, ap, sym, _∙_}
 use mathlib.Core.Bool.{Bool, true, false, not, _&&_, _||_, and-false, false≢true}
+use mathlib.Core.Option.{some}
 use Prim.Native.Nat.{ℕ, _<_}
 use lib.Dec.{eqb, leb}
-use borrow.Author.Tests.{ne-eqb}
+use borrow.Author.Tests.{ne-eqb, not-true, not-false}
 use Rattle.codec.specs.Lists.{any}
+use Rattle.codec.specs.Sets.{participants, member}
 use Rattle.codec.specs.laws.Tests.{alike, alike-eq, below-at}
 use Rattle.codec.specs.laws.Members.{noParticipant, no-member}
-use Rattle.codec.specs.Sets.{participants, member}
-use Rattle.site.specs.Presumption.{Presumption}
-use Rattle.site.specs.Cohort.{Cohort}
-use Rattle.site.specs.Step.{refused, answered, answerIf}
-use Rattle.site.specs.Coordinator.{Coordinator, coordinatorStep}
-use Rattle.site.specs.Participant.{Participant, participantStep}
-use Rattle.site.specs.Numbers.{kindsReceived, receives, inputOf, coordinatorAnswer, participantAnswer}
+use Rattle.site.specs.Step.{refused, row, answered, answerIf}
+use Rattle.site.specs.Coordinator.{coordinatorStep}
+use Rattle.site.specs.Participant.{participantStep, participantRestart}
+use Rattle.site.specs.Numbers.{kindsReceived, receives, inputOf, coordinatorAnswer, participantAnswer, participantRestarted}
+use Rattle.site.specs.Answers.{presumptionIn, cohortIn, coordinatorIn, participantIn}
+use Rattle.site.specs.declared.coordinator.Coordinator.{Coordinator}
+use Rattle.site.specs.declared.participant.Participant.{Participant}
 
-module _ (g : Cohort) (kind p : ℕ) (x : Coordinator) where
-  -- a kind k that is received, from a member where it is a message
-  pub coordinator-takes : (k : ℕ) → kind ≡ k → receives 0 k ≡ true → (leb 16 kind || member p (g .members)) ≡ true
-      → coordinatorAnswer g kind p x ≡ answered (coordinatorStep g (inputOf k p) x)
-  unfolding coordinatorAnswer answerIf
-  coordinator-takes k e r m = rw (m, e, r)
+-- ---- the coordinator's
 
-  pub coordinator-stranger : (leb 16 kind || member p (g .members)) ≡ false → coordinatorAnswer g kind p x ≡ refused
+-- m: the program found that p is a member
+module _ (x : Coordinator) (kind p : ℕ) (m : Bool) (found : m ≡ member p (x .members)) where
+  pub coordinator-stranger : not (leb 16 kind || m) ≡ true → refused ≡ coordinatorAnswer (cohortIn x) kind p (coordinatorIn (x .phase))
   unfolding coordinatorAnswer answerIf
-  coordinator-stranger m = rw (m, and-false (receives 0 kind))
+  coordinator-stranger t = rw (sym found, not-true (leb 16 kind || m) t, and-false (receives 0 kind))
 
-  pub coordinator-kindless : receives 0 kind ≡ false → coordinatorAnswer g kind p x ≡ refused
+  -- a kind k that is received
+  pub coordinator-takes : (k : ℕ) → not (leb 16 kind || m) ≡ false → kind ≡ k → receives 0 k ≡ true
+      → answered (coordinatorStep (cohortIn x) (inputOf k p) (coordinatorIn (x .phase))) ≡ coordinatorAnswer (cohortIn x) kind p (coordinatorIn (x .phase))
   unfolding coordinatorAnswer answerIf
-  coordinator-kindless r = rw r
+  coordinator-takes k t e r = rw (sym found, not-false (leb 16 kind || m) t, e, r)
+
+pub coordinator-never : (x : Coordinator) (kind p : ℕ) → receives 0 kind ≡ false → refused ≡ coordinatorAnswer (cohortIn x) kind p (coordinatorIn (x .phase))
+unfolding coordinatorAnswer answerIf
+coordinator-never x kind p r = rw r
 
 -- none of the kinds received
-pub never-coordinator : (kind : ℕ) → (kind ≡ 1 → ⊥) → (kind ≡ 2 → ⊥) → (kind ≡ 5 → ⊥) → (kind ≡ 6 → ⊥) → (kind ≡ 16 → ⊥) → (kind ≡ 17 → ⊥)
+pub not-received : (kind : ℕ) → (kind ≡ 1 → ⊥) → (kind ≡ 2 → ⊥) → (kind ≡ 5 → ⊥) → (kind ≡ 6 → ⊥) → (kind ≡ 16 → ⊥) → (kind ≡ 17 → ⊥)
     → receives 0 kind ≡ false
 unfolding receives any kindsReceived
-never-coordinator kind a b c d e f =
+not-received kind a b c d e f =
     rw (ne-eqb kind 1 a, ne-eqb kind 2 b, ne-eqb kind 5 c, ne-eqb kind 6 d, ne-eqb kind 16 e, ne-eqb kind 17 f)
 
-pub never-participant : (kind : ℕ) → (kind ≡ 0 → ⊥) → (kind ≡ 3 → ⊥) → (kind ≡ 4 → ⊥) → (kind ≡ 17 → ⊥) → receives 1 kind ≡ false
-unfolding receives any kindsReceived
-never-participant kind a b c d = rw (ne-eqb kind 0 a, ne-eqb kind 3 b, ne-eqb kind 4 c, ne-eqb kind 17 d)
+-- ---- a participant's
 
--- whether a number is a participant's
-pub among-participants : (p : ℕ) → p < 256 → any (eqb p) participants ≡ not (noParticipant p)
+among : (p : ℕ) → p < 256 → any (eqb p) participants ≡ not (noParticipant p)
 unfolding any participants
-among-participants p h = alike-eq _ _ (below-at 256 (λ p. alike (any (eqb p) participants) (not (noParticipant p))) tt p h)
+among p h = alike-eq _ _ (below-at 256 (λ p. alike (any (eqb p) participants) (not (noParticipant p))) tt p h)
 
 -- a member is a participant
 pub member-among : (p m : ℕ) → p < 256 → m < 256 → member p m ≡ true → any (eqb p) participants ≡ true
@@ -52,18 +54,31 @@ member-among p m hp hm e = by (noParticipant p) refl
   where
     by : (b : Bool) → noParticipant p ≡ b → any (eqb p) participants ≡ true
     by true n = absurd (false≢true (sym (no-member p m hm n) ∙ e))
-    by false n = among-participants p hp ∙ ap not n
+    by false n = among p hp ∙ ap not n
 
-module _ (presumption : Presumption) (p kind : ℕ) (x : Participant) where
-  pub participant-takes : (k : ℕ) → kind ≡ k → receives 1 k ≡ true → any (eqb p) participants ≡ true
-      → participantAnswer presumption p kind x ≡ answered (participantStep presumption p (inputOf k p) x)
+module _ (x : Participant) (h : x .number < 256) where
+  pub no-participant : (kind : ℕ) → noParticipant (x .number) ≡ true
+      → refused ≡ participantAnswer (presumptionIn (x .presumption)) (x .number) kind (participantIn (x .phase))
   unfolding participantAnswer answerIf
-  participant-takes k e r m = rw (m, e, r)
+  no-participant kind n = rw (among (x .number) h, n, and-false (receives 1 kind))
 
-  pub no-participant : any (eqb p) participants ≡ false → participantAnswer presumption p kind x ≡ refused
+  pub participant-takes : (kind k : ℕ) → noParticipant (x .number) ≡ false → kind ≡ k → receives 1 k ≡ true
+      → answered (participantStep (presumptionIn (x .presumption)) (x .number) (inputOf k (x .number)) (participantIn (x .phase)))
+      ≡ participantAnswer (presumptionIn (x .presumption)) (x .number) kind (participantIn (x .phase))
   unfolding participantAnswer answerIf
-  no-participant m = rw (m, and-false (receives 1 kind))
+  participant-takes kind k n e r = rw (among (x .number) h, n, e, r)
 
-  pub participant-kindless : receives 1 kind ≡ false → participantAnswer presumption p kind x ≡ refused
-  unfolding participantAnswer answerIf
-  participant-kindless r = rw r
+  -- none of the kinds received
+  pub participant-never : (kind : ℕ) → (kind ≡ 0 → ⊥) → (kind ≡ 3 → ⊥) → (kind ≡ 4 → ⊥) → (kind ≡ 17 → ⊥)
+      → refused ≡ participantAnswer (presumptionIn (x .presumption)) (x .number) kind (participantIn (x .phase))
+  unfolding participantAnswer answerIf receives any kindsReceived
+  participant-never kind a b c d = rw (ne-eqb kind 0 a, ne-eqb kind 3 b, ne-eqb kind 4 c, ne-eqb kind 17 d)
+
+  pub no-restart : (has : ℕ → Bool) → noParticipant (x .number) ≡ true → participantRestarted (presumptionIn (x .presumption)) (x .number) has ≡ refused
+  unfolding participantRestarted answerIf
+  no-restart has n = rw (among (x .number) h, n)
+
+  pub restarts : (has : ℕ → Bool) → noParticipant (x .number) ≡ false
+      → participantRestarted (presumptionIn (x .presumption)) (x .number) has ≡ row (participantRestart (presumptionIn (x .presumption)) (x .number) has)
+  unfolding participantRestarted answerIf answered
+  restarts has n = rw (among (x .number) h, n)

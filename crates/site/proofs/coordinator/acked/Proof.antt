@@ -6,19 +6,18 @@ use Rattle.site.specs.Step.{messages, given}
 use Rattle.site.specs.Coordinator.{acked}
 use Rattle.site.proofs.Sent.{ordered-none}
 use Rattle.site.proofs.Rows.{end-appended}
-use borrow.Author.Needs.{needs}
 use Rattle.site.proofs.coordinator.acked.Statement.{statement}
 use Rattle.site.proofs.coordinator.acked.Tie as tie
 
 end-record-requires : tie.Need-end-record-requires
-end-record-requires c κs = search needs
+end-record-requires c κs = tt
 
 returns : tie.Need-returns
 unfolding acked empty effectsIn entering closing sending messages given
 returns c = rw (c .end-record .ensures, c .before .if1 .taken, end-appended (outcomeIn (c .before .before .args .outcome)) 0 0, ordered-none 0)
 
 awaiting-requires : tie.Need-awaiting-requires
-awaiting-requires c κs = search needs
+awaiting-requires c κs = tt
 
 returns-2 : tie.Need-returns-2
 unfolding acked empty effectsIn appending entering closing sending messages given

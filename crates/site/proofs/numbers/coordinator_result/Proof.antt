@@ -11,22 +11,22 @@ enum-told-2 : tie.Need-enum-told-2
 enum-told-2 c = search needs
 
 packed-requires : tie.Need-packed-requires
-packed-requires c κs = search needs
+packed-requires c κs = tt
 
 enum-known-answer : tie.Need-enum-known-answer
 enum-known-answer c = search needs
 
 number-requires : tie.Need-number-requires
-number-requires c κs = search needs
+number-requires c κs = tt
 
 waiting-requires : tie.Need-waiting-requires
-waiting-requires c κs = search needs
+waiting-requires c κs = tt
 
 summary-requires : tie.Need-summary-requires
-summary-requires c κs = search needs
+summary-requires c κs = tt
 
 packed-requires-2 : tie.Need-packed-requires-2
-packed-requires-2 c κs = search needs
+packed-requires-2 c κs = tt
 
 returns : tie.Need-returns
 unfolding coordinatorResult refusal packed

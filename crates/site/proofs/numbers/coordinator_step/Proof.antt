@@ -4,21 +4,20 @@ use borrow.Author.Tests.{not-true, not-false}
 use Rattle.site.specs.Answers.{argumentsIn}
 use Rattle.site.specs.Numbers.{packed, refusal}
 use Rattle.site.proofs.Accepted.{named, fits, coordinator-refused, coordinator-taken}
-use borrow.Author.Needs.{needs}
 use Rattle.site.proofs.numbers.coordinator_step.Statement.{statement}
 use Rattle.site.proofs.numbers.coordinator_step.Tie as tie
 
 from-numbers-requires : tie.Need-from-numbers-requires
-from-numbers-requires c κs = search needs
+from-numbers-requires c κs = tt
 
 presumption-requires : tie.Need-presumption-requires
-presumption-requires c κs = search needs
+presumption-requires c κs = tt
 
 number-requires : tie.Need-number-requires
-number-requires c κs = search needs
+number-requires c κs = tt
 
 waiting-in-range-requires : tie.Need-waiting-in-range-requires
-waiting-in-range-requires c κs = search needs
+waiting-in-range-requires c κs = tt
 
 returns : tie.Need-returns
 unfolding packed refusal
@@ -31,10 +30,10 @@ returns c =
     rw (coordinator-refused a (not-true (named a && fits a) e))
 
 step-requires : tie.Need-step-requires
-step-requires c κs = search needs
+step-requires c κs = tt
 
 coordinator-result-requires : tie.Need-coordinator-result-requires
-coordinator-result-requires c κs = search needs
+coordinator-result-requires c κs = tt
 
 returns-2 : tie.Need-returns-2
 returns-2 c =

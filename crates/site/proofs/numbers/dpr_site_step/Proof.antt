@@ -4,12 +4,11 @@ use native.Mathlib.Omega.{arith}
 use Rattle.site.specs.Answers.{argumentsIn}
 use Rattle.site.specs.Numbers.{packed, refusal}
 use Rattle.site.proofs.Accepted.{wrong, call-refused, call-coordinator, call-foreign, call-participant, call-beyond}
-use borrow.Author.Needs.{needs}
 use Rattle.site.proofs.numbers.dpr_site_step.Statement.{statement}
 use Rattle.site.proofs.numbers.dpr_site_step.Tie as tie
 
 part-requires : tie.Need-part-requires
-part-requires c κs = search needs
+part-requires c κs = tt
 
 returns : tie.Need-returns
 unfolding packed refusal
@@ -20,7 +19,7 @@ returns c =
     rw (call-refused a (omega arith) e)
 
 coordinator-step-requires : tie.Need-coordinator-step-requires
-coordinator-step-requires c κs = search needs
+coordinator-step-requires c κs = tt
 
 returns-2 : tie.Need-returns-2
 unfolding packed refusal
@@ -31,7 +30,7 @@ returns-2 c =
     rw (call-foreign a (omega arith) e (c .before .before .match .rest .1) (c .if3 .taken))
 
 participant-step-requires : tie.Need-participant-step-requires
-participant-step-requires c κs = search needs
+participant-step-requires c κs = tt
 
 returns-3 : tie.Need-returns-3
 returns-3 c =

@@ -7,18 +7,17 @@ use Rattle.site.specs.Answers.{argumentsIn}
 use Rattle.site.specs.Numbers.{packed, refusal, isMember}
 use Rattle.site.proofs.Accepted.{participant-refused, participant-taken}
 use Rattle.site.proofs.ByKind.{member-among}
-use borrow.Author.Needs.{needs}
 use Rattle.site.proofs.numbers.participant_step.Statement.{statement}
 use Rattle.site.proofs.numbers.participant_step.Tie as tie
 
 presumption-requires : tie.Need-presumption-requires
-presumption-requires c κs = search needs
+presumption-requires c κs = tt
 
 member-requires : tie.Need-member-requires
-member-requires c κs = search needs
+member-requires c κs = tt
 
 number-requires : tie.Need-number-requires
-number-requires c κs = search needs
+number-requires c κs = tt
 
 returns : tie.Need-returns
 unfolding packed refusal isMember
@@ -31,13 +30,13 @@ returns c =
     rw (participant-refused a (not-true (isMember a) e))
 
 from-number-requires : tie.Need-from-number-requires
-from-number-requires c κs = search needs
+from-number-requires c κs = tt
 
 step-requires : tie.Need-step-requires
-step-requires c κs = search needs
+step-requires c κs = tt
 
 participant-result-requires : tie.Need-participant-result-requires
-participant-result-requires c κs = search needs
+participant-result-requires c κs = tt
 
 returns-2 : tie.Need-returns-2
 unfolding isMember

@@ -6,18 +6,17 @@ use Rattle.codec.specs.Sets.{empty}
 use Rattle.site.specs.Step.{messages, given}
 use Rattle.site.specs.Coordinator.{aborting, tellAll, inOrder}
 use Rattle.site.proofs.Rows.{abort-closed}
-use borrow.Author.Needs.{needs}
 use Rattle.site.proofs.coordinator.Coordinator.aborting.Statement.{statement}
 use Rattle.site.proofs.coordinator.Coordinator.aborting.Tie as tie
 
 owing-requires : tie.Need-owing-requires
-owing-requires c κs = search needs
+owing-requires c κs = tt
 
 both-requires : tie.Need-both-requires
-both-requires c κs = search needs
+both-requires c κs = tt
 
 until-acked-requires : tie.Need-until-acked-requires
-until-acked-requires c κs = search needs
+until-acked-requires c κs = tt
 
 returns : tie.Need-returns
 unfolding aborting tellAll inOrder empty effectsIn appending entering sending messages given

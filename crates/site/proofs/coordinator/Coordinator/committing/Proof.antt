@@ -3,15 +3,14 @@ use Rattle.codec.specs.Records.{lengths, lengthOf}
 use Rattle.site.specs.Step.{messages, given}
 use Rattle.site.specs.Cohort.{masksOf}
 use Rattle.site.specs.Coordinator.{committing, tellAll, inOrder}
-use borrow.Author.Needs.{needs}
 use Rattle.site.proofs.coordinator.Coordinator.committing.Statement.{statement}
 use Rattle.site.proofs.coordinator.Coordinator.committing.Tie as tie
 
 owing-requires : tie.Need-owing-requires
-owing-requires c κs = search needs
+owing-requires c κs = tt
 
 until-acked-requires : tie.Need-until-acked-requires
-until-acked-requires c κs = search needs
+until-acked-requires c κs = tt
 
 returns : tie.Need-returns
 unfolding effectsIn appending entering closing sending lengths lengthOf messages given masksOf committing tellAll inOrder

@@ -13,10 +13,10 @@ enum-known-phase : tie.Need-enum-known-phase
 enum-known-phase c = search needs
 
 without-requires : tie.Need-without-requires
-without-requires c κs = search needs
+without-requires c κs = tt
 
 acked-requires : tie.Need-acked-requires
-acked-requires c κs = search needs
+acked-requires c κs = tt
 
 enum-told-2 : tie.Need-enum-told-2
 enum-told-2 c = search needs
@@ -25,10 +25,10 @@ enum-known-phase-2 : tie.Need-enum-known-phase-2
 enum-known-phase-2 c = search needs
 
 without-requires-2 : tie.Need-without-requires-2
-without-requires-2 c κs = search needs
+without-requires-2 c κs = tt
 
 acked-requires-2 : tie.Need-acked-requires-2
-acked-requires-2 c κs = search needs
+acked-requires-2 c κs = tt
 
 returns : tie.Need-returns
 unfolding answered onAck ackedIf sameOutcome

@@ -10,7 +10,7 @@ enum-told : tie.Need-enum-told
 enum-told c = search needs
 
 preparing-requires : tie.Need-preparing-requires
-preparing-requires c κs = search needs
+preparing-requires c κs = tt
 
 returns : tie.Need-returns
 unfolding answered onBegin

@@ -10,10 +10,10 @@ enum-told : tie.Need-enum-told
 enum-told c = search needs
 
 without-requires : tie.Need-without-requires
-without-requires c κs = search needs
+without-requires c κs = tt
 
 aborting-requires : tie.Need-aborting-requires
-aborting-requires c κs = search needs
+aborting-requires c κs = tt
 
 returns : tie.Need-returns
 unfolding answered onNo

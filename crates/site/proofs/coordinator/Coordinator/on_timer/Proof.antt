@@ -10,19 +10,19 @@ enum-told : tie.Need-enum-told
 enum-told c = search needs
 
 aborting-requires : tie.Need-aborting-requires
-aborting-requires c κs = search needs
+aborting-requires c κs = tt
 
 enum-known-phase : tie.Need-enum-known-phase
 enum-known-phase c = search needs
 
 telling-requires : tie.Need-telling-requires
-telling-requires c κs = search needs
+telling-requires c κs = tt
 
 enum-known-phase-2 : tie.Need-enum-known-phase-2
 enum-known-phase-2 c = search needs
 
 telling-requires-2 : tie.Need-telling-requires-2
-telling-requires-2 c κs = search needs
+telling-requires-2 c κs = tt
 
 returns : tie.Need-returns
 unfolding answered coordinatorTimer

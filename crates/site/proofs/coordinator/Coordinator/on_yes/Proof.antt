@@ -16,43 +16,43 @@ enum-known-phase : tie.Need-enum-known-phase
 enum-known-phase c = search needs
 
 without-requires : tie.Need-without-requires
-without-requires c κs = search needs
+without-requires c κs = tt
 
 voted-requires : tie.Need-voted-requires
-voted-requires c κs = search needs
+voted-requires c κs = tt
 
 enum-told-2 : tie.Need-enum-told-2
 enum-told-2 c = search needs
 
 only-requires : tie.Need-only-requires
-only-requires c κs = search needs
+only-requires c κs = tt
 
 telling-requires : tie.Need-telling-requires
-telling-requires c κs = search needs
+telling-requires c κs = tt
 
 enum-told-3 : tie.Need-enum-told-3
 enum-told-3 c = search needs
 
 only-requires-2 : tie.Need-only-requires-2
-only-requires-2 c κs = search needs
+only-requires-2 c κs = tt
 
 telling-requires-2 : tie.Need-telling-requires-2
-telling-requires-2 c κs = search needs
+telling-requires-2 c κs = tt
 
 enum-told-4 : tie.Need-enum-told-4
 enum-told-4 c = search needs
 
 presumption-requires : tie.Need-presumption-requires
-presumption-requires c κs = search needs
+presumption-requires c κs = tt
 
 silence-requires : tie.Need-silence-requires
-silence-requires c κs = search needs
+silence-requires c κs = tt
 
 only-requires-3 : tie.Need-only-requires-3
-only-requires-3 c κs = search needs
+only-requires-3 c κs = tt
 
 telling-requires-3 : tie.Need-telling-requires-3
-telling-requires-3 c κs = search needs
+telling-requires-3 c κs = tt
 
 returns : tie.Need-returns
 unfolding answered onYes

@@ -9,13 +9,13 @@ enum-told : tie.Need-enum-told
 enum-told c = search needs
 
 minus-requires : tie.Need-minus-requires
-minus-requires c κs = search needs
+minus-requires c κs = tt
 
 enum-told-2 : tie.Need-enum-told-2
 enum-told-2 c = search needs
 
 both-requires : tie.Need-both-requires
-both-requires c κs = search needs
+both-requires c κs = tt
 
 returns : tie.Need-returns
 returns c = rw (c .minus .ensures, c .before .enum-told .given .1, owing-commit (cohortIn (c .before .before .before .args .self)))

@@ -1,11 +1,10 @@
 use mathlib.Core.Path.{sym}
 use Rattle.site.specs.Cohort.{presumptionOf}
-use borrow.Author.Needs.{needs}
 use Rattle.site.proofs.coordinator.Coordinator.presumption.Statement.{statement}
 use Rattle.site.proofs.coordinator.Coordinator.presumption.Tie as tie
 
 member-requires : tie.Need-member-requires
-member-requires c κs = search needs
+member-requires c κs = tt
 
 returns : tie.Need-returns
 unfolding presumptionOf

@@ -6,27 +6,26 @@ use Rattle.site.specs.Step.{messages, given}
 use Rattle.site.specs.Coordinator.{restartFrom, coordinatorRestart}
 use Rattle.site.proofs.Sent.{ordered-none}
 use Rattle.site.proofs.Rows.{tell-owing}
-use borrow.Author.Needs.{needs}
 use Rattle.site.proofs.coordinator.Coordinator.restart.Statement.{statement}
 use Rattle.site.proofs.coordinator.Coordinator.restart.Tie as tie
 
 has-requires : tie.Need-has-requires
-has-requires c κs = search needs
+has-requires c κs = tt
 
 has-requires-2 : tie.Need-has-requires-2
-has-requires-2 c κs = search needs
+has-requires-2 c κs = tt
 
 has-requires-3 : tie.Need-has-requires-3
-has-requires-3 c κs = search needs
+has-requires-3 c κs = tt
 
 has-requires-4 : tie.Need-has-requires-4
-has-requires-4 c κs = search needs
+has-requires-4 c κs = tt
 
 owing-requires : tie.Need-owing-requires
-owing-requires c κs = search needs
+owing-requires c κs = tt
 
 resuming-requires : tie.Need-resuming-requires
-resuming-requires c κs = search needs
+resuming-requires c κs = tt
 
 returns : tie.Need-returns
 unfolding coordinatorRestart restartFrom
@@ -37,7 +36,7 @@ returns c =
     rw (c .resuming .ensures, told, c .before .before .owing .ensures, sym (h .before .before .has2 .ensures), sym (h .before .has3 .ensures), c .before .before .before .if1 .taken)
 
 resuming-requires-2 : tie.Need-resuming-requires-2
-resuming-requires-2 c κs = search needs
+resuming-requires-2 c κs = tt
 
 returns-2 : tie.Need-returns-2
 unfolding coordinatorRestart restartFrom

@@ -4,21 +4,20 @@ use Rattle.site.specs.Step.{tell, given}
 use Rattle.site.specs.Coordinator.{tellAll, inOrder}
 use Rattle.site.proofs.Sent.{sending-kind}
 use Rattle.site.proofs.Rows.{entering-outcome}
-use borrow.Author.Needs.{needs}
 use Rattle.site.proofs.coordinator.Coordinator.resuming.Statement.{statement}
 use Rattle.site.proofs.coordinator.Coordinator.resuming.Tie as tie
 
 owing-requires : tie.Need-owing-requires
-owing-requires c κs = search needs
+owing-requires c κs = tt
 
 number-requires : tie.Need-number-requires
-number-requires c κs = search needs
+number-requires c κs = tt
 
 message-requires : tie.Need-message-requires
-message-requires c κs = search needs
+message-requires c κs = tt
 
 until-acked-requires : tie.Need-until-acked-requires
-until-acked-requires c κs = search needs
+until-acked-requires c κs = tt
 
 returns : tie.Need-returns
 unfolding effectsIn appending closing given tellAll inOrder

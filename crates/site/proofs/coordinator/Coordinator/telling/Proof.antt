@@ -3,15 +3,14 @@ use Rattle.site.specs.Answers.{outcomeIn}
 use Rattle.site.specs.Step.{tell, given}
 use Rattle.site.specs.Coordinator.{tellAll, inOrder}
 use Rattle.site.proofs.Sent.{sending-kind}
-use borrow.Author.Needs.{needs}
 use Rattle.site.proofs.coordinator.Coordinator.telling.Statement.{statement}
 use Rattle.site.proofs.coordinator.Coordinator.telling.Tie as tie
 
 message-requires : tie.Need-message-requires
-message-requires c κs = search needs
+message-requires c κs = tt
 
 owing-requires : tie.Need-owing-requires
-owing-requires c κs = search needs
+owing-requires c κs = tt
 
 returns : tie.Need-returns
 unfolding effectsIn appending entering closing given tellAll inOrder

@@ -5,12 +5,11 @@ use Rattle.codec.specs.Records.{lengths, lengthOf}
 use Rattle.site.specs.Step.{messages, given}
 use Rattle.site.specs.Coordinator.{inTurn, ordered, voted}
 use Rattle.site.proofs.Sent.{ordered-none}
-use borrow.Author.Needs.{needs}
 use Rattle.site.proofs.coordinator.Coordinator.voted.Statement.{statement}
 use Rattle.site.proofs.coordinator.Coordinator.voted.Tie as tie
 
 committing-requires : tie.Need-committing-requires
-committing-requires c κs = search needs
+committing-requires c κs = tt
 
 returns : tie.Need-returns
 unfolding voted empty

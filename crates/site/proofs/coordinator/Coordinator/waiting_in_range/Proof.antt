@@ -4,24 +4,23 @@ use Rattle.codec.specs.Sets.{empty}
 use Rattle.site.proofs.Phased.{no-phase}
 use Rattle.site.specs.Answers.{cohortIn}
 use mathlib.Core.Path.{sym}
-use borrow.Author.Needs.{needs}
 use Rattle.site.proofs.coordinator.Coordinator.waiting_in_range.Statement.{statement}
 use Rattle.site.proofs.coordinator.Coordinator.waiting_in_range.Tie as tie
 
 part-requires : tie.Need-part-requires
-part-requires c κs = search needs
+part-requires c κs = tt
 
 owing-requires : tie.Need-owing-requires
-owing-requires c κs = search needs
+owing-requires c κs = tt
 
 part-requires-2 : tie.Need-part-requires-2
-part-requires-2 c κs = search needs
+part-requires-2 c κs = tt
 
 owing-requires-2 : tie.Need-owing-requires-2
-owing-requires-2 c κs = search needs
+owing-requires-2 c κs = tt
 
 part-requires-3 : tie.Need-part-requires-3
-part-requires-3 c κs = search needs
+part-requires-3 c κs = tt
 
 returns : tie.Need-returns
 unfolding waitingInRange empty

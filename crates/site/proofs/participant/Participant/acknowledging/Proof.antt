@@ -4,18 +4,17 @@ use Rattle.site.specs.Answers.{presumptionIn, outcomeIn}
 use Rattle.site.specs.Presumption.{acks}
 use Rattle.site.specs.Participant.{acking}
 use Rattle.site.proofs.Sent.{own-sent-if}
-use borrow.Author.Needs.{needs}
 use Rattle.site.proofs.participant.Participant.acknowledging.Statement.{statement}
 use Rattle.site.proofs.participant.Participant.acknowledging.Tie as tie
 
 ack-requires : tie.Need-ack-requires
-ack-requires c κs = search needs
+ack-requires c κs = tt
 
 acks-requires : tie.Need-acks-requires
-acks-requires c κs = search needs
+acks-requires c κs = tt
 
 own-requires : tie.Need-own-requires
-own-requires c κs = search needs
+own-requires c κs = tt
 
 returns : tie.Need-returns
 unfolding effectsIn appending entering closing given acking

@@ -5,27 +5,26 @@ use Rattle.site.specs.Presumption.{acks}
 use Rattle.site.specs.Participant.{acking, finish}
 use Rattle.site.proofs.Sent.{own-sent-if}
 use Rattle.site.proofs.Rows.{entering-outcome, outcome-appended}
-use borrow.Author.Needs.{needs}
 use Rattle.site.proofs.participant.Participant.finish.Statement.{statement}
 use Rattle.site.proofs.participant.Participant.finish.Tie as tie
 
 acks-requires : tie.Need-acks-requires
-acks-requires c κs = search needs
+acks-requires c κs = tt
 
 outcome-record-requires : tie.Need-outcome-record-requires
-outcome-record-requires c κs = search needs
+outcome-record-requires c κs = tt
 
 number-requires : tie.Need-number-requires
-number-requires c κs = search needs
+number-requires c κs = tt
 
 ack-requires : tie.Need-ack-requires
-ack-requires c κs = search needs
+ack-requires c κs = tt
 
 own-requires : tie.Need-own-requires
-own-requires c κs = search needs
+own-requires c κs = tt
 
 decided-requires : tie.Need-decided-requires
-decided-requires c κs = search needs
+decided-requires c κs = tt
 
 returns : tie.Need-returns
 unfolding effectsIn closing given acking finish

@@ -1,9 +1,8 @@
-use borrow.Author.Needs.{needs}
 use Rattle.site.proofs.participant.Participant.own.Statement.{statement}
 use Rattle.site.proofs.participant.Participant.own.Tie as tie
 
 only-requires : tie.Need-only-requires
-only-requires c κs = search needs
+only-requires c κs = tt
 
 returns : tie.Need-returns
 returns c = rw (c .only .ensures, c .before .if1 .taken)

@@ -2,15 +2,14 @@ use Rattle.site.specs.Answers.{effectsIn, appending, entering, closing, 
 use Rattle.codec.specs.Records.{lengths, lengthOf}
 use Rattle.site.specs.Step.{voteYes, messageKind, given}
 use Rattle.site.proofs.Sent.{own-sent}
-use borrow.Author.Needs.{needs}
 use Rattle.site.proofs.participant.Participant.preparing.Statement.{statement}
 use Rattle.site.proofs.participant.Participant.preparing.Tie as tie
 
 number-requires : tie.Need-number-requires
-number-requires c κs = search needs
+number-requires c κs = tt
 
 own-requires : tie.Need-own-requires
-own-requires c κs = search needs
+own-requires c κs = tt
 
 returns : tie.Need-returns
 unfolding effectsIn appending entering closing given lengths lengthOf messageKind

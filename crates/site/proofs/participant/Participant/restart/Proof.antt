@@ -1,56 +1,52 @@
-use mathlib.Core.Path.{ap, sym, _∙_}
-use mathlib.Core.Bool.{not}
+use mathlib.Core.Path.{sym}
 use native.Mathlib.Omega.{arith}
 use Rattle.codec.specs.laws.Members.{numbered}
-use Rattle.site.specs.Answers.{effectsIn, appending, entering, closing, sending}
-use Rattle.site.specs.Step.{messages, given, answered, answerIf}
+use Rattle.site.specs.Answers.{hasKind, effectsIn, appending, entering, closing, sending}
+use Rattle.site.specs.Step.{messages, given}
 use Rattle.site.specs.Participant.{restartWith, participantRestart}
-use Rattle.site.specs.Numbers.{participantRestarted}
 use Rattle.site.proofs.Sent.{ordered-none}
-use Rattle.site.proofs.ByKind.{among-participants}
-use borrow.Author.Needs.{needs}
+use Rattle.site.proofs.ByKind.{no-restart, restarts}
 use Rattle.site.proofs.participant.Participant.restart.Statement.{statement}
 use Rattle.site.proofs.participant.Participant.restart.Tie as tie
 
 returns : tie.Need-returns
-unfolding participantRestarted answerIf
-returns c = let s = c .before in rw (among-participants (s .args .self .number) (omega arith) ∙ ap not (c .if1 .taken))
+returns c = let s = c .before in rw (no-restart (s .args .self) (omega arith) (hasKind (s .args .kinds)) (c .if1 .taken))
 
 has-requires : tie.Need-has-requires
-has-requires c κs = search needs
+has-requires c κs = tt
 
 returns-2 : tie.Need-returns-2
-unfolding participantRestarted answerIf answered participantRestart restartWith effectsIn appending entering closing sending messages given
+unfolding participantRestart restartWith effectsIn appending entering closing sending messages given
 returns-2 c =
     let s = c .before .before .before in
-    rw (among-participants (s .args .self .number) (omega arith) ∙ ap not (c .before .before .if1 .left), sym (c .before .has .ensures), c .if2 .taken, ordered-none 0)
+    rw (restarts (s .args .self) (omega arith) (hasKind (s .args .kinds)) (c .before .before .if1 .left), sym (c .before .has .ensures), c .if2 .taken, ordered-none 0)
 
 has-requires-2 : tie.Need-has-requires-2
-has-requires-2 c κs = search needs
+has-requires-2 c κs = tt
 
 returns-3 : tie.Need-returns-3
-unfolding participantRestarted answerIf answered participantRestart restartWith effectsIn appending entering closing sending messages given
+unfolding participantRestart restartWith effectsIn appending entering closing sending messages given
 returns-3 c =
     let s = c .before .before .before .before .before in
-    rw (among-participants (s .args .self .number) (omega arith) ∙ ap not (c .before .before .before .before .if1 .left), sym (c .before .before .before .has .ensures), sym (c .before .has2 .ensures), c .before .before .if2 .left, c .if3 .taken, ordered-none 0)
+    rw (restarts (s .args .self) (omega arith) (hasKind (s .args .kinds)) (c .before .before .before .before .if1 .left), sym (c .before .before .before .has .ensures), sym (c .before .has2 .ensures), c .before .before .if2 .left, c .if3 .taken, ordered-none 0)
 
 has-requires-3 : tie.Need-has-requires-3
-has-requires-3 c κs = search needs
+has-requires-3 c κs = tt
 
 voting-requires : tie.Need-voting-requires
 voting-requires c κs = numbered (c .before .before .before .before .before .before .before .args .self .number) (c .before .before .before .before .before .before .if1 .left)
 
 returns-4 : tie.Need-returns-4
-unfolding participantRestarted answerIf answered participantRestart restartWith
+unfolding participantRestart restartWith
 returns-4 c =
     let s = c .before .before .before .before .before .before .before .before in
-    rw (c .voting .ensures, among-participants (s .args .self .number) (omega arith) ∙ ap not (c .before .before .before .before .before .before .before .if1 .left), sym (c .before .before .before .before .before .before .has .ensures), sym (c .before .before .before .before .has2 .ensures), sym (c .before .before .has3 .ensures), c .before .before .before .before .before .if2 .left, c .before .before .before .if3 .left, c .before .if4 .taken)
+    rw (c .voting .ensures, restarts (s .args .self) (omega arith) (hasKind (s .args .kinds)) (c .before .before .before .before .before .before .before .if1 .left), sym (c .before .before .before .before .before .before .has .ensures), sym (c .before .before .before .before .has2 .ensures), sym (c .before .before .has3 .ensures), c .before .before .before .before .before .if2 .left, c .before .before .before .if3 .left, c .before .if4 .taken)
 
 returns-5 : tie.Need-returns-5
-unfolding participantRestarted answerIf answered participantRestart restartWith effectsIn appending entering closing sending messages given
+unfolding participantRestart restartWith effectsIn appending entering closing sending messages given
 returns-5 c =
     let s = c .before .before .before .before .before .before .before in
-    rw (among-participants (s .args .self .number) (omega arith) ∙ ap not (c .before .before .before .before .before .before .if1 .left), sym (c .before .before .before .before .before .has .ensures), sym (c .before .before .before .has2 .ensures), sym (c .before .has3 .ensures), c .before .before .before .before .if2 .left, c .before .before .if3 .left, c .if4 .left, ordered-none 0)
+    rw (restarts (s .args .self) (omega arith) (hasKind (s .args .kinds)) (c .before .before .before .before .before .before .if1 .left), sym (c .before .before .before .before .before .has .ensures), sym (c .before .before .before .has2 .ensures), sym (c .before .has3 .ensures), c .before .before .before .before .if2 .left, c .before .before .if3 .left, c .if4 .left, ordered-none 0)
 
 pub restart-spec : {M : Type 1} → statement M
 restart-spec =

@@ -3,12 +3,11 @@ use Rattle.site.specs.Answers.{effectsIn, appending, entering, closing, 
 use Rattle.site.specs.Step.{given}
 use Rattle.site.specs.Participant.{voting}
 use Rattle.site.proofs.Sent.{vote-sent}
-use borrow.Author.Needs.{needs}
 use Rattle.site.proofs.participant.Participant.voting.Statement.{statement}
 use Rattle.site.proofs.participant.Participant.voting.Tie as tie
 
 own-requires : tie.Need-own-requires
-own-requires c κs = search needs
+own-requires c κs = tt
 
 returns : tie.Need-returns
 unfolding voting effectsIn appending entering closing given

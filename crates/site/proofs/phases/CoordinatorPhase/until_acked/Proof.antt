@@ -1,7 +1,6 @@
 use borrow.Author.Tests.{eq-eqb, ne-eqb}
 use Rattle.codec.specs.Sets.{empty}
 use Rattle.site.specs.Coordinator.{untilAcked}
-use borrow.Author.Needs.{needs}
 use Rattle.site.proofs.phases.CoordinatorPhase.until_acked.Statement.{statement}
 use Rattle.site.proofs.phases.CoordinatorPhase.until_acked.Tie as tie
 
@@ -10,7 +9,7 @@ unfolding untilAcked empty
 returns c = rw (c .if1 .taken)
 
 awaiting-requires : tie.Need-awaiting-requires
-awaiting-requires c κs = search needs
+awaiting-requires c κs = tt
 
 returns-2 : tie.Need-returns-2
 unfolding untilAcked empty
