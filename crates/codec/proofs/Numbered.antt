@@ -1,12 +1,11 @@
 -- Message numbers, and the three bytes that hold a message's parts. Assumes nothing.
-use mathlib.Core.Path.{_≡_, refl, ap, sym, _∙_}
-use mathlib.Core.Logic.{⊎-elim}
+use mathlib.Core.Path.{_≡_, refl, sym, _∙_}
 use mathlib.Core.List.{List, [], _∷_}
 use mathlib.Core.Option.{Option, none, some}
 use mathlib.Core.Bool.{Bool, true, false, not, _&&_, _||_}
 use Prim.Native.Nat.{ℕ, _<_, _≤_, _+_, _*_, _-_, _/_, _%_}
 use native.Mathlib.Omega.{arith}
-use borrow.Author.Tests.{le-leb, lt-leb, leb-true, le-ltb, lt-ltb, ltb-false, not-true}
+use borrow.Author.Tests.{le-leb, lt-leb, leb-true, ltb-false, not-true}
 use lib.Dec.{leb, ltb}
 use lib.ListN.{set}
 use Rattle.codec.specs.Lists.{every, onlyIf}
@@ -14,7 +13,7 @@ use Rattle.codec.specs.Messages.{Parts, messageNumber, messageParts, mes
 use Rattle.codec.specs.Answers.{written, partsValues}
 use Rattle.codec.specs.declared.message.PartsAnswer.{PartsAnswer}
 use Rattle.codec.specs.declared.message.PartsAnswer.the-variants.{Message, Refused}
-use Rattle.codec.specs.laws.Tests.{or-none, leb-ltb, lt-or-le}
+use Rattle.codec.specs.laws.Tests.{or-none, leb-ltb}
 use denote.Enum.Declared.{tagOf}
 use types.Run.{OneOf}
 use Rattle.codec.proofs.message.PartsAnswer.{the-type}

@@ -1,13 +1,13 @@
 -- What it tells that no refusal strikes: of a list of refusals, of the records of an image, and of the writer's call. Assumes nothing.
 use Prim.Native.Nat.{ℕ, zero, suc, _+_, _≤_, _<_}
 use mathlib.Core.Path.{_≡_, refl, ap, ap₂, sym, _∙_}
-use mathlib.Core.Bool.{Bool, true, false, cond, not, _||_, and-eq-true-iff, and-false, false≢true}
+use mathlib.Core.Bool.{Bool, true, false, cond, not, and-false, false≢true}
 use mathlib.Core.List.{List, [], _∷_, _++_, map}
-use lib.Dec.{eqb, ltb}
+use lib.Dec.{ltb}
 use lib.ListN.{length}
 use native.Mathlib.Omega.{arith}
-use borrow.Author.Tests.{eqb-true, ne-eqb, not-false, lt-ltb, le-ltb, ltb-false}
-use Rattle.codec.specs.Lists.{every, same, first}
+use borrow.Author.Tests.{ne-eqb, not-false, lt-ltb, le-ltb, ltb-false}
+use Rattle.codec.specs.Lists.{every, first}
 use Rattle.codec.specs.Records.{LogRecord, bytesOf, recordOf, lengthOf, isRecord, inSequence, recordTests, recordRefusals}
 use Rattle.codec.specs.Image.{image, overLimit, logRefusals, writeRefusals, stored, writeUnless, writeImage}
 use Rattle.codec.specs.Answers.{written}

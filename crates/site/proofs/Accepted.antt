@@ -1,5 +1,5 @@
 -- The arguments of the step on numbers. Assumes nothing.
-use mathlib.Core.Path.{_≡_, refl, ap, sym, _∙_}
+use mathlib.Core.Path.{_≡_, refl, ap, _∙_}
 use mathlib.Core.Bool.{Bool, true, false, cond, not, _&&_, _||_, and-false}
 use mathlib.Core.List.{List, [], _∷_}
 use mathlib.Core.Option.{Option}
@@ -12,11 +12,11 @@ use Rattle.codec.specs.Lists.{any, every}
 use Rattle.codec.specs.Sets.{participants, member, part}
 use Rattle.codec.specs.laws.Tests.{or-none, alike, alike-eq, bools-at, leb-ltb}
 use Rattle.site.specs.Presumption.{presumptionNumber}
-use Rattle.site.specs.Cohort.{Cohort, presumptionOf}
-use Rattle.site.specs.Step.{Row, Answer, answered, answerIf}
+use Rattle.site.specs.Cohort.{presumptionOf}
+use Rattle.site.specs.Step.{Row, answered, answerIf}
 use Rattle.site.specs.Coordinator.{Coordinator}
 use Rattle.site.specs.Participant.{Participant}
-use Rattle.site.specs.Numbers.{Arguments, kindsReceived, receives, inputOf, coordinatorOf, participantOf, coordinatorAnswer, participantAnswer, waitingInRange, isMember, namesNone, inRangeAt, argumentsInRange, refusal, coordinatorResult, participantResult, stepAt, siteStep}
+use Rattle.site.specs.Numbers.{Arguments, kindsReceived, receives, coordinatorOf, participantOf, coordinatorAnswer, participantAnswer, waitingInRange, isMember, namesNone, inRangeAt, argumentsInRange, refusal, coordinatorResult, participantResult, stepAt, siteStep}
 use Rattle.site.specs.Inside.{coordinatorNumbers, participantNumbers}
 
 -- ---- the coordinator's

@@ -1,8 +1,8 @@
 -- The members that owe an ack, as the program makes their set. Assumes nothing.
 use mathlib.Core.Path.{_≡_, refl, ap}
 use mathlib.Core.Bool.{Bool, true, false, cond, not, _&&_}
-use Prim.Native.Nat.{ℕ, suc, _<_}
-use Rattle.codec.specs.Sets.{member, those, both, minus}
+use Prim.Native.Nat.{suc}
+use Rattle.codec.specs.Sets.{member, both, minus}
 use Rattle.codec.specs.laws.Masks.{those-alike}
 use Rattle.site.specs.Presumption.{commit, abort, acks, presumedAbort, presumedCommit}
 use Rattle.site.specs.Cohort.{Cohort, presumptionOf, owing}

@@ -3,17 +3,15 @@ use mathlib.Core.Path.{_≡_, refl, ap, ap₂, sym, subst, _∙_}
 use mathlib.Core.Bool.{Bool, true, false, cond, not, false≢true}
 use mathlib.Core.Logic.{_⊎_, inl, inr}
 use mathlib.Core.List.{List, [], _∷_, _++_, map}
-use Prim.Native.Nat.{ℕ, suc, _*_, _/_, _%_, _^_, _-_, _<_}
+use Prim.Native.Nat.{ℕ, suc, _^_, _-_, _<_}
 use native.Mathlib.Nat.{zero-div}
 use native.Mathlib.Omega.{arith}
-use lib.ListN.{getD}
-use lib.Dec.{eqb, leb}
 use Rattle.codec.specs.Lists.{select, same}
 use Rattle.codec.specs.Sets.{participants, member, listed, bits, those, only}
 use Rattle.codec.specs.laws.Tests.{below-at, true-of, same-list}
 use Rattle.codec.specs.laws.Members.{noParticipant, numbered, no-member}
-use Rattle.site.specs.Presumption.{Outcome, commit, abort}
-use Rattle.site.specs.Step.{Message, prepare, voteYes, voteNo, tell, ack, messages, messageKind, Effect, send, given}
+use Rattle.site.specs.Presumption.{commit, abort}
+use Rattle.site.specs.Step.{Message, prepare, voteYes, voteNo, tell, ack, messages, messageKind, send, given}
 use Rattle.site.specs.Coordinator.{inTurn, ordered}
 use Rattle.site.specs.Answers.{sending}
 use Rattle.site.specs.Inside.{Numbered}

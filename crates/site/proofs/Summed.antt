@@ -1,5 +1,5 @@
 -- The numbers of a row as firmware gets them. Assumes nothing.
-use mathlib.Core.Path.{_≡_, refl, ap, ap₂, sym, _∙_}
+use mathlib.Core.Path.{_≡_, refl, ap, sym, _∙_}
 use mathlib.Core.Bool.{Bool, true, false, cond, not, _&&_, and-true, and-false}
 use mathlib.Core.Logic.{_⊎_, inl, inr}
 use mathlib.Core.List.{List, [], _∷_, _++_, map}
@@ -13,7 +13,7 @@ use Rattle.codec.specs.Records.{lengthOf}
 use Rattle.codec.specs.Lists.{select}
 use Rattle.codec.specs.Sets.{participants, member, listed}
 use Rattle.codec.specs.laws.Tests.{below-at}
-use Rattle.site.specs.Step.{Message, prepare, messages, messageKind, Effect, append, force, enter, send, given}
+use Rattle.site.specs.Step.{Message, prepare, messages, messageKind, Effect, append, force, send, given}
 use Rattle.site.specs.Coordinator.{inTurn, ordered}
 use Rattle.site.specs.Numbers.{Summary, outcomeNumber, summary}
 use Rattle.site.specs.Answers.{appending, entering, closing, sending, effectsIn}

@@ -1,4 +1,3 @@
-use mathlib.Core.Path.{sym}
 use native.Mathlib.Omega.{arith}
 use Rattle.codec.specs.laws.Members.{numbered, only-made}
 use Rattle.codec.proofs.sets.only.Statement.{statement}

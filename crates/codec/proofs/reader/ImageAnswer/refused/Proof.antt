@@ -1,7 +1,6 @@
 use mathlib.Core.Path.{ap}
-use Rattle.codec.specs.Answers.{logIn, Values, values, imageValues}
+use Rattle.codec.specs.Answers.{logIn, values, imageValues}
 use Rattle.codec.specs.declared.log.Log.{Log}
-use Rattle.codec.specs.declared.reader.ImageAnswer.{ImageAnswer}
 use Rattle.codec.proofs.reader.ImageAnswer.refused.Statement.{statement}
 use Rattle.codec.proofs.reader.ImageAnswer.refused.Tie as tie
 

@@ -1,7 +1,7 @@
 use mathlib.Core.Bool.{not, _&&_}
 use mathlib.Core.Logic.{inl, inr, ⊎-elim}
 use lib.Dec.{eqb}
-use Rattle.site.specs.Answers.{effectsIn, appending, entering, closing, sending}
+use Rattle.site.specs.Answers.{effectsIn, appending, entering, sending}
 use Rattle.codec.specs.Sets.{empty}
 use Rattle.site.specs.Step.{messages, given}
 use Rattle.site.specs.Coordinator.{aborting, tellAll, inOrder}

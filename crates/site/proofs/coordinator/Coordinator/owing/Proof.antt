@@ -1,4 +1,3 @@
-use mathlib.Core.Path.{sym}
 use Rattle.site.proofs.Owing.{owing-commit, owing-abort}
 use Rattle.site.specs.Answers.{cohortIn}
 use borrow.Author.Needs.{needs}

@@ -1,4 +1,3 @@
-use borrow.Author.Tests.{not-true, not-false}
 use Rattle.site.specs.Answers.{effectsIn, appending, entering, closing, sending}
 use Rattle.codec.specs.Records.{lengths, lengthOf}
 use Rattle.site.specs.Step.{messages, given}

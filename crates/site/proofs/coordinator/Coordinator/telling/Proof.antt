@@ -1,4 +1,4 @@
-use Rattle.site.specs.Answers.{effectsIn, appending, entering, closing, sending}
+use Rattle.site.specs.Answers.{effectsIn, appending, entering, closing}
 use Rattle.site.specs.Answers.{outcomeIn}
 use Rattle.site.specs.Step.{tell, given}
 use Rattle.site.specs.Coordinator.{tellAll, inOrder}

@@ -1,9 +1,8 @@
 use Rattle.codec.specs.Sets.{empty}
 use borrow.Author.Tests.{ne-eqb}
 use Rattle.site.specs.Answers.{effectsIn, appending, entering, closing, sending}
-use Rattle.codec.specs.Records.{lengths, lengthOf}
 use Rattle.site.specs.Step.{messages, given}
-use Rattle.site.specs.Coordinator.{inTurn, ordered, voted}
+use Rattle.site.specs.Coordinator.{voted}
 use Rattle.site.proofs.Sent.{ordered-none}
 use Rattle.site.proofs.coordinator.Coordinator.voted.Statement.{statement}
 use Rattle.site.proofs.coordinator.Coordinator.voted.Tie as tie

@@ -1,4 +1,4 @@
-use Rattle.site.specs.Answers.{effectsIn, appending, entering, closing, sending}
+use Rattle.site.specs.Answers.{effectsIn, closing}
 use Rattle.site.specs.Step.{ack, given}
 use Rattle.site.specs.Answers.{presumptionIn, outcomeIn}
 use Rattle.site.specs.Presumption.{acks}

@@ -1,4 +1,4 @@
-use Rattle.site.specs.Answers.{effectsIn, appending, entering, closing, sending}
+use Rattle.site.specs.Answers.{effectsIn, appending, entering, closing}
 use Rattle.codec.specs.Records.{lengths, lengthOf}
 use Rattle.site.specs.Step.{voteYes, messageKind, given}
 use Rattle.site.proofs.Sent.{own-sent}

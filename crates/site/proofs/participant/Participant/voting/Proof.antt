@@ -1,5 +1,5 @@
 use mathlib.Core.Logic.{inl, inr, ⊎-elim}
-use Rattle.site.specs.Answers.{effectsIn, appending, entering, closing, sending}
+use Rattle.site.specs.Answers.{effectsIn, appending, entering, closing}
 use Rattle.site.specs.Step.{given}
 use Rattle.site.specs.Participant.{voting}
 use Rattle.site.proofs.Sent.{vote-sent}

@@ -1,4 +1,4 @@
-use borrow.Author.Tests.{eq-eqb, ne-eqb}
+use borrow.Author.Tests.{ne-eqb}
 use Rattle.codec.specs.Sets.{empty}
 use Rattle.site.specs.Coordinator.{untilAcked}
 use Rattle.site.proofs.phases.CoordinatorPhase.until_acked.Statement.{statement}
