@@ -1,8 +1,8 @@
 /* dpr.h: log images, message numbers and one site's step of the handover engine, for C and C++ firmware.
  *
- * Link libcodec.a for dpr_image_copy and dpr_message_parts, and libsite.a for dpr_site_step, libsite.a before libcodec.a
- * where both are linked. `rt staticlib codec` and `rt staticlib site` write them to target/staticlib. They are compiled
- * for x86-64, and need nothing of the C library but, at most, memcpy, memmove, memset, memcmp and bcmp.
+ * Link libcodec.a for dpr_image_copy and dpr_message_parts, and libsite.a for dpr_site_step; neither needs the other.
+ * `rt staticlib codec` and `rt staticlib site` write them to target/staticlib. They are compiled for x86-64, and need
+ * nothing of the C library but, at most, memcpy, memmove, memset, memcmp and bcmp.
  *
  * dpr_image_copy and dpr_message_parts return a number: DPR_ACCEPTED, or the number of a refusal. A refusal leaves the
  * caller's memory as it was. dpr_site_step returns eight bytes in one number; the lowest of them is such an answer.
