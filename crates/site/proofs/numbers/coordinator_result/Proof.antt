@@ -38,7 +38,14 @@ returns-2 c = rw (c .packed .ensures, c .before .enum-told2 .given .1)
 
 returns-3 : tie.Need-returns-3
 unfolding coordinatorResult stepResult
-returns-3 c = rw (c .packed2 .ensures, c .before .before .before .number .ensures, c .before .before .waiting .ensures, c .before .before .before .before .before .before .answer .given .1, sym (c .before .summary .ensures))
+returns-3 c =
+    rw (
+      c .packed2 .ensures,
+      c .before .before .before .number .ensures,
+      c .before .before .waiting .ensures,
+      c .before .before .before .before .before .before .answer .given .1,
+      sym (c .before .summary .ensures),
+    )
 
 pub coordinator-result-spec : {M : Type 1} → statement M
 coordinator-result-spec =

@@ -40,9 +40,18 @@ returns-2 c =
     let s = c .before .before .before .before .before .before .before in
     let a = argumentsIn 0 (s .args .kind) 0 (s .args .participant) (s .args .presumption) (s .args .phase) (s .args .waiting) (s .args .members) (s .args .presume-commit) in
     let e : not (named a && fits a) ≡ false =
-    rw (sym (c .before .before .before .before .before .presumption .ensures), sym (c .before .before .before .before .number .ensures), sym (c .before .before .before .waiting-in-range .ensures))
+    rw (
+      sym (c .before .before .before .before .before .presumption .ensures),
+      sym (c .before .before .before .before .number .ensures),
+      sym (c .before .before .before .waiting-in-range .ensures),
+    )
     (c .before .before .if1 .left) in
-    rw (c .coordinator-result .ensures, c .before .step .ensures, c .before .before .before .before .before .before .from-numbers .ensures, coordinator-taken a (not-false (named a && fits a) e))
+    rw (
+      c .coordinator-result .ensures,
+      c .before .step .ensures,
+      c .before .before .before .before .before .before .from-numbers .ensures,
+      coordinator-taken a (not-false (named a && fits a) e),
+    )
 
 pub coordinator-step-spec : {M : Type 1} → statement M
 coordinator-step-spec =

@@ -44,7 +44,10 @@ returns-4 c =
     let s = c .before .before .before .before .before .before in
     let a = argumentsIn (s .args .site) (s .args .kind) (s .args .transaction) (s .args .participant) (s .args .presumption) (s .args .phase) (s .args .waiting) (s .args .members) (s .args .presume-commit) in
     let e : wrong a ≡ false = rw (sym (c .before .before .before .before .before .part .ensures)) (c .before .before .before .before .if1 .left) in
-    rw (c .participant-step .ensures, call-participant a (omega arith) e (c .before .before .before .match .rest .1) (c .before .before .if2 .taken) (c .before .if3 .left))
+    rw (
+      c .participant-step .ensures,
+      call-participant a (omega arith) e (c .before .before .before .match .rest .1) (c .before .before .if2 .taken) (c .before .if3 .left),
+    )
 
 returns-5 : tie.Need-returns-5
 unfolding packed refusal

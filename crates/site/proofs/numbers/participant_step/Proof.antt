@@ -44,11 +44,21 @@ returns-2 c =
     let s = c .before .before .before .before .before .before .before in
     let a = argumentsIn (s .args .participant) (s .args .kind) 0 (s .args .participant) (s .args .presumption) (s .args .phase) 0 (s .args .members) (s .args .presume-commit) in
     let f : not (isMember a) ≡ false =
-    rw (sym (c .before .before .before .before .before .before .presumption .ensures), sym (c .before .before .before .before .number .ensures), sym (c .before .before .before .before .before .member .ensures))
+    rw (
+      sym (c .before .before .before .before .before .before .presumption .ensures),
+      sym (c .before .before .before .before .number .ensures),
+      sym (c .before .before .before .before .before .member .ensures),
+    )
     (c .before .before .before .if1 .left) in
     let e = not-false (isMember a) f in
     let n = member-among (s .args .participant) (s .args .members) (omega arith) (omega arith) (and-eq-true-iff (member (s .args .participant) (s .args .members)) _ .0 e .0) in
-    rw (c .participant-result .ensures, c .before .step .ensures, c .before .before .from-number .ensures, c .before .before .before .before .before .before .presumption .ensures, participant-taken a e n)
+    rw (
+      c .participant-result .ensures,
+      c .before .step .ensures,
+      c .before .before .from-number .ensures,
+      c .before .before .before .before .before .before .presumption .ensures,
+      participant-taken a e n,
+    )
 
 pub participant-step-spec : {M : Type 1} → statement M
 participant-step-spec =

@@ -32,19 +32,39 @@ acked-requires-2 c κs = tt
 
 returns : tie.Need-returns
 unfolding answered onAck ackedIf sameOutcome
-returns c = rw (c .acked .ensures, c .before .without .ensures, c .before .before .before .phase .given .1, c .before .before .before .before .before .enum-told .given .1)
+returns c =
+    rw (
+      c .acked .ensures,
+      c .before .without .ensures,
+      c .before .before .before .phase .given .1,
+      c .before .before .before .before .before .enum-told .given .1,
+    )
 
 returns-2 : tie.Need-returns-2
 unfolding answered
-returns-2 c = rw (c .before .enum-told .given .1, no-commit-ack (c .before .before .before .args .participant) (c .before .before .before .args .self .phase) (c .match2 .keys2))
+returns-2 c =
+    rw (
+      c .before .enum-told .given .1,
+      no-commit-ack (c .before .before .before .args .participant) (c .before .before .before .args .self .phase) (c .match2 .keys2),
+    )
 
 returns-3 : tie.Need-returns-3
 unfolding answered onAck ackedIf sameOutcome
-returns-3 c = rw (c .acked2 .ensures, c .before .without2 .ensures, c .before .before .before .phase2 .given .1, c .before .before .before .before .before .enum-told2 .given .1)
+returns-3 c =
+    rw (
+      c .acked2 .ensures,
+      c .before .without2 .ensures,
+      c .before .before .before .phase2 .given .1,
+      c .before .before .before .before .before .enum-told2 .given .1,
+    )
 
 returns-4 : tie.Need-returns-4
 unfolding answered
-returns-4 c = rw (c .before .enum-told2 .given .1, no-abort-ack (c .before .before .before .args .participant) (c .before .before .before .args .self .phase) (c .match3 .keys2))
+returns-4 c =
+    rw (
+      c .before .enum-told2 .given .1,
+      no-abort-ack (c .before .before .before .args .participant) (c .before .before .before .args .self .phase) (c .match3 .keys2),
+    )
 
 pub on-ack-spec : {M : Type 1} → statement M
 on-ack-spec =

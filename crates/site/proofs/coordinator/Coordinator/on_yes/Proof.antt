@@ -67,14 +67,24 @@ unfolding answered onYes telling
 returns-3 c =
     let s = c .before .before .before .before in
     let h = member-numbered (s .args .participant) (s .args .self .members) (omega arith) (s .pre) in
-    rw (c .telling .ensures, c .before .only .ensures, tell-one (cohortIn (s .args .self)) commit (s .args .participant) h, c .before .before .enum-told2 .given .1)
+    rw (
+      c .telling .ensures,
+      c .before .only .ensures,
+      tell-one (cohortIn (s .args .self)) commit (s .args .participant) h,
+      c .before .before .enum-told2 .given .1,
+    )
 
 returns-4 : tie.Need-returns-4
 unfolding answered onYes telling
 returns-4 c =
     let s = c .before .before .before .before in
     let h = member-numbered (s .args .participant) (s .args .self .members) (omega arith) (s .pre) in
-    rw (c .telling2 .ensures, c .before .only2 .ensures, tell-one (cohortIn (s .args .self)) abort (s .args .participant) h, c .before .before .enum-told3 .given .1)
+    rw (
+      c .telling2 .ensures,
+      c .before .only2 .ensures,
+      tell-one (cohortIn (s .args .self)) abort (s .args .participant) h,
+      c .before .before .enum-told3 .given .1,
+    )
 
 returns-5 : tie.Need-returns-5
 unfolding answered onYes telling
@@ -82,7 +92,14 @@ returns-5 c =
     let s = c .before .before .before .before .before .before in
     let h = member-numbered (s .args .participant) (s .args .self .members) (omega arith) (s .pre) in
     let o = outcomeIn (c .before .before .silence .result) in
-    rw (c .telling3 .ensures, c .before .only3 .ensures, tell-one (cohortIn (s .args .self)) o (s .args .participant) h, c .before .before .silence .ensures, c .before .before .before .presumption .ensures, c .before .before .before .before .enum-told4 .given .1)
+    rw (
+      c .telling3 .ensures,
+      c .before .only3 .ensures,
+      tell-one (cohortIn (s .args .self)) o (s .args .participant) h,
+      c .before .before .silence .ensures,
+      c .before .before .before .presumption .ensures,
+      c .before .before .before .before .enum-told4 .given .1,
+    )
 
 pub on-yes-spec : {M : Type 1} → statement M
 on-yes-spec =

@@ -33,7 +33,14 @@ returns c =
     let h = c .before .before .before .before in
     let w = c .before .before .owing .result in
     let told = tell-owing (cohortIn (h .before .before .before .before .args .self)) w (c .before .if2 .to) (⊎-elim (λ h. inl (h .0 .taken, h .1)) (λ h. inr (h .0 .left, h .1)) (c .before .if2 .came)) in
-    rw (c .resuming .ensures, told, c .before .before .owing .ensures, sym (h .before .before .has2 .ensures), sym (h .before .has3 .ensures), c .before .before .before .if1 .taken)
+    rw (
+      c .resuming .ensures,
+      told,
+      c .before .before .owing .ensures,
+      sym (h .before .before .has2 .ensures),
+      sym (h .before .has3 .ensures),
+      c .before .before .before .if1 .taken,
+    )
 
 resuming-requires-2 : tie.Need-resuming-requires-2
 resuming-requires-2 c κs = tt
@@ -42,13 +49,29 @@ returns-2 : tie.Need-returns-2
 unfolding coordinatorRestart restartFrom
 returns-2 c =
     let h = c .before .before .before in
-    rw (c .resuming2 .ensures, sym (h .before .before .before .has .ensures), sym (h .before .before .has2 .ensures), sym (h .before .has3 .ensures), sym (h .has4 .ensures), c .before .before .if1 .left, c .before .if3 .taken)
+    rw (
+      c .resuming2 .ensures,
+      sym (h .before .before .before .has .ensures),
+      sym (h .before .before .has2 .ensures),
+      sym (h .before .has3 .ensures),
+      sym (h .has4 .ensures),
+      c .before .before .if1 .left,
+      c .before .if3 .taken,
+    )
 
 returns-3 : tie.Need-returns-3
 unfolding coordinatorRestart restartFrom effectsIn appending entering closing sending messages given
 returns-3 c =
     let h = c .before .before in
-    rw (sym (h .before .before .before .has .ensures), sym (h .before .before .has2 .ensures), sym (h .before .has3 .ensures), sym (h .has4 .ensures), c .before .if1 .left, c .if3 .left, ordered-none 0)
+    rw (
+      sym (h .before .before .before .has .ensures),
+      sym (h .before .before .has2 .ensures),
+      sym (h .before .has3 .ensures),
+      sym (h .has4 .ensures),
+      c .before .if1 .left,
+      c .if3 .left,
+      ordered-none 0,
+    )
 
 pub restart-spec : {M : Type 1} → statement M
 restart-spec =

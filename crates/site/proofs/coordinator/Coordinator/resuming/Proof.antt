@@ -23,7 +23,14 @@ returns : tie.Need-returns
 unfolding effectsIn appending closing given tellAll inOrder
 returns c =
     let o = outcomeIn (c .before .before .before .before .args .outcome) in
-    rw (c .until-acked .ensures, c .before .message .ensures, c .before .before .number .ensures, c .before .before .before .owing .ensures, sending-kind (tell o), entering-outcome o)
+    rw (
+      c .until-acked .ensures,
+      c .before .message .ensures,
+      c .before .before .number .ensures,
+      c .before .before .before .owing .ensures,
+      sending-kind (tell o),
+      entering-outcome o,
+    )
 
 pub resuming-spec : {M : Type 1} → statement M
 resuming-spec =

@@ -21,7 +21,12 @@ unfolding effectsIn appending entering closing given acking
 returns c =
     let s = c .before .before .before in
     let o = outcomeIn (s .args .outcome) in
-    rw (c .own .ensures, c .before .acks .ensures, c .before .before .ack .ensures, own-sent-if (ack o) (s .args .self .number) (acks (presumptionIn (s .args .self .presumption)) o) (s .pre))
+    rw (
+      c .own .ensures,
+      c .before .acks .ensures,
+      c .before .before .ack .ensures,
+      own-sent-if (ack o) (s .args .self .number) (acks (presumptionIn (s .args .self .presumption)) o) (s .pre),
+    )
 
 pub acknowledging-spec : {M : Type 1} → statement M
 acknowledging-spec = tie.close (tie.spec ack-requires acks-requires own-requires returns)

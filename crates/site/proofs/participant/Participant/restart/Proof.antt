@@ -19,7 +19,12 @@ returns-2 : tie.Need-returns-2
 unfolding participantRestart restartWith effectsIn appending entering closing sending messages given
 returns-2 c =
     let s = c .before .before .before in
-    rw (restarts (s .args .self) (omega arith) (hasKind (s .args .kinds)) (c .before .before .if1 .left), sym (c .before .has .ensures), c .if2 .taken, ordered-none 0)
+    rw (
+      restarts (s .args .self) (omega arith) (hasKind (s .args .kinds)) (c .before .before .if1 .left),
+      sym (c .before .has .ensures),
+      c .if2 .taken,
+      ordered-none 0,
+    )
 
 has-requires-2 : tie.Need-has-requires-2
 has-requires-2 c κs = tt
@@ -28,7 +33,14 @@ returns-3 : tie.Need-returns-3
 unfolding participantRestart restartWith effectsIn appending entering closing sending messages given
 returns-3 c =
     let s = c .before .before .before .before .before in
-    rw (restarts (s .args .self) (omega arith) (hasKind (s .args .kinds)) (c .before .before .before .before .if1 .left), sym (c .before .before .before .has .ensures), sym (c .before .has2 .ensures), c .before .before .if2 .left, c .if3 .taken, ordered-none 0)
+    rw (
+      restarts (s .args .self) (omega arith) (hasKind (s .args .kinds)) (c .before .before .before .before .if1 .left),
+      sym (c .before .before .before .has .ensures),
+      sym (c .before .has2 .ensures),
+      c .before .before .if2 .left,
+      c .if3 .taken,
+      ordered-none 0,
+    )
 
 has-requires-3 : tie.Need-has-requires-3
 has-requires-3 c κs = tt
@@ -40,13 +52,31 @@ returns-4 : tie.Need-returns-4
 unfolding participantRestart restartWith
 returns-4 c =
     let s = c .before .before .before .before .before .before .before .before in
-    rw (c .voting .ensures, restarts (s .args .self) (omega arith) (hasKind (s .args .kinds)) (c .before .before .before .before .before .before .before .if1 .left), sym (c .before .before .before .before .before .before .has .ensures), sym (c .before .before .before .before .has2 .ensures), sym (c .before .before .has3 .ensures), c .before .before .before .before .before .if2 .left, c .before .before .before .if3 .left, c .before .if4 .taken)
+    rw (
+      c .voting .ensures,
+      restarts (s .args .self) (omega arith) (hasKind (s .args .kinds)) (c .before .before .before .before .before .before .before .if1 .left),
+      sym (c .before .before .before .before .before .before .has .ensures),
+      sym (c .before .before .before .before .has2 .ensures),
+      sym (c .before .before .has3 .ensures),
+      c .before .before .before .before .before .if2 .left,
+      c .before .before .before .if3 .left,
+      c .before .if4 .taken,
+    )
 
 returns-5 : tie.Need-returns-5
 unfolding participantRestart restartWith effectsIn appending entering closing sending messages given
 returns-5 c =
     let s = c .before .before .before .before .before .before .before in
-    rw (restarts (s .args .self) (omega arith) (hasKind (s .args .kinds)) (c .before .before .before .before .before .before .if1 .left), sym (c .before .before .before .before .before .has .ensures), sym (c .before .before .before .has2 .ensures), sym (c .before .has3 .ensures), c .before .before .before .before .if2 .left, c .before .before .if3 .left, c .if4 .left, ordered-none 0)
+    rw (
+      restarts (s .args .self) (omega arith) (hasKind (s .args .kinds)) (c .before .before .before .before .before .before .if1 .left),
+      sym (c .before .before .before .before .before .has .ensures),
+      sym (c .before .before .before .has2 .ensures),
+      sym (c .before .has3 .ensures),
+      c .before .before .before .before .if2 .left,
+      c .before .before .if3 .left,
+      c .if4 .left,
+      ordered-none 0,
+    )
 
 pub restart-spec : {M : Type 1} → statement M
 restart-spec =
