@@ -32,7 +32,8 @@ fn packed(phase: u8, waiting: u8, row: Summary) -> u64
         + 0x100_0000_0000_0000 * (row.to as u64)
 }
 
-fn coordinator_result(answer: CoordinatorAnswer, phase: u8, waiting: u8) -> u64
+// The numbers of a step's answer; where there is no row, with the phase and waiting set that are given.
+pub fn coordinator_result(answer: CoordinatorAnswer, phase: u8, waiting: u8) -> u64
     ensures { λ r. ⌜ r ≡ numbers.packed (numbers.coordinatorResult phase waiting (coordinatorAnswerIn answer)) ⌝ }
 {
     match answer {
@@ -46,7 +47,7 @@ fn coordinator_result(answer: CoordinatorAnswer, phase: u8, waiting: u8) -> u64
     }
 }
 
-fn participant_result(answer: ParticipantAnswer, phase: u8) -> u64
+pub fn participant_result(answer: ParticipantAnswer, phase: u8) -> u64
     ensures { λ r. ⌜ r ≡ numbers.packed (numbers.participantResult phase (participantAnswerIn answer)) ⌝ }
 {
     match answer {
