@@ -123,7 +123,7 @@ uint8_t dpr_message_parts(uint16_t number, uint8_t parts[3]);
 #define DPR_STEP_FORCED(step) ((uint8_t)((step) >> 32))  /* 1: force the log */
 #define DPR_STEP_OUTCOME(step) ((uint8_t)((step) >> 40)) /* outcome to enter, or DPR_OUTCOME_NONE */
 #define DPR_STEP_MESSAGE(step) ((uint8_t)((step) >> 48)) /* kind of the message to send */
-#define DPR_STEP_BOXES(step) ((uint8_t)((step) >> 56))   /* boxes that it goes to; 0: no message */
+#define DPR_STEP_BOXES(step) ((uint8_t)((step) >> 56))   /* boxes whose message it is; 0: no message */
 
 /* Refusal of dpr_site_step. */
 #define DPR_REFUSED_ARGUMENT 1
@@ -161,6 +161,8 @@ uint8_t dpr_message_parts(uint16_t number, uint8_t parts[3]);
  * DPR_PREPARE goes to the lowest box first. DPR_COMMIT and DPR_ABORT go first to the boxes of the set that owe an ack for
  * it, the lowest first, then to the others, the lowest first. For DPR_COMMIT the boxes that are not in presume_commit owe
  * one, for DPR_ABORT those that are in it.
+ *
+ * Restart is no kind of this call, and the arguments are bytes: C cuts a wider number before the call is made.
  *
  * A step may change nothing: the phase and the waiting set as they came, all other bytes 0. Either there is no rule for
  * the kind in this phase, or its rule has nothing to do, as for a vote that comes again; the number does not tell

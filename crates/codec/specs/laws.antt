@@ -1,4 +1,4 @@
--- Theorems about the definitions that the layers above cite too. Nothing here has to be believed.
+-- Theorems about sets, and closed tests, for codec's proofs and for those of the layers above. Nothing here has to be believed.
 pub mod Tests
 pub mod Masks
 pub mod Members

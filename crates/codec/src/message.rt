@@ -1,4 +1,4 @@
-// Message numbers: 16 bits for a message of a kind to or from a participant on a transaction.
+// Message kinds and numbers: 16 bits for a message of a kind to or from a participant on a transaction.
 ghost use mathlib.Core.Path.{_≡_};
 ghost use Rattle.codec.specs.Messages.{messageParts, messageAnswer, partsWritten, numberOf, numberAnswer};
 ghost use Rattle.codec.specs.Answers.{partsIn, partsValues, numberValues, written};
@@ -37,11 +37,11 @@ impl Parts {
     // The largest message number, and the largest value of each part.
     pub const LAST: u16 = 447;
 
-    pub const TRANSACTION: u8 = 7;
+    pub const LAST_TRANSACTION: u8 = 7;
 
-    pub const PARTICIPANT: u8 = 8;
+    pub const LAST_PARTICIPANT: u8 = 8;
 
-    pub const KIND: u8 = 6;
+    pub const LAST_KIND: u8 = 6;
     // The number that refuses.
     pub const REFUSED: u8 = 26;
 
@@ -64,10 +64,10 @@ impl Parts {
         let transaction = self.transaction;
         let participant = self.participant;
         let kind = self.kind;
-        let wrong = (Parts::TRANSACTION < transaction)
+        let wrong = (Parts::LAST_TRANSACTION < transaction)
             | (participant < 1)
-            | (Parts::PARTICIPANT < participant)
-            | (Parts::KIND < kind);
+            | (Parts::LAST_PARTICIPANT < participant)
+            | (Parts::LAST_KIND < kind);
         if wrong {
             return NumberAnswer::Refused;
         }

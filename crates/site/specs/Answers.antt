@@ -61,7 +61,8 @@ cohortIn c = record { members = c .members; presumeCommit = c .«presume_commit�
 unfoldable pub hasKind : ℕ → ℕ → Bool
 hasKind kinds k = eqb (kinds / 2 ^ k % 2) 1
 
--- ---- the effects that a row's numbers stand for, in their order: 0 is none, and what is no outcome or message has no effect
+-- ---- the effects that a row's numbers stand for, in their order: 0 is none, and what is no outcome or message has no effect.
+-- There is no message where the set is empty. The order of sends is the definitions' own, `ordered`: whoever performs a row keeps to it
 
 unfoldable pub appending : ℕ → List ℕ → List Effect
 appending zero fs = []
@@ -71,7 +72,7 @@ unfoldable pub entering : ℕ → List Effect
 entering n = getD ([] ∷ (enter plain.commit ∷ []) ∷ (enter plain.abort ∷ []) ∷ []) n []
 
 unfoldable pub sending : ℕ → ℕ → ℕ → List Effect
-sending kind first to = given (leb kind 6) (map (send (getD messages kind prepare)) (ordered first to))
+sending kind owing to = given (leb kind 6) (map (send (getD messages kind prepare)) (ordered owing to))
 
 unfoldable pub closing : ℕ → List Effect → List Effect
 closing zero es = es

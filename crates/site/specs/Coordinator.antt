@@ -25,7 +25,7 @@ endRecord abort = 4
 unfoldable pub untilAcked : Outcome → ℕ → Coordinator
 untilAcked o w = cond (empty w) unknown (awaitingAcks o w)
 
--- the outcome is told to p again, and the phase stays
+-- the outcome is told to p, and the phase stays
 unfoldable pub telling : Outcome → ℕ → Coordinator → Row Coordinator
 telling o p c = record { effects = send (tell o) p ∷ []; phase = c }
 

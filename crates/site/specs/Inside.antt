@@ -1,17 +1,17 @@
 -- What the program's inner functions promise each other. No reader has to believe it: proofs/ shows what it has to do with 01.
 use Prim.Native.Nat.{ℕ, _≤_}
 use mathlib.Core.Bool.{cond, _&&_}
-use mathlib.Core.List.{List, [], _∷_}
-use Rattle.site.specs.Presumption.{Outcome, Presumption, presumptionNumber}
+use mathlib.Core.List.{List, _∷_}
+use Rattle.site.specs.Presumption.{Outcome}
 use Rattle.site.specs.Cohort.{Cohort, presumptionOf, owing}
-use Rattle.site.specs.Step.{voteYes, append, force, enter, send, Row, answered}
+use Rattle.site.specs.Step.{enter, Row, answered}
 use Rattle.site.specs.Coordinator.{Coordinator, untilAcked, tellAll}
-use Rattle.site.specs.Participant.{Participant, prepared, acking, participantStep}
+use Rattle.site.specs.Participant.{participantStep}
 use Rattle.site.specs.Numbers.{Arguments, participantOf, inputOf, receives, isMember, inRangeAt, refusal, participantResult, stepAt}
 
--- an outcome told again to a set, the phase as it is
-abbrev pub toldAgain : Cohort → Outcome → ℕ → Coordinator → Row Coordinator
-toldAgain g o to c = record { effects = tellAll g o to; phase = c }
+-- an outcome told to a set and nothing else, the phase as it is
+abbrev pub toldTo : Cohort → Outcome → ℕ → Coordinator → Row Coordinator
+toldTo g o to c = record { effects = tellAll g o to; phase = c }
 
 -- at restart: an outcome entered again, and told to a set
 abbrev pub resuming : Cohort → Outcome → ℕ → Row Coordinator
@@ -20,15 +20,6 @@ resuming g o to = record { effects = enter o ∷ tellAll g o to; phase = untilAc
 -- a participant's number
 abbrev pub Numbered : ℕ → Type 0
 Numbered p = (1 ≤ p) × (p ≤ 8)
-
--- the row of a first Prepare
-abbrev pub preparing : Presumption → ℕ → Row Participant
-preparing presumption p =
-    record { effects = append 5 (presumptionNumber presumption ∷ []) ∷ force ∷ send voteYes p ∷ []; phase = prepared }
-
--- an outcome acknowledged again, if at all, the phase as it is
-abbrev pub acknowledging : Presumption → ℕ → Outcome → Participant → Row Participant
-acknowledging presumption p o x = record { effects = acking presumption p o; phase = x }
 
 -- the step on numbers at the coordinator, and at participant p, once the other arguments have passed
 unfoldable pub coordinatorNumbers : Arguments → List ℕ

@@ -8,7 +8,7 @@ use lib.Dec.{eqb, leb}
 use Rattle.codec.specs.Lists.{any, every}
 use Rattle.codec.specs.Sets.{participants, member, empty, part}
 use Rattle.site.specs.Presumption.{Outcome, commit, abort, Presumption, presumptionNumber}
-use Rattle.site.specs.Step.{prepare, messages, messageKind, Input, begin, timer, received, Effect, append, force, enter, send, Answer, refused, noRow, row, answered, answerIf}
+use Rattle.site.specs.Step.{prepare, messages, messageKind, Input, begin, timer, received, Effect, append, force, enter, send, Answer, refused, noRow, row, answerNumber, answered, answerIf}
 use Rattle.site.specs.Cohort.{Cohort, presumptionOf, owing}
 use Rattle.site.specs.Coordinator.{Coordinator, initial, collecting, awaitingAcks, coordinatorStep}
 use Rattle.site.specs.Participant.{Participant, working, prepared, decided, participantStep, participantRestart}
@@ -58,11 +58,12 @@ unfoldable pub coordinatorAnswer : Cohort → ℕ → ℕ → Coordinator → An
 coordinatorAnswer g kind p c =
     answerIf (receives 0 kind && (leb 16 kind || member p (g .members))) (coordinatorStep g (inputOf kind p) c)
 
--- refused are a kind that participant p never receives, and what is no participant
+-- refused are a kind that a participant never receives, and what is no participant
 unfoldable pub participantAnswer : Presumption → ℕ → ℕ → Participant → Answer Participant
 participantAnswer presumption p kind x =
     answerIf (receives 1 kind && any (eqb p) participants) (participantStep presumption p (inputOf kind p) x)
 
+-- restart: refused is what is no participant
 unfoldable pub participantRestarted : Presumption → ℕ → (ℕ → Bool) → Answer Participant
 participantRestarted presumption p has = answerIf (any (eqb p) participants) (some (participantRestart presumption p has))
 
@@ -151,27 +152,36 @@ summary (send m p ∷ es) =
     let x = summary es in
     record { appended = x .appended; forced = x .forced; entered = x .entered; message = messageKind m; to = 2 ^ (p - 1) + x .to }
 
--- ---- the step: answer, phase, waiting set, and the row's numbers
+-- ---- the step: the answer's number, and its values: phase, waiting set, and the row's numbers
 
-unfoldable pub stepResult : ℕ → ℕ → List Effect → List ℕ
-stepResult phase w es =
+unfoldable pub rowValues : ℕ → ℕ → List Effect → List ℕ
+rowValues phase w es =
     let x = summary es in
-    0 ∷ phase ∷ w ∷ x .appended ∷ x .forced ∷ x .entered ∷ x .message ∷ x .to ∷ []
+    phase ∷ w ∷ x .appended ∷ x .forced ∷ x .entered ∷ x .message ∷ x .to ∷ []
+
+unfoldable pub noValues : List ℕ
+noValues = 0 ∷ 0 ∷ 0 ∷ 0 ∷ 0 ∷ 0 ∷ 0 ∷ []
+
+-- no row: phase and waiting set as they came
+unfoldable pub coordinatorValues : ℕ → ℕ → Answer Coordinator → List ℕ
+coordinatorValues phase w refused = noValues
+coordinatorValues phase w noRow = rowValues phase w []
+coordinatorValues phase w (row r) = rowValues (coordinatorPhase (r .phase)) (waitingSet (r .phase)) (r .effects)
+
+unfoldable pub participantValues : ℕ → Answer Participant → List ℕ
+participantValues phase refused = noValues
+participantValues phase noRow = rowValues phase 0 []
+participantValues phase (row r) = rowValues (participantPhase (r .phase)) 0 (r .effects)
+
+unfoldable pub coordinatorResult : ℕ → ℕ → Answer Coordinator → List ℕ
+coordinatorResult phase w a = answerNumber a ∷ coordinatorValues phase w a
+
+unfoldable pub participantResult : ℕ → Answer Participant → List ℕ
+participantResult phase a = answerNumber a ∷ participantValues phase a
 
 -- a refusal is 1, and zeros
 unfoldable pub refusal : List ℕ
-refusal = 1 ∷ 0 ∷ 0 ∷ 0 ∷ 0 ∷ 0 ∷ 0 ∷ 0 ∷ []
-
--- the numbers of each answer; no row: 0, with phase and waiting set as they came
-unfoldable pub coordinatorResult : ℕ → ℕ → Answer Coordinator → List ℕ
-coordinatorResult phase w refused = refusal
-coordinatorResult phase w noRow = stepResult phase w []
-coordinatorResult phase w (row r) = stepResult (coordinatorPhase (r .phase)) (waitingSet (r .phase)) (r .effects)
-
-unfoldable pub participantResult : ℕ → Answer Participant → List ℕ
-participantResult phase refused = refusal
-participantResult phase noRow = stepResult phase 0 []
-participantResult phase (row r) = stepResult (participantPhase (r .phase)) 0 (r .effects)
+refusal = 1 ∷ noValues
 
 unfoldable pub stepAt : ℕ → Arguments → List ℕ
 stepAt zero a =

@@ -23,8 +23,12 @@ module _ (presumption : Presumption) (p : ℕ) where
   unfoldable pub voting : Participant → Message → Row Participant
   voting phase vote = record { effects = send vote p ∷ []; phase = phase }
 
+  -- the first Yes
+  unfoldable pub promising : Row Participant
+  promising = record { effects = append 5 (presumptionNumber presumption ∷ []) ∷ force ∷ send voteYes p ∷ []; phase = prepared }
+
   unfoldable pub onPrepare : Participant → Option (Row Participant)
-  onPrepare working = some (record { effects = append 5 (presumptionNumber presumption ∷ []) ∷ force ∷ send voteYes p ∷ []; phase = prepared })
+  onPrepare working = some promising
   onPrepare prepared = some (voting prepared voteYes)
   onPrepare (decided commit) = none
   onPrepare (decided abort) = some (voting (decided abort) voteNo)
@@ -39,9 +43,13 @@ module _ (presumption : Presumption) (p : ℕ) where
   unfoldable pub finish : Outcome → Row Participant
   finish o = record { effects = append (outcomeRecord o) [] ∷ given (acks presumption o) (force ∷ []) ++ enter o ∷ acking o; phase = decided o }
 
+  -- the outcome is not new: the phase stays
+  unfoldable pub acknowledging : Outcome → Participant → Row Participant
+  acknowledging o phase = record { effects = acking o; phase = phase }
+
   -- the outcome that it has already, or the other one
   unfoldable pub ackingIf : Bool → Outcome → Option (Row Participant)
-  ackingIf true o = some (record { effects = acking o; phase = decided o })
+  ackingIf true o = some (acknowledging o (decided o))
   ackingIf false o = none
 
   unfoldable pub onTell : Outcome → Participant → Option (Row Participant)
@@ -49,7 +57,7 @@ module _ (presumption : Presumption) (p : ℕ) where
   onTell abort working = some (finish abort)
   onTell o prepared = some (finish o)
   onTell o (decided d) = ackingIf (sameOutcome o d) o
-  onTell o unknown = some (record { effects = acking o; phase = unknown })
+  onTell o unknown = some (acknowledging o unknown)
 
   -- ---- timer
 

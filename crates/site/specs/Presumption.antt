@@ -22,7 +22,7 @@ acks presumedAbort abort = false
 acks presumedCommit commit = false
 acks presumedCommit abort = true
 
--- what it takes a coordinator that knows nothing of the transaction to mean
+-- the outcome with which a coordinator in Unknown answers its Yes
 unfoldable pub silence : Presumption → Outcome
 silence presumedAbort = abort
 silence presumedCommit = commit

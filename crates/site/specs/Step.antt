@@ -58,6 +58,12 @@ pub data Answer (Phase : Type 0) : Type 0 where
   refused noRow : Answer Phase
   row : Row Phase → Answer Phase
 
+-- its number; begin and timer without a row answer 8 in the joint run
+unfoldable pub answerNumber : {Phase : Type 0} → Answer Phase → ℕ
+answerNumber refused = 1
+answerNumber noRow = 0
+answerNumber (row r) = 0
+
 unfoldable pub answered : {Phase : Type 0} → Option (Row Phase) → Answer Phase
 answered none = noRow
 answered (some r) = row r

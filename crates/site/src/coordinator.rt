@@ -1,9 +1,11 @@
 // The coordinator's step (01: the hub) on one transaction, and its restart.
 use crate::effects::Effects;
-use crate::kinds::has;
+use crate::inputs::BEGIN;
+use crate::inputs::TIMER;
 use crate::phases::CoordinatorPhase;
 use crate::presumption::Outcome;
 use crate::presumption::Presumption;
+use crate::record_kinds::has;
 use codec::message::Parts;
 use codec::record::Record;
 use codec::sets::both;
@@ -19,9 +21,9 @@ ghost use Rattle.site.specs.Coordinator as coordinator;
 ghost use Rattle.site.specs.Step.{answered};
 ghost use Rattle.site.specs.Numbers.{coordinatorAnswer};
 ghost use Rattle.site.specs.Answers.{outcomeIn, presumptionIn, coordinatorIn, cohortIn, hasKind, coordinatorRowIn, coordinatorAnswerIn};
-ghost use Rattle.site.specs.Inside.{toldAgain, resuming};
+ghost use Rattle.site.specs.Inside.{toldTo, resuming};
 
-// One transaction: its phase, its members, and those of them that presume commit (01: PC).
+// One transaction (the definitions' `Coordinator` is its phase alone): its phase, its members, and those of them that presume commit (01: PC).
 pub struct Coordinator {
     pub phase: CoordinatorPhase,
     pub members: u8,
@@ -59,11 +61,6 @@ fn acked(outcome: Outcome, waiting: u8) -> CoordinatorRow
 }
 
 impl Coordinator {
-    // The kinds that are no message.
-    pub const BEGIN: u8 = 16;
-
-    pub const TIMER: u8 = 17;
-
     pub fn presumption(self, participant: u8) -> Presumption
         ensures { λ r. ⌜ presumptionIn r ≡ cohort.presumptionOf (cohortIn self) participant ⌝ }
     {
@@ -109,20 +106,20 @@ impl Coordinator {
     fn committing(self) -> CoordinatorRow
         ensures { λ r. ⌜ coordinatorRowIn r ≡ coordinator.committing (cohortIn self) ⌝ }
     {
-        let owing = self.owing(Outcome::Commit);
+        let awaited = self.owing(Outcome::Commit);
         CoordinatorRow {
             effects: Effects {
                 appended: Record::COMMIT,
                 first: self.members,
                 second: self.presume_commit,
                 forced: true,
-                entered: Effects::COMMIT,
+                entered: Effects::COMMIT_ENTERED,
                 message: Parts::COMMIT,
                 to: self.members,
-                owing: owing,
+                owing: awaited,
                 last: 0,
             },
-            phase: CoordinatorPhase::until_acked(Outcome::Commit, owing),
+            phase: CoordinatorPhase::until_acked(Outcome::Commit, awaited),
         }
     }
 
@@ -152,7 +149,7 @@ impl Coordinator {
                 first: 0,
                 second: 0,
                 forced: false,
-                entered: Effects::ABORT,
+                entered: Effects::ABORT_ENTERED,
                 message: Parts::ABORT,
                 to: to,
                 owing: owing,
@@ -162,9 +159,9 @@ impl Coordinator {
         }
     }
 
-    // An outcome told again to a set, those first that owe an ack for it; the phase stays.
+    // An outcome told to a set, those first that owe an ack for it, and nothing else; the phase stays.
     fn telling(self, outcome: Outcome, to: u8) -> CoordinatorRow
-        ensures { λ r. ⌜ coordinatorRowIn r ≡ toldAgain (cohortIn self) (outcomeIn outcome) to (coordinatorIn (self .phase)) ⌝ }
+        ensures { λ r. ⌜ coordinatorRowIn r ≡ toldTo (cohortIn self) (outcomeIn outcome) to (coordinatorIn (self .phase)) ⌝ }
     {
         let mut effects = Effects::NONE;
         effects.message = outcome.message();
@@ -270,7 +267,7 @@ impl Coordinator {
     pub fn step(self, kind: u8, participant: u8) -> CoordinatorAnswer
         ensures { λ r. ⌜ coordinatorAnswerIn r ≡ coordinatorAnswer (cohortIn self) kind participant (coordinatorIn (self .phase)) ⌝ }
     {
-        if !((Coordinator::BEGIN <= kind) | member(participant, self.members)) {
+        if !((BEGIN <= kind) | member(participant, self.members)) {
             return CoordinatorAnswer::Refused;
         }
         match kind {
@@ -278,8 +275,8 @@ impl Coordinator {
             Parts::NO => self.on_no(participant),
             Parts::COMMIT_ACK => self.on_ack(Outcome::Commit, participant),
             Parts::ABORT_ACK => self.on_ack(Outcome::Abort, participant),
-            Coordinator::BEGIN => self.on_begin(),
-            Coordinator::TIMER => self.on_timer(),
+            BEGIN => self.on_begin(),
+            TIMER => self.on_timer(),
             Parts::PREPARE | Parts::COMMIT..=Parts::ABORT | 7..=15 | 18..=255 => {
                 CoordinatorAnswer::Refused
             }
@@ -302,14 +299,14 @@ impl Coordinator {
         }
     }
 
-    // From the kinds of record that the stable log has of the transaction, bit k for kind k.
-    pub fn restart(self, kinds: u16) -> CoordinatorRow
-        ensures { λ r. ⌜ coordinatorRowIn r ≡ coordinator.coordinatorRestart (cohortIn self) (hasKind kinds) ⌝ }
+    // From the kinds of record that the stable log has of the transaction, bit k for kind k; the phase is not looked at.
+    pub fn restart(self, records: u16) -> CoordinatorRow
+        ensures { λ r. ⌜ coordinatorRowIn r ≡ coordinator.coordinatorRestart (cohortIn self) (hasKind records) ⌝ }
     {
-        let init = has(kinds, Record::INIT);
-        let commit = has(kinds, Record::COMMIT);
-        let commit_end = has(kinds, Record::COMMIT_END);
-        let abort_end = has(kinds, Record::ABORT_END);
+        let init = has(records, Record::INIT);
+        let commit = has(records, Record::COMMIT);
+        let commit_end = has(records, Record::COMMIT_END);
+        let abort_end = has(records, Record::ABORT_END);
         if commit & !commit_end {
             let owing = self.owing(Outcome::Commit);
             let to = if owing == 0 { 0 } else { self.members };

@@ -4,7 +4,7 @@ ghost use mathlib.Core.Path.{_≡_};
 ghost use Rattle.site.specs.Numbers.{summary};
 ghost use Rattle.site.specs.Answers.{effectsIn, summaryIn};
 
-// What a row does, in this order: append, force, enter, send, append. 0 is none.
+// What a row does, in this order: append, force, enter, send, append. 0 is none; there is no message where `to` is 0.
 pub struct Effects {
     // The kind of the record that is appended first, and its fields behind the transaction.
     pub appended: u8,
@@ -42,9 +42,9 @@ impl Summary {
 
 impl Effects {
     // What is entered.
-    pub const COMMIT: u8 = 1;
+    pub const COMMIT_ENTERED: u8 = 1;
 
-    pub const ABORT: u8 = 2;
+    pub const ABORT_ENTERED: u8 = 2;
 
     pub const NONE: Effects = Effects {
         appended: 0,
@@ -63,8 +63,8 @@ impl Effects {
     {
         let to = self.to;
         let none_first = self.appended == 0;
-        let enters = self.entered <= Effects::ABORT;
-        let sends = (to != 0) & (self.message <= Parts::KIND);
+        let enters = self.entered <= Effects::ABORT_ENTERED;
+        let sends = (to != 0) & (self.message <= Parts::LAST_KIND);
         Summary {
             appended: if none_first { self.last } else { self.appended },
             forced: if self.forced { 1 } else { 0 },

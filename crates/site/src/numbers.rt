@@ -2,6 +2,7 @@
 use crate::coordinator::Coordinator;
 use crate::coordinator::CoordinatorAnswer;
 use crate::effects::Summary;
+use crate::inputs::BEGIN;
 use crate::participant::Participant;
 use crate::participant::ParticipantAnswer;
 use crate::phases::CoordinatorPhase;
@@ -62,7 +63,7 @@ pub fn participant_result(answer: ParticipantAnswer, phase: u8) -> u64
 }
 
 impl Coordinator {
-    // Whether a waiting set is one of a phase, by their numbers.
+    // Whether a waiting set is one of a phase, by their numbers; the coordinator's own phase is not looked at.
     fn waiting_in_range(self, phase: u8, waiting: u8) -> bool
         ensures { λ r. ⌜ r ≡ numbers.waitingInRange (cohortIn self) phase waiting ⌝ }
     {
@@ -77,6 +78,7 @@ impl Coordinator {
     }
 }
 
+// At the coordinator. That the sender of a message is a member is tested by the step.
 fn coordinator_step(
     kind: u8,
     participant: u8,
@@ -95,7 +97,7 @@ fn coordinator_step(
     };
     let stated = coordinator.presumption(participant);
     let nobody = (participant == 0) & (presumption == 0);
-    let message = kind < Coordinator::BEGIN;
+    let message = kind < BEGIN;
     let named = (message & (presumption == stated.number())) | (!message & nobody);
     if !(named & coordinator.waiting_in_range(phase, waiting)) {
         return REFUSED;
@@ -103,6 +105,7 @@ fn coordinator_step(
     coordinator_result(coordinator.step(kind, participant), phase, waiting)
 }
 
+// At the participant that is named; the masks tell its presumption.
 fn participant_step(
     kind: u8,
     participant: u8,
@@ -145,7 +148,7 @@ pub extern "C" fn dpr_site_step(
 ) -> u64
     ensures { λ r. ⌜ r ≡ numbers.packed (numbers.siteStep (argumentsIn site kind transaction participant presumption phase waiting members «presume_commit»)) ⌝ }
 {
-    let wrong = (Parts::TRANSACTION < transaction)
+    let wrong = (Parts::LAST_TRANSACTION < transaction)
         | (4 < phase)
         | (members < 1)
         | !part(presume_commit, members);

@@ -1,10 +1,10 @@
 // A participant's step (01: a box) on one transaction, and its restart.
-use crate::coordinator::Coordinator;
 use crate::effects::Effects;
-use crate::kinds::has;
+use crate::inputs::TIMER;
 use crate::phases::ParticipantPhase;
 use crate::presumption::Outcome;
 use crate::presumption::Presumption;
+use crate::record_kinds::has;
 use codec::message::Parts;
 use codec::record::Record;
 use codec::sets::only;
@@ -15,7 +15,7 @@ ghost use Rattle.site.specs.Participant as participant;
 ghost use Rattle.site.specs.Step.{voteYes, voteNo, answered};
 ghost use Rattle.site.specs.Numbers.{participantAnswer, participantRestarted};
 ghost use Rattle.site.specs.Answers.{outcomeIn, presumptionIn, participantIn, hasKind, participantRowIn, participantAnswerIn};
-ghost use Rattle.site.specs.Inside.{Numbered, preparing, acknowledging};
+ghost use Rattle.site.specs.Inside.{Numbered};
 
 // One transaction at participant `number`: its phase, and what silence means to it.
 pub struct Participant {
@@ -47,7 +47,7 @@ impl Participant {
         0
     }
 
-    // A vote sent again, and the phase.
+    // A vote sent, and nothing else.
     fn voting(self, phase: ParticipantPhase, yes: bool) -> ParticipantRow
         requires { ⌜ Numbered (self .number) ⌝ }
         ensures { λ r. ⌜ participantRowIn r ≡ participant.voting (presumptionIn (self .presumption)) (self .number) (participantIn phase) (cond yes voteYes voteNo) ⌝ }
@@ -62,9 +62,9 @@ impl Participant {
     }
 
     // Prepared: from now on only the coordinator can tell the outcome.
-    fn preparing(self) -> ParticipantRow
+    fn promising(self) -> ParticipantRow
         requires { ⌜ Numbered (self .number) ⌝ }
-        ensures { λ r. ⌜ participantRowIn r ≡ preparing (presumptionIn (self .presumption)) (self .number) ⌝ }
+        ensures { λ r. ⌜ participantRowIn r ≡ participant.promising (presumptionIn (self .presumption)) (self .number) ⌝ }
     {
         let presumption = self.presumption;
         ParticipantRow {
@@ -83,10 +83,10 @@ impl Participant {
         }
     }
 
-    // An outcome acknowledged again, and the phase as it is.
+    // An outcome that is not new: the phase stays.
     fn acknowledging(self, outcome: Outcome) -> ParticipantRow
         requires { ⌜ Numbered (self .number) ⌝ }
-        ensures { λ r. ⌜ participantRowIn r ≡ acknowledging (presumptionIn (self .presumption)) (self .number) (outcomeIn outcome) (participantIn (self .phase)) ⌝ }
+        ensures { λ r. ⌜ participantRowIn r ≡ participant.acknowledging (presumptionIn (self .presumption)) (self .number) (outcomeIn outcome) (participantIn (self .phase)) ⌝ }
     {
         let presumption = self.presumption;
         let mut effects = Effects::NONE;
@@ -128,7 +128,7 @@ impl Participant {
     {
         let phase = self.phase;
         match phase {
-            ParticipantPhase::Working => ParticipantAnswer::Row(self.preparing()),
+            ParticipantPhase::Working => ParticipantAnswer::Row(self.promising()),
             ParticipantPhase::Prepared => ParticipantAnswer::Row(self.voting(phase, true)),
             ParticipantPhase::Committed => ParticipantAnswer::NoRow,
             ParticipantPhase::Aborted => ParticipantAnswer::Row(self.voting(phase, false)),
@@ -167,7 +167,7 @@ impl Participant {
         match phase {
             ParticipantPhase::Working => {
                 let mut effects = Effects::NONE;
-                effects.entered = Effects::ABORT;
+                effects.entered = Effects::ABORT_ENTERED;
                 ParticipantAnswer::Row(ParticipantRow {
                     effects: effects,
                     phase: ParticipantPhase::Unknown,
@@ -183,42 +183,42 @@ impl Participant {
         ensures { λ r. ⌜ participantAnswerIn r ≡ participantAnswer (presumptionIn (self .presumption)) (self .number) kind (participantIn (self .phase)) ⌝ }
     {
         let number = self.number;
-        if (number < 1) | (Parts::PARTICIPANT < number) {
+        if (number < 1) | (Parts::LAST_PARTICIPANT < number) {
             return ParticipantAnswer::Refused;
         }
         match kind {
             Parts::PREPARE => self.on_prepare(),
             Parts::COMMIT => self.on_tell(Outcome::Commit),
             Parts::ABORT => self.on_tell(Outcome::Abort),
-            Coordinator::TIMER => self.on_timer(),
+            TIMER => self.on_timer(),
             Parts::YES..=Parts::NO | 5..=16 | 18..=255 => ParticipantAnswer::Refused,
         }
     }
 
-    // From the kinds of record that the stable log has of the transaction, bit k for kind k.
-    pub fn restart(self, kinds: u16) -> ParticipantAnswer
-        ensures { λ r. ⌜ participantAnswerIn r ≡ participantRestarted (presumptionIn (self .presumption)) (self .number) (hasKind kinds) ⌝ }
+    // From the kinds of record that the stable log has of the transaction, bit k for kind k; what is no participant is refused.
+    pub fn restart(self, records: u16) -> ParticipantAnswer
+        ensures { λ r. ⌜ participantAnswerIn r ≡ participantRestarted (presumptionIn (self .presumption)) (self .number) (hasKind records) ⌝ }
     {
         let number = self.number;
-        if (number < 1) | (Parts::PARTICIPANT < number) {
+        if (number < 1) | (Parts::LAST_PARTICIPANT < number) {
             return ParticipantAnswer::Refused;
         }
         let mut effects = Effects::NONE;
-        if has(kinds, Record::COMMITTED) {
-            effects.entered = Effects::COMMIT;
+        if has(records, Record::COMMITTED) {
+            effects.entered = Effects::COMMIT_ENTERED;
             return ParticipantAnswer::Row(ParticipantRow {
                 effects: effects,
                 phase: ParticipantPhase::Committed,
             });
         }
-        if has(kinds, Record::ABORTED) {
-            effects.entered = Effects::ABORT;
+        if has(records, Record::ABORTED) {
+            effects.entered = Effects::ABORT_ENTERED;
             return ParticipantAnswer::Row(ParticipantRow {
                 effects: effects,
                 phase: ParticipantPhase::Aborted,
             });
         }
-        if has(kinds, Record::PREPARED) {
+        if has(records, Record::PREPARED) {
             return ParticipantAnswer::Row(self.voting(ParticipantPhase::Prepared, true));
         }
         ParticipantAnswer::Row(ParticipantRow {

@@ -16,6 +16,7 @@ pub enum CoordinatorPhase {
 }
 
 impl CoordinatorPhase {
+    // What is no phase is Unknown.
     pub fn from_numbers(phase: u8, waiting: u8) -> CoordinatorPhase
         ensures { λ r. ⌜ coordinatorIn r ≡ coordinatorOf phase waiting ⌝ }
     {
@@ -80,6 +81,7 @@ pub enum ParticipantPhase {
 }
 
 impl ParticipantPhase {
+    // What is no phase is Unknown.
     pub fn from_number(phase: u8) -> ParticipantPhase
         ensures { λ r. ⌜ participantIn r ≡ participantOf phase ⌝ }
     {

@@ -1,4 +1,5 @@
 // Outcomes, and what a participant states beforehand about silence.
+use crate::effects::Effects;
 use codec::message::Parts;
 use codec::record::Record;
 ghost use mathlib.Core.Path.{_≡_};
@@ -20,8 +21,8 @@ impl Outcome {
         ensures { λ r. ⌜ r ≡ outcomeNumber (outcomeIn self) ⌝ }
     {
         match self {
-            Outcome::Commit => 1,
-            Outcome::Abort => 2,
+            Outcome::Commit => Effects::COMMIT_ENTERED,
+            Outcome::Abort => Effects::ABORT_ENTERED,
         }
     }
 
@@ -89,7 +90,7 @@ impl Presumption {
         }
     }
 
-    // What it takes a coordinator that knows nothing of the transaction to mean.
+    // The outcome with which a coordinator in Unknown answers its Yes.
     pub fn silence(self) -> Outcome
         ensures { λ r. ⌜ outcomeIn r ≡ silence (presumptionIn self) ⌝ }
     {

@@ -1,5 +1,5 @@
 // Restart of one transaction, and steps that find no row, that find a row without effects, and that are refused, run and proved.
-// Each expected number is from document 01; results.rt says what its bytes are.
+// What each expected number says is from document 01; results.rt says what its bytes are.
 mod results;
 
 use crate::results::NO_ROW;

@@ -54,13 +54,13 @@ pub fn step(arguments: Arguments) -> u64 {
     unsafe { dpr_site_step(site, kind, transaction, participant, presumption, phase, waiting, members, presume_commit) }
 }
 
-/// The same call with any bits in the upper half of each register and each place on the stack. The calling convention
+/// The same call with any bits above the byte in each register and each place on the stack. The calling convention
 /// says nothing of them, so a caller may leave there what it likes.
 pub fn wide_step(arguments: Arguments, upper: [u32; 9]) -> u64 {
     type Wide = unsafe extern "C" fn(u64, u64, u64, u64, u64, u64, u64, u64, u64) -> u64;
     let mut w = [0; 9];
     for i in 0..9 {
-        w[i] = (upper[i] as u64) << 32 | arguments[i] as u64;
+        w[i] = (upper[i] as u64) * 0x1_0000_0100 & !255 | arguments[i] as u64;
     }
     unsafe {
         let call: Wide = std::mem::transmute(dpr_site_step as *const ());

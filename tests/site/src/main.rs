@@ -183,7 +183,9 @@ fn single_changes(trial: &mut Trial, random: &mut Random) {
     }
     for (i, name) in NAMES.iter().enumerate() {
         println!("{name} changed: {} accepted, {} refused", taken[i], refused[i]);
-        assert!(taken[i] >= 20_000 && refused[i] > 0, "no change of it was told apart");
+        // a call that is accepted is so at one site and with one presumption; the other arguments have more values
+        let alone = name == &"site" || name == &"presumption";
+        assert!((taken[i] == 20_000) == alone && refused[i] > 0, "no change of it was told apart");
     }
 }
 
@@ -203,6 +205,7 @@ fn double_changes(trial: &mut Trial, random: &mut Random) {
     }
 }
 
+/// Nine random bytes are hardly ever in range: this tries refusals.
 fn random_bytes(trial: &mut Trial, random: &mut Random) {
     for _ in 0..10_000_000 {
         let first = random.next().to_le_bytes();

@@ -1,4 +1,4 @@
-//! The rows of 01's step, each with all that it does, and how often the calls met them.
+//! The rows of 01's step, each with what it does (the sets are compared with the model alone), and how often the calls met them.
 
 use crate::arguments::Arguments;
 use crate::codec::*;
@@ -28,7 +28,7 @@ struct Row {
 }
 
 /// No message.
-const NO_ONE: u8 = 255;
+const NO_MESSAGE: u8 = 255;
 const BEGIN: u8 = 16;
 const TIMER: u8 = 17;
 const OPEN: u8 = 0;
@@ -41,7 +41,7 @@ const COMMITTED: u8 = 2;
 const ABORTED: u8 = 3;
 const UNKNOWN: u8 = 4;
 
-const fn hub(kind: u8, phase: u8, asks: Asks, name: &'static str, does: Does) -> Row {
+const fn coordinator(kind: u8, phase: u8, asks: Asks, name: &'static str, does: Does) -> Row {
     Row { participant: false, kind, phase, asks, name, does }
 }
 
@@ -50,53 +50,53 @@ const fn member(kind: u8, phase: u8, asks: Asks, name: &'static str, does: Does)
 }
 
 const ROWS: [Row; 48] = [
-    hub(BEGIN, OPEN, Any, "begin", [COLLECTING, 1, 1, 0, PREPARE]),
-    hub(BEGIN, OPEN, Any, "begin, PC empty", [COLLECTING, 0, 0, 0, PREPARE]),
-    hub(YES, COLLECTING, Awaited, "Yes", [COLLECTING, 0, 0, 0, NO_ONE]),
-    hub(YES, COLLECTING, NotAwaited, "Yes again", [COLLECTING, 0, 0, 0, NO_ONE]),
-    hub(YES, COLLECTING, Awaited, "last Yes", [COMMITTING, 2, 1, 1, COMMIT]),
-    hub(YES, COLLECTING, Awaited, "last Yes, all PrC", [UNKNOWN, 2, 1, 1, COMMIT]),
-    hub(YES, COMMITTING, Any, "Yes", [COMMITTING, 0, 0, 0, COMMIT]),
-    hub(YES, ABORTING, Any, "Yes", [ABORTING, 0, 0, 0, ABORT]),
-    hub(YES, UNKNOWN, PrA, "Yes of PrA", [UNKNOWN, 0, 0, 0, ABORT]),
-    hub(YES, UNKNOWN, PrC, "Yes of PrC", [UNKNOWN, 0, 0, 0, COMMIT]),
-    hub(NO, COLLECTING, Awaited, "No", [ABORTING, 0, 0, 2, ABORT]),
-    hub(NO, COLLECTING, NotAwaited, "No after Yes", [ABORTING, 0, 0, 2, ABORT]),
-    hub(NO, COLLECTING, Awaited, "No, PC empty", [UNKNOWN, 0, 0, 2, ABORT]),
-    hub(NO, COLLECTING, NotAwaited, "No after Yes, PC empty", [UNKNOWN, 0, 0, 2, ABORT]),
-    hub(NO, COLLECTING, Awaited, "No of the only member, PC empty", [UNKNOWN, 0, 0, 2, NO_ONE]),
-    hub(NO, COLLECTING, Awaited, "No of the only PrC", [UNKNOWN, 4, 0, 2, ABORT]),
-    hub(NO, COLLECTING, NotAwaited, "No after Yes of the only PrC", [UNKNOWN, 4, 0, 2, ABORT]),
-    hub(NO, COLLECTING, Awaited, "No of the only member, PrC", [UNKNOWN, 4, 0, 2, NO_ONE]),
-    hub(TIMER, COLLECTING, Any, "timer", [ABORTING, 0, 0, 2, ABORT]),
-    hub(TIMER, COLLECTING, Any, "timer, PC empty", [UNKNOWN, 0, 0, 2, ABORT]),
-    hub(COMMIT_ACK, COMMITTING, Awaited, "CommitAck", [COMMITTING, 0, 0, 0, NO_ONE]),
-    hub(COMMIT_ACK, COMMITTING, NotAwaited, "CommitAck not awaited", [COMMITTING, 0, 0, 0, NO_ONE]),
-    hub(COMMIT_ACK, COMMITTING, Awaited, "last CommitAck", [UNKNOWN, 3, 0, 0, NO_ONE]),
-    hub(ABORT_ACK, ABORTING, Awaited, "AbortAck", [ABORTING, 0, 0, 0, NO_ONE]),
-    hub(ABORT_ACK, ABORTING, NotAwaited, "AbortAck not awaited", [ABORTING, 0, 0, 0, NO_ONE]),
-    hub(ABORT_ACK, ABORTING, Awaited, "last AbortAck", [UNKNOWN, 4, 0, 0, NO_ONE]),
-    hub(TIMER, COMMITTING, Any, "timer", [COMMITTING, 0, 0, 0, COMMIT]),
-    hub(TIMER, ABORTING, Any, "timer", [ABORTING, 0, 0, 0, ABORT]),
+    coordinator(BEGIN, OPEN, Any, "begin", [COLLECTING, 1, 1, 0, PREPARE]),
+    coordinator(BEGIN, OPEN, Any, "begin, PC empty", [COLLECTING, 0, 0, 0, PREPARE]),
+    coordinator(YES, COLLECTING, Awaited, "Yes", [COLLECTING, 0, 0, 0, NO_MESSAGE]),
+    coordinator(YES, COLLECTING, NotAwaited, "Yes again", [COLLECTING, 0, 0, 0, NO_MESSAGE]),
+    coordinator(YES, COLLECTING, Awaited, "last Yes", [COMMITTING, 2, 1, 1, COMMIT]),
+    coordinator(YES, COLLECTING, Awaited, "last Yes, all PrC", [UNKNOWN, 2, 1, 1, COMMIT]),
+    coordinator(YES, COMMITTING, Any, "Yes", [COMMITTING, 0, 0, 0, COMMIT]),
+    coordinator(YES, ABORTING, Any, "Yes", [ABORTING, 0, 0, 0, ABORT]),
+    coordinator(YES, UNKNOWN, PrA, "Yes of PrA", [UNKNOWN, 0, 0, 0, ABORT]),
+    coordinator(YES, UNKNOWN, PrC, "Yes of PrC", [UNKNOWN, 0, 0, 0, COMMIT]),
+    coordinator(NO, COLLECTING, Awaited, "No", [ABORTING, 0, 0, 2, ABORT]),
+    coordinator(NO, COLLECTING, NotAwaited, "No after Yes", [ABORTING, 0, 0, 2, ABORT]),
+    coordinator(NO, COLLECTING, Awaited, "No, PC empty", [UNKNOWN, 0, 0, 2, ABORT]),
+    coordinator(NO, COLLECTING, NotAwaited, "No after Yes, PC empty", [UNKNOWN, 0, 0, 2, ABORT]),
+    coordinator(NO, COLLECTING, Awaited, "No of the only member, PC empty", [UNKNOWN, 0, 0, 2, NO_MESSAGE]),
+    coordinator(NO, COLLECTING, Awaited, "No of the only PrC", [UNKNOWN, 4, 0, 2, ABORT]),
+    coordinator(NO, COLLECTING, NotAwaited, "No after Yes of the only PrC", [UNKNOWN, 4, 0, 2, ABORT]),
+    coordinator(NO, COLLECTING, Awaited, "No of the only member, PrC", [UNKNOWN, 4, 0, 2, NO_MESSAGE]),
+    coordinator(TIMER, COLLECTING, Any, "timer", [ABORTING, 0, 0, 2, ABORT]),
+    coordinator(TIMER, COLLECTING, Any, "timer, PC empty", [UNKNOWN, 0, 0, 2, ABORT]),
+    coordinator(COMMIT_ACK, COMMITTING, Awaited, "CommitAck", [COMMITTING, 0, 0, 0, NO_MESSAGE]),
+    coordinator(COMMIT_ACK, COMMITTING, NotAwaited, "CommitAck not awaited", [COMMITTING, 0, 0, 0, NO_MESSAGE]),
+    coordinator(COMMIT_ACK, COMMITTING, Awaited, "last CommitAck", [UNKNOWN, 3, 0, 0, NO_MESSAGE]),
+    coordinator(ABORT_ACK, ABORTING, Awaited, "AbortAck", [ABORTING, 0, 0, 0, NO_MESSAGE]),
+    coordinator(ABORT_ACK, ABORTING, NotAwaited, "AbortAck not awaited", [ABORTING, 0, 0, 0, NO_MESSAGE]),
+    coordinator(ABORT_ACK, ABORTING, Awaited, "last AbortAck", [UNKNOWN, 4, 0, 0, NO_MESSAGE]),
+    coordinator(TIMER, COMMITTING, Any, "timer", [COMMITTING, 0, 0, 0, COMMIT]),
+    coordinator(TIMER, ABORTING, Any, "timer", [ABORTING, 0, 0, 0, ABORT]),
     member(PREPARE, WORKING, Any, "Prepare", [PREPARED, 5, 1, 0, YES]),
     member(PREPARE, PREPARED, Any, "Prepare", [PREPARED, 0, 0, 0, YES]),
     member(PREPARE, ABORTED, Any, "Prepare", [ABORTED, 0, 0, 0, NO]),
     member(PREPARE, UNKNOWN, Any, "Prepare", [UNKNOWN, 0, 0, 0, NO]),
     member(COMMIT, PREPARED, PrA, "Commit, PrA", [COMMITTED, 6, 1, 1, COMMIT_ACK]),
-    member(COMMIT, PREPARED, PrC, "Commit, PrC", [COMMITTED, 6, 0, 1, NO_ONE]),
+    member(COMMIT, PREPARED, PrC, "Commit, PrC", [COMMITTED, 6, 0, 1, NO_MESSAGE]),
     member(COMMIT, COMMITTED, PrA, "Commit, PrA", [COMMITTED, 0, 0, 0, COMMIT_ACK]),
-    member(COMMIT, COMMITTED, PrC, "Commit, PrC", [COMMITTED, 0, 0, 0, NO_ONE]),
+    member(COMMIT, COMMITTED, PrC, "Commit, PrC", [COMMITTED, 0, 0, 0, NO_MESSAGE]),
     member(COMMIT, UNKNOWN, PrA, "Commit, PrA", [UNKNOWN, 0, 0, 0, COMMIT_ACK]),
-    member(COMMIT, UNKNOWN, PrC, "Commit, PrC", [UNKNOWN, 0, 0, 0, NO_ONE]),
-    member(ABORT, WORKING, PrA, "Abort, PrA", [ABORTED, 7, 0, 2, NO_ONE]),
+    member(COMMIT, UNKNOWN, PrC, "Commit, PrC", [UNKNOWN, 0, 0, 0, NO_MESSAGE]),
+    member(ABORT, WORKING, PrA, "Abort, PrA", [ABORTED, 7, 0, 2, NO_MESSAGE]),
     member(ABORT, WORKING, PrC, "Abort, PrC", [ABORTED, 7, 1, 2, ABORT_ACK]),
-    member(ABORT, PREPARED, PrA, "Abort, PrA", [ABORTED, 7, 0, 2, NO_ONE]),
+    member(ABORT, PREPARED, PrA, "Abort, PrA", [ABORTED, 7, 0, 2, NO_MESSAGE]),
     member(ABORT, PREPARED, PrC, "Abort, PrC", [ABORTED, 7, 1, 2, ABORT_ACK]),
-    member(ABORT, ABORTED, PrA, "Abort, PrA", [ABORTED, 0, 0, 0, NO_ONE]),
+    member(ABORT, ABORTED, PrA, "Abort, PrA", [ABORTED, 0, 0, 0, NO_MESSAGE]),
     member(ABORT, ABORTED, PrC, "Abort, PrC", [ABORTED, 0, 0, 0, ABORT_ACK]),
-    member(ABORT, UNKNOWN, PrA, "Abort, PrA", [UNKNOWN, 0, 0, 0, NO_ONE]),
+    member(ABORT, UNKNOWN, PrA, "Abort, PrA", [UNKNOWN, 0, 0, 0, NO_MESSAGE]),
     member(ABORT, UNKNOWN, PrC, "Abort, PrC", [UNKNOWN, 0, 0, 0, ABORT_ACK]),
-    member(TIMER, WORKING, Any, "timer", [UNKNOWN, 0, 0, 2, NO_ONE]),
+    member(TIMER, WORKING, Any, "timer", [UNKNOWN, 0, 0, 2, NO_MESSAGE]),
     member(TIMER, PREPARED, Any, "timer", [PREPARED, 0, 0, 0, YES]),
 ];
 
@@ -125,7 +125,7 @@ impl Met {
         let [site, kind, _, participant, presumption, phase, waiting, _, _] = call;
         let [_, after, _, record, forced, outcome, message, to] = bytes;
         let awaited = participant != 0 && has(waiting, participant);
-        let message = if to == 0 { NO_ONE } else { message };
+        let message = if to == 0 { NO_MESSAGE } else { message };
         Met {
             participant: site != 0,
             kind,
@@ -189,7 +189,7 @@ impl Counts {
             }
             let [site, kind, phase, presumption, awaited, after, record, forced, outcome, message] = values;
             let kind = if kind < 8 { kind } else { kind + 8 };
-            let does = [after, record, forced, outcome, if message == 7 { NO_ONE } else { message }];
+            let does = [after, record, forced, outcome, if message == 7 { NO_MESSAGE } else { message }];
             (Met { participant: site == 1, kind, phase, presumption, awaited: awaited == 1, does }, count)
         })
     }
@@ -205,7 +205,7 @@ impl Counts {
             match ROWS.iter().position(|row| met.is(row)) {
                 Some(i) => rows[i] += count,
                 None => {
-                    let nothing = met.does == [met.phase, 0, 0, 0, NO_ONE];
+                    let nothing = met.does == [met.phase, 0, 0, 0, NO_MESSAGE];
                     if !nothing || ROWS.iter().any(|row| met.meets(row)) {
                         fail(&format!("{} in phase {phase}, kind {}: no row does this", SITES[site], met.kind));
                     }

@@ -2,7 +2,7 @@ use mathlib.Core.Bool.{true, false, not, _&&_}
 use mathlib.Core.Path.{_≡_, sym}
 use borrow.Author.Tests.{not-true, not-false}
 use Rattle.site.specs.Answers.{argumentsIn}
-use Rattle.site.specs.Numbers.{packed, refusal}
+use Rattle.site.specs.Numbers.{packed, refusal, noValues}
 use Rattle.site.proofs.Accepted.{named, fits, coordinator-refused, coordinator-taken}
 use Rattle.site.proofs.numbers.coordinator_step.Statement.{statement}
 use Rattle.site.proofs.numbers.coordinator_step.Tie as tie
@@ -20,7 +20,7 @@ waiting-in-range-requires : tie.Need-waiting-in-range-requires
 waiting-in-range-requires c κs = tt
 
 returns : tie.Need-returns
-unfolding packed refusal
+unfolding packed refusal noValues
 returns c =
     let s = c .before .before .before .before .before in
     let a = argumentsIn 0 (s .args .kind) 0 (s .args .participant) (s .args .presumption) (s .args .phase) (s .args .waiting) (s .args .members) (s .args .presume-commit) in

@@ -2,7 +2,7 @@ use mathlib.Core.Path.{_≡_, sym}
 use mathlib.Core.Bool.{true, false}
 use native.Mathlib.Omega.{arith}
 use Rattle.site.specs.Answers.{argumentsIn}
-use Rattle.site.specs.Numbers.{packed, refusal}
+use Rattle.site.specs.Numbers.{packed, refusal, noValues}
 use Rattle.site.proofs.Accepted.{wrong, call-refused, call-coordinator, call-foreign, call-participant, call-beyond}
 use Rattle.site.proofs.numbers.dpr_site_step.Statement.{statement}
 use Rattle.site.proofs.numbers.dpr_site_step.Tie as tie
@@ -11,7 +11,7 @@ part-requires : tie.Need-part-requires
 part-requires c κs = tt
 
 returns : tie.Need-returns
-unfolding packed refusal
+unfolding packed refusal noValues
 returns c =
     let s = c .before .before in
     let a = argumentsIn (s .args .site) (s .args .kind) (s .args .transaction) (s .args .participant) (s .args .presumption) (s .args .phase) (s .args .waiting) (s .args .members) (s .args .presume-commit) in
@@ -22,7 +22,7 @@ coordinator-step-requires : tie.Need-coordinator-step-requires
 coordinator-step-requires c κs = tt
 
 returns-2 : tie.Need-returns-2
-unfolding packed refusal
+unfolding packed refusal noValues
 returns-2 c =
     let s = c .before .before .before .before .before in
     let a = argumentsIn (s .args .site) (s .args .kind) (s .args .transaction) (s .args .participant) (s .args .presumption) (s .args .phase) (s .args .waiting) (s .args .members) (s .args .presume-commit) in
@@ -50,7 +50,7 @@ returns-4 c =
     )
 
 returns-5 : tie.Need-returns-5
-unfolding packed refusal
+unfolding packed refusal noValues
 returns-5 c =
     let s = c .before .before .before .before in
     let a = argumentsIn (s .args .site) (s .args .kind) (s .args .transaction) (s .args .participant) (s .args .presumption) (s .args .phase) (s .args .waiting) (s .args .members) (s .args .presume-commit) in

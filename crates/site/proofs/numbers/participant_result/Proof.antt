@@ -1,5 +1,6 @@
 use mathlib.Core.Path.{sym}
-use Rattle.site.specs.Numbers.{summary, packed, refusal, stepResult, participantResult}
+use Rattle.site.specs.Step.{answerNumber}
+use Rattle.site.specs.Numbers.{summary, packed, rowValues, noValues, participantValues, participantResult}
 use borrow.Author.Needs.{needs}
 use Rattle.site.proofs.numbers.participant_result.Statement.{statement}
 use Rattle.site.proofs.numbers.participant_result.Tie as tie
@@ -26,15 +27,15 @@ packed-requires-2 : tie.Need-packed-requires-2
 packed-requires-2 c κs = tt
 
 returns : tie.Need-returns
-unfolding participantResult refusal packed
+unfolding participantResult participantValues answerNumber noValues packed
 returns c = rw (c .enum-told .given .1)
 
 returns-2 : tie.Need-returns-2
-unfolding participantResult stepResult summary
+unfolding participantResult participantValues answerNumber rowValues summary
 returns-2 c = rw (c .packed .ensures, c .before .enum-told2 .given .1)
 
 returns-3 : tie.Need-returns-3
-unfolding participantResult stepResult
+unfolding participantResult participantValues answerNumber rowValues
 returns-3 c =
     rw (
       c .packed2 .ensures,

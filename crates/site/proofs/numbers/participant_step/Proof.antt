@@ -4,7 +4,7 @@ use native.Mathlib.Omega.{arith}
 use borrow.Author.Tests.{not-true, not-false}
 use Rattle.codec.specs.Sets.{member}
 use Rattle.site.specs.Answers.{argumentsIn}
-use Rattle.site.specs.Numbers.{packed, refusal, isMember}
+use Rattle.site.specs.Numbers.{packed, refusal, noValues, isMember}
 use Rattle.site.proofs.Accepted.{participant-refused, participant-taken}
 use Rattle.site.proofs.ByKind.{member-among}
 use Rattle.site.proofs.numbers.participant_step.Statement.{statement}
@@ -20,7 +20,7 @@ number-requires : tie.Need-number-requires
 number-requires c κs = tt
 
 returns : tie.Need-returns
-unfolding packed refusal isMember
+unfolding packed refusal noValues isMember
 returns c =
     let s = c .before .before .before .before in
     let a = argumentsIn (s .args .participant) (s .args .kind) 0 (s .args .participant) (s .args .presumption) (s .args .phase) 0 (s .args .members) (s .args .presume-commit) in

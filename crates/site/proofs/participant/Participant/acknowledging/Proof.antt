@@ -2,7 +2,7 @@ use Rattle.site.specs.Answers.{effectsIn, appending, entering, closing}
 use Rattle.site.specs.Step.{ack, given}
 use Rattle.site.specs.Answers.{presumptionIn, outcomeIn}
 use Rattle.site.specs.Presumption.{acks}
-use Rattle.site.specs.Participant.{acking}
+use Rattle.site.specs.Participant.{acking, acknowledging}
 use Rattle.site.proofs.Sent.{own-sent-if}
 use Rattle.site.proofs.participant.Participant.acknowledging.Statement.{statement}
 use Rattle.site.proofs.participant.Participant.acknowledging.Tie as tie
@@ -17,7 +17,7 @@ own-requires : tie.Need-own-requires
 own-requires c κs = tt
 
 returns : tie.Need-returns
-unfolding effectsIn appending entering closing given acking
+unfolding acknowledging effectsIn appending entering closing given acking
 returns c =
     let s = c .before .before .before in
     let o = outcomeIn (s .args .outcome) in

@@ -7,8 +7,8 @@ use Rattle.site.proofs.participant.Participant.on_prepare.Tie as tie
 enum-told : tie.Need-enum-told
 enum-told c = search needs
 
-preparing-requires : tie.Need-preparing-requires
-preparing-requires c κs = c .before .before .pre
+promising-requires : tie.Need-promising-requires
+promising-requires c κs = c .before .before .pre
 
 enum-told-2 : tie.Need-enum-told-2
 enum-told-2 c = search needs
@@ -33,7 +33,7 @@ voting-requires-3 c κs = c .before .before .pre
 
 returns : tie.Need-returns
 unfolding answered onPrepare
-returns c = rw (c .preparing .ensures, c .before .enum-told .given .1)
+returns c = rw (c .promising .ensures, c .before .enum-told .given .1)
 
 returns-2 : tie.Need-returns-2
 unfolding answered onPrepare
@@ -56,7 +56,7 @@ on-prepare-spec =
     tie.close
     (tie.spec
     enum-told
-    preparing-requires
+    promising-requires
     enum-told-2
     voting-requires
     enum-told-3

@@ -10,7 +10,7 @@ use Rattle.site.proofs.participant.Participant.restart.Statement.{state
 use Rattle.site.proofs.participant.Participant.restart.Tie as tie
 
 returns : tie.Need-returns
-returns c = let s = c .before in rw (no-restart (s .args .self) (omega arith) (hasKind (s .args .kinds)) (c .if1 .taken))
+returns c = let s = c .before in rw (no-restart (s .args .self) (omega arith) (hasKind (s .args .records)) (c .if1 .taken))
 
 has-requires : tie.Need-has-requires
 has-requires c κs = tt
@@ -20,7 +20,7 @@ unfolding participantRestart restartWith effectsIn appending entering closing se
 returns-2 c =
     let s = c .before .before .before in
     rw (
-      restarts (s .args .self) (omega arith) (hasKind (s .args .kinds)) (c .before .before .if1 .left),
+      restarts (s .args .self) (omega arith) (hasKind (s .args .records)) (c .before .before .if1 .left),
       sym (c .before .has .ensures),
       c .if2 .taken,
       ordered-none 0,
@@ -34,7 +34,7 @@ unfolding participantRestart restartWith effectsIn appending entering closing se
 returns-3 c =
     let s = c .before .before .before .before .before in
     rw (
-      restarts (s .args .self) (omega arith) (hasKind (s .args .kinds)) (c .before .before .before .before .if1 .left),
+      restarts (s .args .self) (omega arith) (hasKind (s .args .records)) (c .before .before .before .before .if1 .left),
       sym (c .before .before .before .has .ensures),
       sym (c .before .has2 .ensures),
       c .before .before .if2 .left,
@@ -54,7 +54,7 @@ returns-4 c =
     let s = c .before .before .before .before .before .before .before .before in
     rw (
       c .voting .ensures,
-      restarts (s .args .self) (omega arith) (hasKind (s .args .kinds)) (c .before .before .before .before .before .before .before .if1 .left),
+      restarts (s .args .self) (omega arith) (hasKind (s .args .records)) (c .before .before .before .before .before .before .before .if1 .left),
       sym (c .before .before .before .before .before .before .has .ensures),
       sym (c .before .before .before .before .has2 .ensures),
       sym (c .before .before .has3 .ensures),
@@ -68,7 +68,7 @@ unfolding participantRestart restartWith effectsIn appending entering closing se
 returns-5 c =
     let s = c .before .before .before .before .before .before .before in
     rw (
-      restarts (s .args .self) (omega arith) (hasKind (s .args .kinds)) (c .before .before .before .before .before .before .if1 .left),
+      restarts (s .args .self) (omega arith) (hasKind (s .args .records)) (c .before .before .before .before .before .before .if1 .left),
       sym (c .before .before .before .before .before .has .ensures),
       sym (c .before .before .before .has2 .ensures),
       sym (c .before .has3 .ensures),

@@ -3,11 +3,11 @@ use native.Mathlib.Omega.{arith}
 use Rattle.site.specs.Answers.{hasKind}
 use Rattle.site.proofs.Phased.{no-kind}
 use borrow.Author.Needs.{needs}
-use Rattle.site.proofs.kinds.has.Statement.{statement}
-use Rattle.site.proofs.kinds.has.Tie as tie
+use Rattle.site.proofs.record_kinds.has.Statement.{statement}
+use Rattle.site.proofs.record_kinds.has.Tie as tie
 
 returns : tie.Need-returns
-returns c = sym (no-kind (c .before .args .kinds) (c .before .args .kind) (omega arith) (c .if1 .taken))
+returns c = sym (no-kind (c .before .args .records) (c .before .args .kind) (omega arith) (c .if1 .taken))
 
 shr-result : tie.Need-shr-result
 shr-result c = search needs

@@ -1,9 +1,10 @@
 use Rattle.site.specs.Answers.{effectsIn, appending, entering, closing}
 use Rattle.codec.specs.Records.{lengths, lengthOf}
+use Rattle.site.specs.Participant.{promising}
 use Rattle.site.specs.Step.{voteYes, messageKind, given}
 use Rattle.site.proofs.Sent.{own-sent}
-use Rattle.site.proofs.participant.Participant.preparing.Statement.{statement}
-use Rattle.site.proofs.participant.Participant.preparing.Tie as tie
+use Rattle.site.proofs.participant.Participant.promising.Statement.{statement}
+use Rattle.site.proofs.participant.Participant.promising.Tie as tie
 
 number-requires : tie.Need-number-requires
 number-requires c κs = tt
@@ -12,10 +13,10 @@ own-requires : tie.Need-own-requires
 own-requires c κs = tt
 
 returns : tie.Need-returns
-unfolding effectsIn appending entering closing given lengths lengthOf messageKind
+unfolding promising effectsIn appending entering closing given lengths lengthOf messageKind
 returns c =
     let s = c .before .before in
     rw (c .own .ensures, c .before .number .ensures, own-sent voteYes (s .args .self .number) (s .pre))
 
-pub preparing-spec : {M : Type 1} → statement M
-preparing-spec = tie.close (tie.spec number-requires own-requires returns)
+pub promising-spec : {M : Type 1} → statement M
+promising-spec = tie.close (tie.spec number-requires own-requires returns)
