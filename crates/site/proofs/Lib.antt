@@ -6,3 +6,4 @@ mod NoRow
 mod ByKind
 mod Summed
 mod Accepted
+mod Done

@@ -13,13 +13,13 @@ use Rattle.site.specs.Step.{tell, Effect, append, enter, send, given}
 use Rattle.site.specs.Cohort.{Cohort, owing}
 use Rattle.site.specs.Coordinator.{endRecord, inOrder, tellAll}
 use Rattle.site.specs.Participant.{outcomeRecord}
-use Rattle.site.specs.Numbers.{outcomeNumber}
-use Rattle.site.specs.Answers.{appending, entering, closing}
+use Rattle.site.specs.Numbers.{outcomeNumber, entryOf}
+use Rattle.site.specs.Answers.{appending, closing}
 use Rattle.site.specs.Inside.{Numbered}
 use Rattle.site.proofs.Sent.{ordered-none, ordered-one}
 
-pub entering-outcome : (o : Outcome) → entering (outcomeNumber o) ≡ enter o ∷ []
-unfolding entering outcomeNumber
+pub entering-outcome : (o : Outcome) → entryOf (outcomeNumber o) ≡ enter o ∷ []
+unfolding entryOf outcomeNumber
 entering-outcome commit = refl
 entering-outcome abort = refl
 

@@ -15,8 +15,8 @@ use Rattle.codec.specs.Sets.{participants, member, listed}
 use Rattle.codec.specs.laws.Tests.{below-at}
 use Rattle.site.specs.Step.{Message, prepare, messages, messageKind, Effect, append, force, send, given}
 use Rattle.site.specs.Coordinator.{inTurn, ordered}
-use Rattle.site.specs.Numbers.{Summary, outcomeNumber, summary}
-use Rattle.site.specs.Answers.{appending, entering, closing, sending, effectsIn}
+use Rattle.site.specs.Numbers.{Summary, outcomeNumber, summary, entryOf}
+use Rattle.site.specs.Answers.{appending, closing, sending, effectsIn}
 use Rattle.site.specs.declared.effects.Effects.{Effects}
 
 -- one of two numbers
@@ -26,7 +26,7 @@ chosen b x y r (inr h) = rw (h .0) (h .1)
 
 -- ---- the set that a list of participants is
 
-abbrev weight : List ℕ → ℕ
+abbrev pub weight : List ℕ → ℕ
 weight [] = 0
 weight (p ∷ ps) = 2 ^ (p - 1) + weight ps
 
@@ -49,7 +49,7 @@ weight-listed : (to : ℕ) → to < 256 → weight (listed to) ≡ to
 unfolding listed select participants member
 weight-listed to h = eqb→eq _ _ (below-at 256 (λ to. eqb (weight (listed to)) to) tt to h)
 
-weight-ordered : (first to : ℕ) → to < 256 → weight (ordered first to) ≡ to
+pub weight-ordered : (first to : ℕ) → to < 256 → weight (ordered first to) ≡ to
 unfolding ordered inTurn
 weight-ordered first to h =
     weight-both (select (λ p. member p first) (listed to)) (select (λ p. not (member p first)) (listed to))
@@ -58,19 +58,19 @@ weight-ordered first to h =
 
 -- ---- what sends add up to, and a last record behind them
 
-abbrev kindOf : Message → List ℕ → ℕ
+abbrev pub kindOf : Message → List ℕ → ℕ
 kindOf m [] = 0
 kindOf m (p ∷ ps) = messageKind m
 
-abbrev sends : ℕ → ℕ → ℕ → Summary
+abbrev pub sends : ℕ → ℕ → ℕ → Summary
 sends last kind to = record { appended = last; forced = 0; entered = 0; message = kind; to = to }
 
-sum-bare : (m : Message) (ps : List ℕ) → summary (map (send m) ps) ≡ sends 0 (kindOf m ps) (weight ps)
+pub sum-bare : (m : Message) (ps : List ℕ) → summary (map (send m) ps) ≡ sends 0 (kindOf m ps) (weight ps)
 unfolding summary
 sum-bare m [] = refl
 sum-bare m (p ∷ ps) = rw (sum-bare m ps) refl
 
-sum-ended : (m : Message) (l : ℕ) (ps : List ℕ) → summary (map (send m) ps ++ append l [] ∷ []) ≡ sends l (kindOf m ps) (weight ps)
+pub sum-ended : (m : Message) (l : ℕ) (ps : List ℕ) → summary (map (send m) ps ++ append l [] ∷ []) ≡ sends l (kindOf m ps) (weight ps)
 unfolding summary
 sum-ended m l [] = refl
 sum-ended m l (p ∷ ps) = rw (sum-ended m l ps) refl
@@ -115,25 +115,25 @@ sum-sending l kind first to h = by (leb kind 6) refl
 
 -- ---- the effects before
 
-abbrev withEntered : Summary → ℕ → Summary
+abbrev pub withEntered : Summary → ℕ → Summary
 withEntered x n = record { appended = x .appended; forced = x .forced; entered = n; message = x .message; to = x .to }
 
-sum-entering : (n : ℕ) (es : List Effect) → summary es .entered ≡ 0 → summary (entering n ++ es) ≡ withEntered (summary es) (cond (leb n 2) n 0)
-unfolding entering summary outcomeNumber
+pub sum-entering : (n : ℕ) (es : List Effect) → summary es .entered ≡ 0 → summary (entryOf n ++ es) ≡ withEntered (summary es) (cond (leb n 2) n 0)
+unfolding entryOf summary outcomeNumber
 sum-entering zero es e = ap (withEntered (summary es)) e
 sum-entering (suc zero) es e = refl
 sum-entering (suc (suc zero)) es e = refl
 sum-entering (suc (suc (suc n))) es e = rw (lt-leb (suc (suc (suc n))) 2 (omega arith)) (ap (withEntered (summary es)) e)
 
-abbrev withForced : Summary → ℕ → Summary
+abbrev pub withForced : Summary → ℕ → Summary
 withForced x n = record { appended = x .appended; forced = n; entered = x .entered; message = x .message; to = x .to }
 
-sum-forcing : (b : Bool) (es : List Effect) → summary es .forced ≡ 0 → summary (given b (force ∷ []) ++ es) ≡ withForced (summary es) (cond b 1 0)
+pub sum-forcing : (b : Bool) (es : List Effect) → summary es .forced ≡ 0 → summary (given b (force ∷ []) ++ es) ≡ withForced (summary es) (cond b 1 0)
 unfolding given summary
 sum-forcing true es e = refl
 sum-forcing false es e = ap (withForced (summary es)) e
 
-abbrev withAppended : Summary → ℕ → Summary
+abbrev pub withAppended : Summary → ℕ → Summary
 withAppended x n = record { appended = n; forced = x .forced; entered = x .entered; message = x .message; to = x .to }
 
 sum-appending : (k : ℕ) (fs : List ℕ) (es : List Effect) → summary (appending k fs ++ es) ≡ withAppended (summary es) (cond (eqb k 0) (summary es .appended) k)
@@ -155,6 +155,6 @@ summed e h =
     let tail = closing (e .last) (sending (e .message) (e .owing) (e .to)) in
     let x = sum-sending (e .last) (e .message) (e .owing) (e .to) h in
     let y = sum-entering (e .entered) tail (ap (λ (s : Summary). s .entered) x) in
-    let z = sum-forcing (e .forced) (entering (e .entered) ++ tail) (ap (λ (s : Summary). s .forced) y ∙ ap (λ (s : Summary). s .forced) x) in
+    let z = sum-forcing (e .forced) (entryOf (e .entered) ++ tail) (ap (λ (s : Summary). s .forced) y ∙ ap (λ (s : Summary). s .forced) x) in
     let fields = take (lengthOf (e .appended) - 2) (e .first ∷ e .second ∷ []) in
-    rw (sum-appending (e .appended) fields (given (e .forced) (force ∷ []) ++ (entering (e .entered) ++ tail)), z, y, x)
+    rw (sum-appending (e .appended) fields (given (e .forced) (force ∷ []) ++ (entryOf (e .entered) ++ tail)), z, y, x)

@@ -7,7 +7,7 @@ use lib.Dec.{eqb, leb}
 use Rattle.codec.specs.Records.{lengthOf}
 use Rattle.site.specs.Presumption as plain
 use Rattle.site.specs.Cohort.{Cohort}
-use Rattle.site.specs.Step.{prepare, messages, Effect, append, force, enter, send, Row, given, Answer, refused, noRow, row}
+use Rattle.site.specs.Step.{prepare, messages, Effect, append, force, send, Row, given, Answer, refused, noRow, row}
 use Rattle.site.specs.Coordinator as plain-coordinator
 use Rattle.site.specs.Coordinator.{ordered}
 use Rattle.site.specs.Participant as plain-participant
@@ -68,9 +68,6 @@ unfoldable pub appending : ℕ → List ℕ → List Effect
 appending zero fs = []
 appending (suc k) fs = append (suc k) fs ∷ []
 
-unfoldable pub entering : ℕ → List Effect
-entering n = getD ([] ∷ (enter plain.commit ∷ []) ∷ (enter plain.abort ∷ []) ∷ []) n []
-
 unfoldable pub sending : ℕ → ℕ → ℕ → List Effect
 sending kind owing to = given (leb kind 6) (map (send (getD messages kind prepare)) (ordered owing to))
 
@@ -82,7 +79,7 @@ closing (suc k) es = es ++ append (suc k) [] ∷ []
 unfoldable pub effectsIn : Effects → List Effect
 effectsIn e =
     appending (e .appended) (take (lengthOf (e .appended) - 2) (e .first ∷ e .second ∷ []))
-    ++ (given (e .forced) (force ∷ []) ++ (entering (e .entered) ++ closing (e .last) (sending (e .message) (e .owing) (e .to))))
+    ++ (given (e .forced) (force ∷ []) ++ (numbers.entryOf (e .entered) ++ closing (e .last) (sending (e .message) (e .owing) (e .to))))
 
 abbrev pub summaryIn : Summary → numbers.Summary
 summaryIn x = record { appended = x .appended; forced = x .forced; entered = x .entered; message = x .message; to = x .to }

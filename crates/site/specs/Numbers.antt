@@ -1,16 +1,16 @@
 -- One site's step on numbers, as the lock controllers' firmware calls it. Phases count from 0 in 01's order.
 use Prim.Native.Nat.{ℕ, zero, suc, _+_, _*_, _^_, _-_}
 use mathlib.Core.Bool.{Bool, false, cond, not, _&&_, _||_}
-use mathlib.Core.List.{List, [], _∷_}
+use mathlib.Core.List.{List, [], _∷_, _++_, map}
 use mathlib.Core.Option.{some}
 use lib.ListN.{getD}
 use lib.Dec.{eqb, leb}
 use Rattle.codec.specs.Lists.{any, every}
 use Rattle.codec.specs.Sets.{participants, member, empty, part}
 use Rattle.site.specs.Presumption.{Outcome, commit, abort, Presumption, presumptionNumber}
-use Rattle.site.specs.Step.{prepare, messages, messageKind, Input, begin, timer, received, Effect, append, force, enter, send, Answer, refused, noRow, row, answerNumber, answered, answerIf}
-use Rattle.site.specs.Cohort.{Cohort, presumptionOf, owing}
-use Rattle.site.specs.Coordinator.{Coordinator, initial, collecting, awaitingAcks, coordinatorStep}
+use Rattle.site.specs.Step.{prepare, messages, messageKind, given, Input, begin, timer, received, Effect, append, force, enter, send, Answer, refused, noRow, row, answerNumber, answered, answerIf}
+use Rattle.site.specs.Cohort.{Cohort, masksOf, presumptionOf, owing}
+use Rattle.site.specs.Coordinator.{Coordinator, ordered, initial, collecting, awaitingAcks, coordinatorStep}
 use Rattle.site.specs.Participant.{Participant, working, prepared, decided, participantStep, participantRestart}
 
 -- ---- phases, waiting sets and inputs as numbers
@@ -193,6 +193,34 @@ stepAt (suc n) a =
 
 unfoldable pub siteStep : Arguments → List ℕ
 siteStep a = cond (argumentsInRange a) (stepAt (a .site) a) refusal
+
+-- ---- what firmware does with the row's numbers (include/dpr.h)
+
+-- the fields of a record that a step appends: 1 and 2 the masks, 5 the presumption, the others none
+unfoldable pub fieldsOf : Arguments → ℕ → List ℕ
+fieldsOf a kind =
+    let masks = masksOf (a .cohort) in
+    getD ([] ∷ masks ∷ masks ∷ [] ∷ [] ∷ (a .presumption ∷ []) ∷ []) kind []
+
+-- an outcome goes first to those that owe an ack for it
+unfoldable pub goFirst : Cohort → ℕ → ℕ
+goFirst g kind = getD (0 ∷ 0 ∷ 0 ∷ owing g commit ∷ owing g abort ∷ []) kind 0
+
+unfoldable pub entryOf : ℕ → List Effect
+entryOf n = getD ([] ∷ (enter commit ∷ []) ∷ (enter abort ∷ []) ∷ []) n []
+
+unfoldable pub recordDone : Arguments → ℕ → List Effect
+recordDone a zero = []
+recordDone a (suc k) = append (suc k) (fieldsOf a (suc k)) ∷ []
+
+unfoldable pub othersDone : Arguments → Summary → List Effect
+othersDone a x =
+    given (eqb (x .forced) 1) (force ∷ [])
+    ++ (entryOf (x .entered) ++ map (send (getD messages (x .message) prepare)) (ordered (goFirst (a .cohort) (x .message)) (x .to)))
+
+-- append, force, enter, send; a record 4 is appended last
+unfoldable pub done : Arguments → Summary → List Effect
+done a x = cond (eqb (x .appended) 4) (othersDone a x ++ recordDone a (x .appended)) (recordDone a (x .appended) ++ othersDone a x)
 
 -- the result of the C call: eight bytes in one number, the first lowest
 unfoldable pub packed : List ℕ → ℕ

@@ -1,6 +1,7 @@
 use Rattle.codec.specs.Sets.{empty}
 use borrow.Author.Tests.{ne-eqb}
-use Rattle.site.specs.Answers.{effectsIn, appending, entering, closing, sending}
+use Rattle.site.specs.Answers.{effectsIn, appending, closing, sending}
+use Rattle.site.specs.Numbers.{entryOf}
 use Rattle.site.specs.Answers.{outcomeIn}
 use Rattle.site.specs.Step.{messages, given}
 use Rattle.site.specs.Coordinator.{acked}
@@ -13,14 +14,14 @@ end-record-requires : tie.Need-end-record-requires
 end-record-requires c κs = tt
 
 returns : tie.Need-returns
-unfolding acked empty effectsIn entering closing sending messages given
+unfolding acked empty effectsIn entryOf closing sending messages given
 returns c = rw (c .end-record .ensures, c .before .if1 .taken, end-appended (outcomeIn (c .before .before .args .outcome)) 0 0, ordered-none 0)
 
 awaiting-requires : tie.Need-awaiting-requires
 awaiting-requires c κs = tt
 
 returns-2 : tie.Need-returns-2
-unfolding acked empty effectsIn appending entering closing sending messages given
+unfolding acked empty effectsIn appending entryOf closing sending messages given
 returns-2 c = rw (c .awaiting .ensures, ne-eqb (c .before .before .args .waiting) 0 (c .before .if1 .left), ordered-none 0)
 
 pub acked-spec : {M : Type 1} → statement M

@@ -1,7 +1,8 @@
 use mathlib.Core.Bool.{not, _&&_}
 use mathlib.Core.Logic.{inl, inr, ⊎-elim}
 use lib.Dec.{eqb}
-use Rattle.site.specs.Answers.{effectsIn, appending, entering, sending}
+use Rattle.site.specs.Answers.{effectsIn, appending, sending}
+use Rattle.site.specs.Numbers.{entryOf}
 use Rattle.codec.specs.Sets.{empty}
 use Rattle.site.specs.Step.{messages, given}
 use Rattle.site.specs.Coordinator.{aborting, tellAll, inOrder}
@@ -19,7 +20,7 @@ until-acked-requires : tie.Need-until-acked-requires
 until-acked-requires c κs = tt
 
 returns : tie.Need-returns
-unfolding aborting tellAll inOrder empty effectsIn appending entering sending messages given
+unfolding aborting tellAll inOrder empty effectsIn appending entryOf sending messages given
 returns c =
     let s = c .before .before .before .before .args in
     let w = c .before .before .both .result in

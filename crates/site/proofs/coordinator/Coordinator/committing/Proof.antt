@@ -1,4 +1,5 @@
-use Rattle.site.specs.Answers.{effectsIn, appending, entering, closing, sending}
+use Rattle.site.specs.Answers.{effectsIn, appending, closing, sending}
+use Rattle.site.specs.Numbers.{entryOf}
 use Rattle.codec.specs.Records.{lengths, lengthOf}
 use Rattle.site.specs.Step.{messages, given}
 use Rattle.site.specs.Cohort.{masksOf}
@@ -13,7 +14,7 @@ until-acked-requires : tie.Need-until-acked-requires
 until-acked-requires c κs = tt
 
 returns : tie.Need-returns
-unfolding effectsIn appending entering closing sending lengths lengthOf messages given masksOf committing tellAll inOrder
+unfolding effectsIn appending entryOf closing sending lengths lengthOf messages given masksOf committing tellAll inOrder
 returns c = rw (c .until-acked .ensures, c .before .owing .ensures)
 
 pub committing-spec : {M : Type 1} → statement M

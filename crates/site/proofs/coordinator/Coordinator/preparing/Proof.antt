@@ -1,4 +1,5 @@
-use Rattle.site.specs.Answers.{effectsIn, appending, entering, closing, sending}
+use Rattle.site.specs.Answers.{effectsIn, appending, closing, sending}
+use Rattle.site.specs.Numbers.{entryOf}
 use Rattle.codec.specs.Records.{lengths, lengthOf}
 use Rattle.site.specs.Step.{messages, given}
 use Rattle.site.specs.Cohort.{masksOf}
@@ -9,11 +10,11 @@ use Rattle.site.proofs.coordinator.Coordinator.preparing.Statement.{sta
 use Rattle.site.proofs.coordinator.Coordinator.preparing.Tie as tie
 
 returns : tie.Need-returns
-unfolding preparing empty masksOf effectsIn appending entering closing sending lengths lengthOf messages given
+unfolding preparing empty masksOf effectsIn appending entryOf closing sending lengths lengthOf messages given
 returns c = rw (c .if1 .taken, ordered-by-turn (c .before .args .self .members))
 
 returns-2 : tie.Need-returns-2
-unfolding preparing empty masksOf effectsIn appending entering closing sending lengths lengthOf messages given
+unfolding preparing empty masksOf effectsIn appending entryOf closing sending lengths lengthOf messages given
 returns-2 c = rw (c .if1 .left, ordered-by-turn (c .before .args .self .members))
 
 pub preparing-spec : {M : Type 1} → statement M

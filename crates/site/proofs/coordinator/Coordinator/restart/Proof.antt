@@ -1,6 +1,7 @@
 use mathlib.Core.Path.{sym}
 use mathlib.Core.Logic.{inl, inr, ⊎-elim}
-use Rattle.site.specs.Answers.{effectsIn, appending, entering, closing, sending}
+use Rattle.site.specs.Answers.{effectsIn, appending, closing, sending}
+use Rattle.site.specs.Numbers.{entryOf}
 use Rattle.site.specs.Answers.{cohortIn}
 use Rattle.site.specs.Step.{messages, given}
 use Rattle.site.specs.Coordinator.{restartFrom, coordinatorRestart}
@@ -60,7 +61,7 @@ returns-2 c =
     )
 
 returns-3 : tie.Need-returns-3
-unfolding coordinatorRestart restartFrom effectsIn appending entering closing sending messages given
+unfolding coordinatorRestart restartFrom effectsIn appending entryOf closing sending messages given
 returns-3 c =
     let h = c .before .before in
     rw (

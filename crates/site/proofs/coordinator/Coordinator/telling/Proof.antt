@@ -1,4 +1,5 @@
-use Rattle.site.specs.Answers.{effectsIn, appending, entering, closing}
+use Rattle.site.specs.Answers.{effectsIn, appending, closing}
+use Rattle.site.specs.Numbers.{entryOf}
 use Rattle.site.specs.Answers.{outcomeIn}
 use Rattle.site.specs.Step.{tell, given}
 use Rattle.site.specs.Coordinator.{tellAll, inOrder}
@@ -13,7 +14,7 @@ owing-requires : tie.Need-owing-requires
 owing-requires c κs = tt
 
 returns : tie.Need-returns
-unfolding effectsIn appending entering closing given tellAll inOrder
+unfolding effectsIn appending entryOf closing given tellAll inOrder
 returns c = rw (c .before .message .ensures, c .owing .ensures, sending-kind (tell (outcomeIn (c .before .before .args .outcome))))
 
 pub telling-spec : {M : Type 1} → statement M

@@ -1,6 +1,7 @@
 use Rattle.codec.specs.Sets.{empty}
 use borrow.Author.Tests.{ne-eqb}
-use Rattle.site.specs.Answers.{effectsIn, appending, entering, closing, sending}
+use Rattle.site.specs.Answers.{effectsIn, appending, closing, sending}
+use Rattle.site.specs.Numbers.{entryOf}
 use Rattle.site.specs.Step.{messages, given}
 use Rattle.site.specs.Coordinator.{voted}
 use Rattle.site.proofs.Sent.{ordered-none}
@@ -15,7 +16,7 @@ unfolding voted empty
 returns c = rw (c .committing .ensures, c .before .if1 .taken)
 
 returns-2 : tie.Need-returns-2
-unfolding voted empty effectsIn appending entering closing sending messages given
+unfolding voted empty effectsIn appending entryOf closing sending messages given
 returns-2 c = rw (ne-eqb (c .before .args .waiting) 0 (c .if1 .left), ordered-none 0)
 
 pub voted-spec : {M : Type 1} → statement M

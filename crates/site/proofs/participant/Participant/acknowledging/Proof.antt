@@ -1,4 +1,5 @@
-use Rattle.site.specs.Answers.{effectsIn, appending, entering, closing}
+use Rattle.site.specs.Answers.{effectsIn, appending, closing}
+use Rattle.site.specs.Numbers.{entryOf}
 use Rattle.site.specs.Step.{ack, given}
 use Rattle.site.specs.Answers.{presumptionIn, outcomeIn}
 use Rattle.site.specs.Presumption.{acks}
@@ -17,7 +18,7 @@ own-requires : tie.Need-own-requires
 own-requires c κs = tt
 
 returns : tie.Need-returns
-unfolding acknowledging effectsIn appending entering closing given acking
+unfolding acknowledging effectsIn appending entryOf closing given acking
 returns c =
     let s = c .before .before .before in
     let o = outcomeIn (s .args .outcome) in

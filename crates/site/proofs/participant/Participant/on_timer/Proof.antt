@@ -1,4 +1,5 @@
-use Rattle.site.specs.Answers.{effectsIn, appending, entering, closing, sending}
+use Rattle.site.specs.Answers.{effectsIn, appending, closing, sending}
+use Rattle.site.specs.Numbers.{entryOf}
 use Rattle.site.specs.Step.{messages, given, answered}
 use Rattle.site.specs.Answers.{presumptionIn}
 use Rattle.site.specs.Participant.{participantTimer}
@@ -18,7 +19,7 @@ voting-requires : tie.Need-voting-requires
 voting-requires c κs = search needs
 
 returns : tie.Need-returns
-unfolding answered participantTimer effectsIn appending entering closing sending messages given
+unfolding answered participantTimer effectsIn appending entryOf closing sending messages given
 returns c = rw (c .enum-told .given .1, ordered-none 0)
 
 returns-2 : tie.Need-returns-2

@@ -1,4 +1,5 @@
-use Rattle.site.specs.Answers.{effectsIn, appending, entering, closing}
+use Rattle.site.specs.Answers.{effectsIn, appending, closing}
+use Rattle.site.specs.Numbers.{entryOf}
 use Rattle.codec.specs.Records.{lengths, lengthOf}
 use Rattle.site.specs.Participant.{promising}
 use Rattle.site.specs.Step.{voteYes, messageKind, given}
@@ -13,7 +14,7 @@ own-requires : tie.Need-own-requires
 own-requires c κs = tt
 
 returns : tie.Need-returns
-unfolding promising effectsIn appending entering closing given lengths lengthOf messageKind
+unfolding promising effectsIn appending entryOf closing given lengths lengthOf messageKind
 returns c =
     let s = c .before .before in
     rw (c .own .ensures, c .before .number .ensures, own-sent voteYes (s .args .self .number) (s .pre))

@@ -1,7 +1,8 @@
 use mathlib.Core.Path.{sym}
 use native.Mathlib.Omega.{arith}
 use Rattle.codec.specs.laws.Members.{numbered}
-use Rattle.site.specs.Answers.{hasKind, effectsIn, appending, entering, closing, sending}
+use Rattle.site.specs.Answers.{hasKind, effectsIn, appending, closing, sending}
+use Rattle.site.specs.Numbers.{entryOf}
 use Rattle.site.specs.Step.{messages, given}
 use Rattle.site.specs.Participant.{restartWith, participantRestart}
 use Rattle.site.proofs.Sent.{ordered-none}
@@ -16,7 +17,7 @@ has-requires : tie.Need-has-requires
 has-requires c κs = tt
 
 returns-2 : tie.Need-returns-2
-unfolding participantRestart restartWith effectsIn appending entering closing sending messages given
+unfolding participantRestart restartWith effectsIn appending entryOf closing sending messages given
 returns-2 c =
     let s = c .before .before .before in
     rw (
@@ -30,7 +31,7 @@ has-requires-2 : tie.Need-has-requires-2
 has-requires-2 c κs = tt
 
 returns-3 : tie.Need-returns-3
-unfolding participantRestart restartWith effectsIn appending entering closing sending messages given
+unfolding participantRestart restartWith effectsIn appending entryOf closing sending messages given
 returns-3 c =
     let s = c .before .before .before .before .before in
     rw (
@@ -64,7 +65,7 @@ returns-4 c =
     )
 
 returns-5 : tie.Need-returns-5
-unfolding participantRestart restartWith effectsIn appending entering closing sending messages given
+unfolding participantRestart restartWith effectsIn appending entryOf closing sending messages given
 returns-5 c =
     let s = c .before .before .before .before .before .before .before in
     rw (

@@ -1,5 +1,6 @@
 use mathlib.Core.Logic.{inl, inr, ⊎-elim}
-use Rattle.site.specs.Answers.{effectsIn, appending, entering, closing}
+use Rattle.site.specs.Answers.{effectsIn, appending, closing}
+use Rattle.site.specs.Numbers.{entryOf}
 use Rattle.site.specs.Step.{given}
 use Rattle.site.specs.Participant.{voting}
 use Rattle.site.proofs.Sent.{vote-sent}
@@ -10,7 +11,7 @@ own-requires : tie.Need-own-requires
 own-requires c κs = tt
 
 returns : tie.Need-returns
-unfolding voting effectsIn appending entering closing given
+unfolding voting effectsIn appending entryOf closing given
 returns c =
     let s = c .before .before in
     let v = vote-sent (s .args .yes) (c .before .if1 .effects) (s .args .self .number) (s .pre) (⊎-elim (λ h. inl (h .0 .taken, h .1)) (λ h. inr (h .0 .left, h .1)) (c .before .if1 .came)) in
