@@ -1,13 +1,13 @@
 -- The steps by the kind's number, from what the program has tested. Assumes nothing.
-use mathlib.Core.Path.{_≡_, refl, ap, sym, _∙_}
-use mathlib.Core.Bool.{Bool, true, false, not, _||_, and-false, false≢true}
+use mathlib.Core.Path.{_≡_, ap, sym, _∙_}
+use mathlib.Core.Bool.{Bool, true, false, not, _||_, and-false}
 use Prim.Native.Nat.{ℕ, _<_}
 use lib.Dec.{eqb, leb}
 use borrow.Author.Tests.{ne-eqb, not-true, not-false}
 use Rattle.codec.specs.Lists.{any}
 use Rattle.codec.specs.Sets.{participants, member}
 use Rattle.codec.specs.laws.Tests.{alike, alike-eq, below-at}
-use Rattle.codec.specs.laws.Members.{noParticipant, no-member}
+use Rattle.codec.specs.laws.Members.{noParticipant, member-participant}
 use Rattle.site.specs.Step.{refused, row, answered, answerIf}
 use Rattle.site.specs.Coordinator.{coordinatorStep}
 use Rattle.site.specs.Participant.{participantStep, participantRestart}
@@ -49,11 +49,7 @@ among p h = alike-eq _ _ (below-at 256 (λ p. alike (any (eqb p) participants) (
 
 -- a member is a participant
 pub member-among : (p m : ℕ) → p < 256 → m < 256 → member p m ≡ true → any (eqb p) participants ≡ true
-member-among p m hp hm e = by (noParticipant p) refl
-  where
-    by : (b : Bool) → noParticipant p ≡ b → any (eqb p) participants ≡ true
-    by true n = absurd (false≢true (sym (no-member p m hm n) ∙ e))
-    by false n = among p hp ∙ ap not n
+member-among p m hp hm e = among p hp ∙ ap not (member-participant p m hm e)
 
 module _ (x : Participant) (h : x .number < 256) where
   pub no-participant : (kind : ℕ) → noParticipant (x .number) ≡ true

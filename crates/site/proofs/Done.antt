@@ -1,33 +1,24 @@
--- The numbers of a row tell firmware all that the row does: done in the header's order they are the row's effects. Assumes nothing.
+-- The numbers of a row tell firmware all that the row does: done in the header's order they are the row's effects, row by row. Assumes nothing.
 use mathlib.Core.Path.{_≡_, refl, ap, sym, _∙_}
 use mathlib.Core.Bool.{Bool, true, false, cond, not, _&&_}
 use mathlib.Core.List.{List, [], _∷_, _++_, map, append-nil, append-assoc}
 use mathlib.Core.Option.{some}
-use Prim.Native.Nat.{ℕ, zero, suc, _<_, _≤_}
+use Prim.Native.Nat.{ℕ, _<_}
 use native.Mathlib.Omega.{arith}
 use lib.ListN.{getD}
 use lib.Dec.{eqb, leb}
 use borrow.Author.Tests.{le-leb}
-use Rattle.codec.specs.Sets.{participants, member, empty, bits, those, without, both, only}
+use Rattle.codec.specs.Sets.{member, empty, without, both, only}
+use Rattle.codec.specs.laws.Masks.{those-below}
 use Rattle.site.specs.Presumption.{Outcome, commit, abort, silence, sameOutcome, Presumption, acks, presumptionNumber}
 use Rattle.site.specs.Cohort.{Cohort, presumptionOf, owing, masksOf}
 use Rattle.site.specs.Step.{Message, prepare, voteYes, voteNo, tell, ack, messages, messageKind, Effect, append, force, enter, send, given, Input, begin, timer, received, Row}
 use Rattle.site.specs.Coordinator.{ordered, tellAll, inOrder, preparing, committing, aborting, telling, endRecord, voted, onYes, onNo, coordinatorTimer, acked, ackedIf, onAck, onBegin, coordinatorStep, Coordinator}
 use Rattle.site.specs.Participant.{outcomeRecord, voting, promising, onPrepare, acking, finish, acknowledging, ackingIf, onTell, participantTimer, participantStep, Participant, working, prepared, decided}
-use Rattle.site.specs.Numbers.{Arguments, waitingSet, Summary, summary, fieldsOf, goFirst, entryOf, recordDone, othersDone, done}
+use Rattle.site.specs.Numbers.{Arguments, waitingSet, Summary, summary, fieldsOf, goFirst, entryOf, appending, othersDone, done}
 use Rattle.site.specs.Inside.{Numbered}
-use Rattle.site.proofs.Sent.{ordered-by-turn, ordered-none, ordered-one}
-use Rattle.site.proofs.Summed.{weight, weight-ordered, kindOf, sum-bare, sum-ended, withEntered, withForced, withAppended, sum-entering, sum-forcing}
-
-kind-back : (m : Message) → getD messages (messageKind m) prepare ≡ m
-unfolding messages messageKind
-kind-back prepare = refl
-kind-back voteYes = refl
-kind-back voteNo = refl
-kind-back (tell commit) = refl
-kind-back (tell abort) = refl
-kind-back (ack commit) = refl
-kind-back (ack abort) = refl
+use Rattle.site.proofs.Sent.{kind-known, ordered-by-turn, ordered-none, ordered-one}
+use Rattle.site.proofs.Summed.{weight, weight-ordered, kindOf, sum-bare, sum-ended, withEntered, withForced, withAppended, sum-entering, sum-forcing, sum-appending, or-zero-first}
 
 -- messages to a set, by their kind and the set
 module _ (g : Cohort) (m : Message) where
@@ -36,7 +27,7 @@ module _ (g : Cohort) (m : Message) where
   back first to h e [] q = rw (ordered-none (goFirst g 0))
   back first to h e (p ∷ ps) q =
       let w : weight (p ∷ ps) ≡ to = rw q at (weight-ordered first to h) in
-      rw (w, e, q, kind-back m)
+      rw (w, e, q, kind-known m .1)
 
 -- ---- rows
 
@@ -63,22 +54,20 @@ module _ (a : Arguments) (f : Bool) (n : ℕ) (small : n < 3) where
 
   sum-first : (k : ℕ) (tail : List Effect) → summary tail .appended ≡ 0
       → summary (given f (force ∷ []) ++ (entryOf n ++ tail)) ≡ withForced (withEntered (summary tail) n) (cond f 1 0)
-      → summary (recordDone a k ++ (given f (force ∷ []) ++ (entryOf n ++ tail))) ≡ withAppended (withForced (withEntered (summary tail) n) (cond f 1 0)) k
-  unfolding recordDone summary
-  sum-first zero tail z x = x ∙ ap (withAppended (withForced (withEntered (summary tail) n) (cond f 1 0))) z
-  sum-first (suc k) tail z x = rw x refl
+      → summary (appending k (fieldsOf a k) ++ (given f (force ∷ []) ++ (entryOf n ++ tail))) ≡ withAppended (withForced (withEntered (summary tail) n) (cond f 1 0)) k
+  sum-first k tail z x = sum-appending k (fieldsOf a k) (given f (force ∷ []) ++ (entryOf n ++ tail)) ∙ rw (x, z, or-zero-first k) refl
 
   -- a record first
   record-done : (k : ℕ) (tail : List Effect) → eqb k 4 ≡ false → summary tail .appended ≡ 0 → summary tail .forced ≡ 0 → summary tail .entered ≡ 0
       → sentBy a (summary tail) ≡ tail
-      → done a (summary (recordDone a k ++ (given f (force ∷ []) ++ (entryOf n ++ tail)))) ≡ recordDone a k ++ (given f (force ∷ []) ++ (entryOf n ++ tail))
+      → done a (summary (appending k (fieldsOf a k) ++ (given f (force ∷ []) ++ (entryOf n ++ tail)))) ≡ appending k (fieldsOf a k) ++ (given f (force ∷ []) ++ (entryOf n ++ tail))
   unfolding done othersDone
   record-done k tail r z e d b = rw (sum-first k tail z (sum-before tail e d), r, force-back, b)
 
   -- a record first, then messages to a set
   sends-done : (k : ℕ) (m : Message) (first to : ℕ) → eqb k 4 ≡ false → to < 256 → goFirst (a .cohort) (messageKind m) ≡ first
-      → done a (summary (recordDone a k ++ (given f (force ∷ []) ++ (entryOf n ++ map (send m) (ordered first to)))))
-      ≡ recordDone a k ++ (given f (force ∷ []) ++ (entryOf n ++ map (send m) (ordered first to)))
+      → done a (summary (appending k (fieldsOf a k) ++ (given f (force ∷ []) ++ (entryOf n ++ map (send m) (ordered first to)))))
+      ≡ appending k (fieldsOf a k) ++ (given f (force ∷ []) ++ (entryOf n ++ map (send m) (ordered first to)))
   sends-done k m first to r h e =
       let ps = ordered first to in
       let x = sum-bare m ps in
@@ -87,7 +76,7 @@ module _ (a : Arguments) (f : Bool) (n : ℕ) (small : n < 3) where
 
   -- and no messages
   alone-done : (k : ℕ) → eqb k 4 ≡ false
-      → done a (summary (recordDone a k ++ (given f (force ∷ []) ++ (entryOf n ++ [])))) ≡ recordDone a k ++ (given f (force ∷ []) ++ (entryOf n ++ []))
+      → done a (summary (appending k (fieldsOf a k) ++ (given f (force ∷ []) ++ (entryOf n ++ [])))) ≡ appending k (fieldsOf a k) ++ (given f (force ∷ []) ++ (entryOf n ++ []))
   unfolding summary
   alone-done k r = record-done k [] r refl refl refl (rw (ordered-none (goFirst (a .cohort) 0)) refl)
 
@@ -95,7 +84,7 @@ module _ (a : Arguments) (f : Bool) (n : ℕ) (small : n < 3) where
   end-done : (m : Message) (first to : ℕ) → to < 256 → goFirst (a .cohort) (messageKind m) ≡ first
       → done a (summary (given f (force ∷ []) ++ (entryOf n ++ (map (send m) (ordered first to) ++ append 4 [] ∷ []))))
       ≡ given f (force ∷ []) ++ (entryOf n ++ (map (send m) (ordered first to) ++ append 4 [] ∷ []))
-  unfolding done othersDone recordDone fieldsOf
+  unfolding done othersDone appending fieldsOf
   end-done m first to h e =
       let ps = ordered first to in
       let x = sum-ended m 4 ps in
@@ -108,7 +97,7 @@ module _ (a : Arguments) (f : Bool) (n : ℕ) (small : n < 3) where
 
 module _ (a : Arguments) where
   none-done : done a (summary []) ≡ []
-  unfolding summary done othersDone recordDone given entryOf
+  unfolding summary done othersDone appending given entryOf
   none-done = rw (ordered-none (goFirst (a .cohort) 0)) refl
 
   outcome-first : (o : Outcome) → goFirst (a .cohort) (messageKind (tell o)) ≡ owing (a .cohort) o
@@ -117,21 +106,21 @@ module _ (a : Arguments) where
   outcome-first abort = refl
 
   told-done : (o : Outcome) (to : ℕ) → to < 256 → done a (summary (tellAll (a .cohort) o to)) ≡ tellAll (a .cohort) o to
-  unfolding tellAll inOrder recordDone given entryOf
+  unfolding tellAll inOrder appending given entryOf
   told-done o to h = sends-done a false 0 (omega arith) 0 (tell o) (owing (a .cohort) o) to refl h (outcome-first o)
 
   one-done : (m : Message) (p : ℕ) → Numbered p → only p < 256 → done a (summary (send m p ∷ [])) ≡ send m p ∷ []
-  unfolding recordDone given entryOf
+  unfolding appending given entryOf
   one-done m p q h =
       let e = ordered-one (goFirst (a .cohort) (messageKind m)) p q in
       rw e at (sends-done a false 0 (omega arith) 0 m (goFirst (a .cohort) (messageKind m)) (only p) refl h refl)
 
   committing-done : a .cohort .members < 256 → done a (summary (committing (a .cohort) .effects)) ≡ committing (a .cohort) .effects
-  unfolding committing tellAll inOrder recordDone fieldsOf given entryOf
+  unfolding committing tellAll inOrder appending fieldsOf given entryOf
   committing-done h = sends-done a true 1 (omega arith) 2 (tell commit) (owing (a .cohort) commit) (a .cohort .members) refl h (outcome-first commit)
 
   preparing-done : a .cohort .members < 256 → done a (summary (preparing (a .cohort) .effects)) ≡ preparing (a .cohort) .effects
-  unfolding preparing recordDone fieldsOf given entryOf goFirst messageKind
+  unfolding preparing appending fieldsOf given entryOf goFirst messageKind
   preparing-done h = rw (sym (ordered-by-turn (a .cohort .members))) (by (not (empty (a .cohort .presumeCommit))))
     where
       by : (b : Bool) → done a (summary (given b (append 1 (masksOf (a .cohort)) ∷ force ∷ []) ++ map (send prepare) (ordered 0 (a .cohort .members))))
@@ -140,7 +129,7 @@ module _ (a : Arguments) where
       by false = sends-done a false 0 (omega arith) 0 prepare 0 (a .cohort .members) refl h refl
 
   aborting-done : (to : ℕ) → to < 256 → done a (summary (aborting (a .cohort) to .effects)) ≡ aborting (a .cohort) to .effects
-  unfolding aborting tellAll inOrder recordDone given entryOf
+  unfolding aborting tellAll inOrder appending given entryOf
   aborting-done to h = by (empty (both to (owing (a .cohort) abort)) && not (empty (a .cohort .presumeCommit)))
     where
       by : (b : Bool) → done a (summary (enter abort ∷ map (send (tell abort)) (ordered (owing (a .cohort) abort) to) ++ given b (append 4 [] ∷ [])))
@@ -149,28 +138,9 @@ module _ (a : Arguments) where
       by false = rw (append-nil (map (send (tell abort)) (ordered (owing (a .cohort) abort) to))) (sends-done a false 2 (omega arith) 0 (tell abort) (owing (a .cohort) abort) to refl h (outcome-first abort))
 
   end-record-done : (o : Outcome) → done a (summary (append (endRecord o) [] ∷ [])) ≡ append (endRecord o) [] ∷ []
-  unfolding summary done othersDone recordDone fieldsOf given entryOf endRecord
+  unfolding summary done othersDone appending fieldsOf given entryOf endRecord
   end-record-done commit = rw (ordered-none (goFirst (a .cohort) 0)) refl
   end-record-done abort = rw (ordered-none (goFirst (a .cohort) 0)) refl
-
-at-most : (b : Bool) (n : ℕ) → cond b n 0 ≤ n
-at-most true n = omega arith
-at-most false n = omega arith
-
-those-below : (f : ℕ → Bool) → those f < 256
-unfolding those bits participants
-those-below f =
-    omega (
-      arith,
-      at-most (f 1) 1,
-      at-most (f 2) 2,
-      at-most (f 3) 4,
-      at-most (f 4) 8,
-      at-most (f 5) 16,
-      at-most (f 6) 32,
-      at-most (f 7) 64,
-      at-most (f 8) 128,
-    )
 
 only-below : (p : ℕ) → only p < 256
 unfolding only
@@ -256,7 +226,7 @@ module _ (a : Arguments) (h : a .cohort .members < 256) where
 
 module _ (a : Arguments) (presumption : Presumption) (stated : a .presumption ≡ presumptionNumber presumption) (p : ℕ) (q : Numbered p) where
   promising-done : done a (summary (promising presumption p .effects)) ≡ promising presumption p .effects
-  unfolding promising recordDone fieldsOf given entryOf
+  unfolding promising appending fieldsOf given entryOf
   promising-done =
       let e = ordered-one (goFirst (a .cohort) (messageKind voteYes)) p q in
       rw (sym stated)
@@ -271,7 +241,7 @@ module _ (a : Arguments) (presumption : Presumption) (stated : a .presumption �
   new-done : (b : Bool) (o : Outcome)
       → done a (summary (append (outcomeRecord o) [] ∷ given b (force ∷ []) ++ enter o ∷ given b (send (ack o) p ∷ [])))
       ≡ append (outcomeRecord o) [] ∷ given b (force ∷ []) ++ enter o ∷ given b (send (ack o) p ∷ [])
-  unfolding recordDone fieldsOf given entryOf outcomeRecord
+  unfolding appending fieldsOf given entryOf outcomeRecord
   new-done true commit =
       let first = goFirst (a .cohort) (messageKind (ack commit)) in
       rw (ordered-one first p q) at (sends-done a true 1 (omega arith) 6 (ack commit) first (only p) refl (only-below p) refl)
@@ -306,7 +276,7 @@ module _ (a : Arguments) (presumption : Presumption) (stated : a .presumption �
   tell-done abort Participant.unknown r e = is-row a e (acking-done (acks presumption abort) abort)
 
   own-timer-done : (x : Participant) (r : Row Participant) → participantTimer presumption p x ≡ some r → done a (summary (r .effects)) ≡ r .effects
-  unfolding participantTimer voting recordDone given entryOf
+  unfolding participantTimer voting appending given entryOf
   own-timer-done Participant.working r e = is-row a e (alone-done a false 2 (omega arith) 0 refl)
   own-timer-done Participant.prepared r e = is-row a e (one-done a voteYes p q (only-below p))
   own-timer-done (Participant.decided o) r e = cc

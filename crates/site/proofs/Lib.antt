@@ -7,3 +7,4 @@ mod ByKind
 mod Summed
 mod Accepted
 mod Done
+mod Called

@@ -3,15 +3,14 @@ use mathlib.Core.Path.{_≡_, refl}
 use mathlib.Core.Bool.{false, not, _&&_}
 use mathlib.Core.List.{[], _∷_}
 use mathlib.Core.Logic.{inl, inr}
-use Prim.Native.Nat.{ℕ, zero, suc, _*_, _/_, _^_, _<_, _≤_}
-use native.Mathlib.Nat.{div-lt-iff-lt-mul}
-use lib.Pow.{pow-pos, pow-mono}
+use Prim.Native.Nat.{ℕ, zero, suc, _<_, _≤_}
 use native.Mathlib.Omega.{arith}
 use lib.ListN.{List·getD-eq-default}
 use denote.Enum.Declared.{tagOf}
 use types.Run.{OneOf}
 use Rattle.site.specs.Presumption.{commit, abort}
 use Rattle.codec.specs.Sets.{empty, part}
+use Rattle.codec.specs.laws.Members.{high-bits}
 use Rattle.site.specs.Cohort.{Cohort, owing}
 use Rattle.site.specs.Coordinator as coordinator
 use Rattle.site.specs.Participant as participant
@@ -70,8 +69,4 @@ no-phase g phase w a b c d =
 
 pub no-kind : (kinds k : ℕ) → kinds < 65536 → 15 < k → hasKind kinds k ≡ false
 unfolding hasKind
-no-kind kinds k h l =
-    let small : kinds < 1 * 2 ^ k = omega (arith, pow-mono {i = 16} {j = k} l) in
-    let none : kinds / 2 ^ k < 1 = div-lt-iff-lt-mul (pow-pos k) .1 small in
-    let e : kinds / 2 ^ k ≡ 0 = omega arith in
-    rw e refl
+no-kind kinds k h l = rw (high-bits kinds 16 k h l) refl

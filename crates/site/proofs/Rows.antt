@@ -13,8 +13,8 @@ use Rattle.site.specs.Step.{tell, Effect, append, enter, send, given}
 use Rattle.site.specs.Cohort.{Cohort, owing}
 use Rattle.site.specs.Coordinator.{endRecord, inOrder, tellAll}
 use Rattle.site.specs.Participant.{outcomeRecord}
-use Rattle.site.specs.Numbers.{outcomeNumber, entryOf}
-use Rattle.site.specs.Answers.{appending, closing}
+use Rattle.site.specs.Numbers.{appending, outcomeNumber, entryOf}
+use Rattle.site.specs.Answers.{closing}
 use Rattle.site.specs.Inside.{Numbered}
 use Rattle.site.proofs.Sent.{ordered-none, ordered-one}
 

@@ -1,15 +1,17 @@
 -- Messages sent to a set. Assumes nothing.
 use mathlib.Core.Path.{_≡_, refl, ap, ap₂, sym, subst, _∙_}
-use mathlib.Core.Bool.{Bool, true, false, cond, not, false≢true}
+use mathlib.Core.Bool.{Bool, true, false, cond, not}
 use mathlib.Core.Logic.{_⊎_, inl, inr}
 use mathlib.Core.List.{List, [], _∷_, _++_, map}
 use Prim.Native.Nat.{ℕ, suc, _^_, _-_, _<_}
 use native.Mathlib.Nat.{zero-div}
 use native.Mathlib.Omega.{arith}
+use lib.ListN.{getD}
+use lib.Dec.{leb}
 use Rattle.codec.specs.Lists.{select, same}
 use Rattle.codec.specs.Sets.{participants, member, listed, bits, those, only}
 use Rattle.codec.specs.laws.Tests.{below-at, true-of, same-list}
-use Rattle.codec.specs.laws.Members.{noParticipant, numbered, no-member}
+use Rattle.codec.specs.laws.Members.{numbered, member-participant}
 use Rattle.site.specs.Presumption.{commit, abort}
 use Rattle.site.specs.Step.{Message, prepare, voteYes, voteNo, tell, ack, messages, messageKind, send, given}
 use Rattle.site.specs.Coordinator.{inTurn, ordered}
@@ -62,23 +64,24 @@ ordered-one first p h = rw (one-alone p h) (by (member p first) refl)
 
 -- a member of a mask of a byte is a participant
 pub member-numbered : (p m : ℕ) → m < 256 → member p m ≡ true → Numbered p
-member-numbered p m h e = by (noParticipant p) refl
-  where
-    by : (b : Bool) → noParticipant p ≡ b → Numbered p
-    by true n = absurd (false≢true (sym (no-member p m h n) ∙ e))
-    by false n = numbered p n
+member-numbered p m h e = numbered p (member-participant p m h e)
 
 -- ---- messages by kind
 
+-- a kind is in range, and its message is the one with that kind
+pub kind-known : (m : Message) → (leb (messageKind m) 6 ≡ true) × (getD messages (messageKind m) prepare ≡ m)
+unfolding messageKind messages
+kind-known prepare = (refl, refl)
+kind-known voteYes = (refl, refl)
+kind-known voteNo = (refl, refl)
+kind-known (tell commit) = (refl, refl)
+kind-known (tell abort) = (refl, refl)
+kind-known (ack commit) = (refl, refl)
+kind-known (ack abort) = (refl, refl)
+
 pub sending-kind : (m : Message) (first to : ℕ) → sending (messageKind m) first to ≡ map (send m) (ordered first to)
-unfolding sending given messageKind messages
-sending-kind prepare first to = refl
-sending-kind voteYes first to = refl
-sending-kind voteNo first to = refl
-sending-kind (tell commit) first to = refl
-sending-kind (tell abort) first to = refl
-sending-kind (ack commit) first to = refl
-sending-kind (ack abort) first to = refl
+unfolding sending given
+sending-kind m first to = rw (kind-known m .0, kind-known m .1)
 
 -- ---- a participant's own message
 

@@ -15,8 +15,8 @@ use Rattle.codec.specs.Sets.{participants, member, listed}
 use Rattle.codec.specs.laws.Tests.{below-at}
 use Rattle.site.specs.Step.{Message, prepare, messages, messageKind, Effect, append, force, send, given}
 use Rattle.site.specs.Coordinator.{inTurn, ordered}
-use Rattle.site.specs.Numbers.{Summary, outcomeNumber, summary, entryOf}
-use Rattle.site.specs.Answers.{appending, closing, sending, effectsIn}
+use Rattle.site.specs.Numbers.{appending, Summary, outcomeNumber, summary, entryOf}
+use Rattle.site.specs.Answers.{closing, sending, effectsIn}
 use Rattle.site.specs.declared.effects.Effects.{Effects}
 
 -- one of two numbers
@@ -93,11 +93,15 @@ kind-of kind to (p ∷ ps) h e =
 abbrev pub sent : ℕ → ℕ → Bool
 sent kind to = not (eqb to 0) && leb kind 6
 
-or-zero : (to : ℕ) → cond (not (eqb to 0)) to 0 ≡ to
-or-zero to = by (eqb to 0) refl
+cond-not : (b : Bool) (n : ℕ) → cond (not b) n 0 ≡ cond b 0 n
+cond-not true n = refl
+cond-not false n = refl
+
+pub or-zero-first : (n : ℕ) → cond (eqb n 0) 0 n ≡ n
+or-zero-first n = by (eqb n 0) refl
   where
-    by : (b : Bool) → eqb to 0 ≡ b → cond (not b) to 0 ≡ to
-    by true e = sym (eqb-true to 0 e)
+    by : (b : Bool) → eqb n 0 ≡ b → cond b 0 n ≡ n
+    by true e = sym (eqb-true n 0 e)
     by false e = refl
 
 sum-sending : (l kind first to : ℕ) → to < 256 → summary (closing l (sending kind first to)) ≡ sends l (cond (sent kind to) kind 0) (cond (sent kind to) to 0)
@@ -110,7 +114,7 @@ sum-sending l kind first to h = by (leb kind 6) refl
     by true e =
         let w = weight-ordered first to h in
         let k = kind-of kind to (ordered first to) (omega (arith, leb-true kind 6 e)) w in
-        rw (and-true (not (eqb to 0)), sum-closing (getD messages kind prepare) l (ordered first to), w, k, or-zero to)
+        rw (and-true (not (eqb to 0)), sum-closing (getD messages kind prepare) l (ordered first to), w, k, cond-not (eqb to 0) to ∙ or-zero-first to)
     by false e = rw (and-false (not (eqb to 0)), sum-closing prepare l [])
 
 -- ---- the effects before
@@ -136,7 +140,7 @@ sum-forcing false es e = ap (withForced (summary es)) e
 abbrev pub withAppended : Summary → ℕ → Summary
 withAppended x n = record { appended = n; forced = x .forced; entered = x .entered; message = x .message; to = x .to }
 
-sum-appending : (k : ℕ) (fs : List ℕ) (es : List Effect) → summary (appending k fs ++ es) ≡ withAppended (summary es) (cond (eqb k 0) (summary es .appended) k)
+pub sum-appending : (k : ℕ) (fs : List ℕ) (es : List Effect) → summary (appending k fs ++ es) ≡ withAppended (summary es) (cond (eqb k 0) (summary es .appended) k)
 unfolding appending summary
 sum-appending zero fs es = refl
 sum-appending (suc k) fs es = rw (ne-eqb (suc k) 0 (λ z. absurd (omega (arith, z)))) refl

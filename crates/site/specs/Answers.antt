@@ -64,10 +64,6 @@ hasKind kinds k = eqb (kinds / 2 ^ k % 2) 1
 -- ---- the effects that a row's numbers stand for, in their order: 0 is none, and what is no outcome or message has no effect.
 -- There is no message where the set is empty. The order of sends is the definitions' own, `ordered`: whoever performs a row keeps to it
 
-unfoldable pub appending : ℕ → List ℕ → List Effect
-appending zero fs = []
-appending (suc k) fs = append (suc k) fs ∷ []
-
 unfoldable pub sending : ℕ → ℕ → ℕ → List Effect
 sending kind owing to = given (leb kind 6) (map (send (getD messages kind prepare)) (ordered owing to))
 
@@ -78,7 +74,7 @@ closing (suc k) es = es ++ append (suc k) [] ∷ []
 -- a record has as many of its two fields as its kind
 unfoldable pub effectsIn : Effects → List Effect
 effectsIn e =
-    appending (e .appended) (take (lengthOf (e .appended) - 2) (e .first ∷ e .second ∷ []))
+    numbers.appending (e .appended) (take (lengthOf (e .appended) - 2) (e .first ∷ e .second ∷ []))
     ++ (given (e .forced) (force ∷ []) ++ (numbers.entryOf (e .entered) ++ closing (e .last) (sending (e .message) (e .owing) (e .to))))
 
 abbrev pub summaryIn : Summary → numbers.Summary

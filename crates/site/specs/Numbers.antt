@@ -209,9 +209,9 @@ goFirst g kind = getD (0 ∷ 0 ∷ 0 ∷ owing g commit ∷ owing g abort ∷ []
 unfoldable pub entryOf : ℕ → List Effect
 entryOf n = getD ([] ∷ (enter commit ∷ []) ∷ (enter abort ∷ []) ∷ []) n []
 
-unfoldable pub recordDone : Arguments → ℕ → List Effect
-recordDone a zero = []
-recordDone a (suc k) = append (suc k) (fieldsOf a (suc k)) ∷ []
+unfoldable pub appending : ℕ → List ℕ → List Effect
+appending zero fs = []
+appending (suc k) fs = append (suc k) fs ∷ []
 
 unfoldable pub othersDone : Arguments → Summary → List Effect
 othersDone a x =
@@ -220,7 +220,9 @@ othersDone a x =
 
 -- append, force, enter, send; a record 4 is appended last
 unfoldable pub done : Arguments → Summary → List Effect
-done a x = cond (eqb (x .appended) 4) (othersDone a x ++ recordDone a (x .appended)) (recordDone a (x .appended) ++ othersDone a x)
+done a x =
+    let appended = appending (x .appended) (fieldsOf a (x .appended)) in
+    cond (eqb (x .appended) 4) (othersDone a x ++ appended) (appended ++ othersDone a x)
 
 -- the result of the C call: eight bytes in one number, the first lowest
 unfoldable pub packed : List ℕ → ℕ

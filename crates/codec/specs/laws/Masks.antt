@@ -1,7 +1,7 @@
 -- Masks of a byte: what the machine's `&` computes. Assumes nothing.
 use mathlib.Core.Path.{_≡_, ap, sym, _∙_}
-use mathlib.Core.Bool.{Bool, not, _&&_}
-use Prim.Native.Nat.{ℕ, suc, _-_, _*_, _/_, _%_, _^_, min, _<_}
+use mathlib.Core.Bool.{Bool, true, false, cond, not, _&&_}
+use Prim.Native.Nat.{ℕ, suc, _-_, _*_, _/_, _%_, _^_, min, _<_, _≤_}
 use native.Mathlib.Nat.{min-le-left}
 use native.Mathlib.Omega.{arith}
 use lib.Dec.{eqb, eqb→eq}
@@ -45,6 +45,26 @@ those-alike f g h =
       h 5 (omega arith),
       h 6 (omega arith),
       h 7 (omega arith),
+    )
+
+at-most : (b : Bool) (n : ℕ) → cond b n 0 ≤ n
+at-most true n = omega arith
+at-most false n = omega arith
+
+-- each set is a byte
+pub those-below : (f : ℕ → Bool) → those f < 256
+unfolding those bits participants
+those-below f =
+    omega (
+      arith,
+      at-most (f 1) 1,
+      at-most (f 2) 2,
+      at-most (f 3) 4,
+      at-most (f 4) 8,
+      at-most (f 5) 16,
+      at-most (f 6) 32,
+      at-most (f 7) 64,
+      at-most (f 8) 128,
     )
 
 -- a mask is the set of its members

@@ -1,6 +1,6 @@
 -- Members of a mask of a byte, and sets of one participant. Assumes nothing.
-use mathlib.Core.Path.{_≡_, refl, ap, _∙_}
-use mathlib.Core.Bool.{Bool, true, false, cond, not, _&&_, _||_}
+use mathlib.Core.Path.{_≡_, refl, ap, sym, _∙_}
+use mathlib.Core.Bool.{Bool, true, false, cond, not, _&&_, _||_, false≢true}
 use Prim.Native.Nat.{ℕ, suc, _-_, _*_, _/_, _%_, _^_, _<_, _≤_}
 use native.Mathlib.Nat.{div-lt-iff-lt-mul}
 use native.Mathlib.Omega.{arith}
@@ -24,12 +24,12 @@ zero-th p m h =
     let e : p ≡ 0 = omega arith in
     rw e (omega arith)
 
-far : (p m : ℕ) → m < 256 → 8 < p → 2 * m / 2 ^ p % 2 ≡ 0
-far p m h k =
-    let small : 2 * m < 1 * 2 ^ p = omega (arith, pow-mono {i = 9} {j = p} k) in
-    let none : 2 * m / 2 ^ p < 1 = div-lt-iff-lt-mul (pow-pos p) .1 small in
-    let e : 2 * m / 2 ^ p ≡ 0 = omega arith in
-    rw e refl
+-- a number below 2 ^ j has no bit from j on
+pub high-bits : (n j k : ℕ) → n < 2 ^ j → j ≤ k → n / 2 ^ k ≡ 0
+high-bits n j k h l =
+    let small : n < 1 * 2 ^ k = omega (arith, h, pow-mono {i = j} {j = k} l) in
+    let none : n / 2 ^ k < 1 = div-lt-iff-lt-mul (pow-pos k) .1 small in
+    omega arith
 
 pub no-member : (p m : ℕ) → m < 256 → noParticipant p ≡ true → member p m ≡ false
 unfolding member
@@ -37,7 +37,15 @@ no-member p m h e = by (ltb p 1) refl e
   where
     by : (b : Bool) → ltb p 1 ≡ b → (b || ltb 8 p) ≡ true → eqb (2 * m / 2 ^ p % 2) 1 ≡ false
     by true a k = rw (zero-th p m (ltb-true p 1 a)) refl
-    by false a k = rw (far p m h (ltb-true 8 p k)) refl
+    by false a k = rw (high-bits (2 * m) 9 p (omega (arith, h)) (ltb-true 8 p k)) refl
+
+-- what is a member is a participant
+pub member-participant : (p m : ℕ) → m < 256 → member p m ≡ true → noParticipant p ≡ false
+member-participant p m h e = by (noParticipant p) refl
+  where
+    by : (b : Bool) → noParticipant p ≡ b → noParticipant p ≡ false
+    by true n = absurd (false≢true (sym (no-member p m h n) ∙ e))
+    by false n = n
 
 bit-at : (k m : ℕ) → k < 8 → m < 256 → member (suc k) m ≡ eqb (m / 2 ^ k % 2) 1
 unfolding member

@@ -7,8 +7,8 @@ use Prim.Native.Nat.{ℕ, zero, suc, _<_, _≤_}
 use native.Mathlib.Nat.{not-suc-le-zero, le-of-suc-le-suc, eq-or-lt-of-le}
 use lib.Dec.{T, eqb, leb, ltb}
 use borrow.Author.Tests.{eqb-true, ltb-true, ltb-false, le-leb, lt-leb, le-ltb, lt-ltb}
-use lib.ListN.{length}
-use Rattle.codec.specs.Lists.{same}
+use lib.ListN.{length, getD}
+use Rattle.codec.specs.Lists.{every, same}
 
 pub and-left : (a b : Bool) → T (a && b) → T a
 and-left true b t = tt
@@ -87,3 +87,10 @@ same-list (k ∷ l) (n ∷ m) e =
 
 pub leb-ltb : (m n : ℕ) → leb m n ≡ not (ltb n m)
 leb-ltb m n = ⊎-elim (λ h. lt-leb m n h ∙ sym (ap not (lt-ltb n m h))) (λ h. le-leb m n h ∙ sym (ap not (le-ltb n m h))) (lt-or-le n m)
+
+-- each of the tests that all hold
+pub every-at : (bs : List Bool) → every bs ≡ true → (i : ℕ) → getD bs i true ≡ true
+unfolding every
+every-at [] e i = refl
+every-at (b ∷ bs) e zero = and-eq-true-iff b (every bs) .0 e .0
+every-at (b ∷ bs) e (suc i) = every-at bs (and-eq-true-iff b (every bs) .0 e .1) i

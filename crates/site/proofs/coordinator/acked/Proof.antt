@@ -1,7 +1,7 @@
 use Rattle.codec.specs.Sets.{empty}
 use borrow.Author.Tests.{ne-eqb}
-use Rattle.site.specs.Answers.{effectsIn, appending, closing, sending}
-use Rattle.site.specs.Numbers.{entryOf}
+use Rattle.site.specs.Answers.{effectsIn, closing, sending}
+use Rattle.site.specs.Numbers.{appending, entryOf}
 use Rattle.site.specs.Answers.{outcomeIn}
 use Rattle.site.specs.Step.{messages, given}
 use Rattle.site.specs.Coordinator.{acked}

@@ -1,8 +1,8 @@
 use mathlib.Core.Bool.{not, _&&_}
 use mathlib.Core.Logic.{inl, inr, ⊎-elim}
 use lib.Dec.{eqb}
-use Rattle.site.specs.Answers.{effectsIn, appending, sending}
-use Rattle.site.specs.Numbers.{entryOf}
+use Rattle.site.specs.Answers.{effectsIn, sending}
+use Rattle.site.specs.Numbers.{appending, entryOf}
 use Rattle.codec.specs.Sets.{empty}
 use Rattle.site.specs.Step.{messages, given}
 use Rattle.site.specs.Coordinator.{aborting, tellAll, inOrder}

@@ -1,5 +1,5 @@
-use Rattle.site.specs.Answers.{effectsIn, appending, closing, sending}
-use Rattle.site.specs.Numbers.{entryOf}
+use Rattle.site.specs.Answers.{effectsIn, closing, sending}
+use Rattle.site.specs.Numbers.{appending, entryOf}
 use Rattle.codec.specs.Records.{lengths, lengthOf}
 use Rattle.site.specs.Step.{messages, given}
 use Rattle.site.specs.Cohort.{masksOf}

@@ -1,7 +1,7 @@
 use mathlib.Core.Path.{sym}
 use mathlib.Core.Logic.{inl, inr, ⊎-elim}
-use Rattle.site.specs.Answers.{effectsIn, appending, closing, sending}
-use Rattle.site.specs.Numbers.{entryOf}
+use Rattle.site.specs.Answers.{effectsIn, closing, sending}
+use Rattle.site.specs.Numbers.{appending, entryOf}
 use Rattle.site.specs.Answers.{cohortIn}
 use Rattle.site.specs.Step.{messages, given}
 use Rattle.site.specs.Coordinator.{restartFrom, coordinatorRestart}

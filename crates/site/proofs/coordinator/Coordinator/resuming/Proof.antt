@@ -1,4 +1,5 @@
-use Rattle.site.specs.Answers.{effectsIn, appending, closing}
+use Rattle.site.specs.Numbers.{appending}
+use Rattle.site.specs.Answers.{effectsIn, closing}
 use Rattle.site.specs.Answers.{outcomeIn}
 use Rattle.site.specs.Step.{tell, given}
 use Rattle.site.specs.Coordinator.{tellAll, inOrder}

@@ -1,5 +1,5 @@
-use Rattle.site.specs.Answers.{effectsIn, appending, closing, sending}
-use Rattle.site.specs.Numbers.{entryOf}
+use Rattle.site.specs.Answers.{effectsIn, closing, sending}
+use Rattle.site.specs.Numbers.{appending, entryOf}
 use Rattle.site.specs.Step.{messages, given, answered}
 use Rattle.site.specs.Answers.{presumptionIn}
 use Rattle.site.specs.Participant.{participantTimer}

@@ -1,5 +1,5 @@
-use Rattle.site.specs.Answers.{effectsIn, appending, closing}
-use Rattle.site.specs.Numbers.{entryOf}
+use Rattle.site.specs.Answers.{effectsIn, closing}
+use Rattle.site.specs.Numbers.{appending, entryOf}
 use Rattle.codec.specs.Records.{lengths, lengthOf}
 use Rattle.site.specs.Participant.{promising}
 use Rattle.site.specs.Step.{voteYes, messageKind, given}

@@ -1,8 +1,8 @@
 use mathlib.Core.Path.{sym}
 use native.Mathlib.Omega.{arith}
 use Rattle.codec.specs.laws.Members.{numbered}
-use Rattle.site.specs.Answers.{hasKind, effectsIn, appending, closing, sending}
-use Rattle.site.specs.Numbers.{entryOf}
+use Rattle.site.specs.Answers.{hasKind, effectsIn, closing, sending}
+use Rattle.site.specs.Numbers.{appending, entryOf}
 use Rattle.site.specs.Step.{messages, given}
 use Rattle.site.specs.Participant.{restartWith, participantRestart}
 use Rattle.site.proofs.Sent.{ordered-none}

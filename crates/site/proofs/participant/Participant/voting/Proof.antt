@@ -1,6 +1,6 @@
 use mathlib.Core.Logic.{inl, inr, ⊎-elim}
-use Rattle.site.specs.Answers.{effectsIn, appending, closing}
-use Rattle.site.specs.Numbers.{entryOf}
+use Rattle.site.specs.Answers.{effectsIn, closing}
+use Rattle.site.specs.Numbers.{appending, entryOf}
 use Rattle.site.specs.Step.{given}
 use Rattle.site.specs.Participant.{voting}
 use Rattle.site.proofs.Sent.{vote-sent}
