@@ -20,7 +20,7 @@ use Rattle.joint.specs.Event.{Event, opening, beginning, delivery, timeo
 use Rattle.joint.specs.Refusals.{isDown, refusals}
 use Rattle.joint.specs.Plan.{Plan, acting, rowPlan, planned, step, orNothing, trimmed, forgottenUnless, discard, restarting, joined, restartAll, plan}
 use Rattle.joint.specs.Run.{Result, refuse, partly, cutShort, carry, event, after}
-use Rattle.joint.proofs.View.{update-keeps}
+use Rattle.joint.proofs.view.Updates.{update-keeps}
 use Rattle.joint.proofs.History.{EventCase, refused, whole, cut, event-case, by-events, after-snoc}
 
 abbrev DownEmpty : Site → Type 0

@@ -1,6 +1,5 @@
 mod Open
 mod Cases
 mod History
-mod View
-mod Carry
+mod view
 mod DownEmpty

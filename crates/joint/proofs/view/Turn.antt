@@ -1,0 +1,93 @@
+-- What one event may do to the view of one transaction: nothing, a force or a crash (its own or of another transaction's row), or one of the transaction's own steps.
+use Prim.Native.Nat.{ℕ, zero, suc, _<_}
+use mathlib.Core.Path.{_≡_}
+use mathlib.Core.Bool.{Bool, true, false, not, _||_}
+use mathlib.Core.List.{List, [], _∷_, _++_}
+use mathlib.Core.Option.{Option, none, some}
+use lib.ListN.{take, drop}
+use lib.Dec.{T, eqb}
+use Rattle.codec.specs.Sets.{member, empty}
+use Rattle.codec.specs.Records.{LogRecord}
+use Rattle.site.specs.Step.{Message, receiver, messageKind, Input, begin, timer, received, Effect, Row}
+use Rattle.site.specs.Cohort.{Cohort, presumptionOf}
+use Rattle.site.specs.Coordinator.{Coordinator, coordinatorStep, coordinatorRestart}
+use Rattle.site.specs.Participant.{Participant, participantStep, participantRestart}
+use Rattle.joint.specs.State.{Site, Transaction, holds, forced, started, withCoordinator, withParticipant}
+use Rattle.joint.specs.Plan.{openedAs, closes, newest}
+use Rattle.joint.proofs.view.View.{View, viewAt, viewSettle, viewEffects, viewDown}
+
+-- effects of t at site s, all of them and then f, or the first m of them and then a power cut
+pub data Carried (t s : ℕ) (es : List Effect) (f : View → View) (v : View) : View → Type 0 where
+  whole : Carried t s es f v (f (viewEffects s t es v))
+  cutAfter : (m n : ℕ) → Carried t s es f v (viewDown s n (viewEffects s t (take m es) v))
+
+-- a message that is delivered is of a member and was sent
+abbrev pub Given : View → Input → Type 0
+Given v begin = Unit {0}
+Given v timer = Unit {0}
+Given v (received m p) = T (member p (v .transaction .cohort .members)) × T (v .transaction .sent p (messageKind m))
+
+abbrev pub Up : View → ℕ → Type 0
+Up v s = v .site s .up ≡ true
+
+abbrev pub Opened : View → Type 0
+Opened v = empty (v .transaction .cohort .members) ≡ false
+
+-- ---- discard
+
+-- the oldest stable record is dropped
+unfoldable pub trimmedView : Site → Site
+trimmedView x = record { up = x .up; stable = drop 1 (x .stable); unforced = x .unforced }
+
+unfoldable pub isNil : List LogRecord → Bool
+isNil [] = true
+isNil (x ∷ xs) = false
+
+unfoldable pub noRecord : Site → Bool
+noRecord x = isNil (x .stable ++ x .unforced)
+
+-- whether the phase stays
+unfoldable pub viewForget : Bool → ℕ → View → View
+viewForget true s v = v
+viewForget false s v = viewSettle (withParticipant s Participant.unknown) v
+
+unfoldable pub viewDiscard : ℕ → View → View
+viewDiscard s v =
+    let w = viewAt s trimmedView v in
+    viewForget (eqb s 0 || not (noRecord (w .site s))) s w
+
+-- ---- restart
+
+-- g sets the phase, and the site is up
+unfoldable pub viewStart : ℕ → (Transaction → Transaction) → View → View
+viewStart s g v = viewAt s started (viewSettle g v)
+
+-- ---- the turns
+
+pub data Turn (t : ℕ) (v : View) : View → Type 0 where
+  forces : (s : ℕ) → Up v s → Turn t v (viewAt s forced v)
+  crashes : (s n : ℕ) → Up v s → Turn t v (viewDown s n v)
+  -- members and PC are bytes, there is a member, and the sites of all members are up
+  opens : (g : Cohort) → t < 8 → g .members < 256 → empty (g .members) ≡ false → empty (v .transaction .cohort .members) ≡ true
+      → Up v 0 → ((n : ℕ) → member (suc n) (g .members) ≡ true → Up v (suc n)) → Turn t v (viewSettle (openedAs g) v)
+  coordinates : {row : Row Coordinator} {w : View} (i : Input) → Opened v → Up v 0 → Given v i
+      → coordinatorStep (v .transaction .cohort) i (v .transaction .coordinator) ≡ some row
+      → Carried t 0 (row .effects) (viewSettle (withCoordinator (row .phase))) v w → Turn t v w
+  participates : {row : Row Participant} {w : View} (n : ℕ) (i : Input) → T (member (suc n) (v .transaction .cohort .members)) → Up v (suc n) → Given v i
+      → participantStep (presumptionOf (v .transaction .cohort) (suc n)) (suc n) i (v .transaction .participant (suc n)) ≡ some row
+      → Carried t (suc n) (row .effects) (viewSettle (withParticipant (suc n) (row .phase))) v w → Turn t v w
+  -- the coordinator, or a member
+  discards : (s : ℕ) → Up v s → Opened v → newest closes (v .site s .stable) ≡ true → Turn t v (viewDiscard s v)
+  -- a site starts, where the transaction is not opened and where it is
+  starts : (s : ℕ) → v .site s .up ≡ false → empty (v .transaction .cohort .members) ≡ true → Turn t v (viewAt s started v)
+  resumes : {row : Row Coordinator} {w : View} → Opened v → v .site 0 .up ≡ false
+      → coordinatorRestart (v .transaction .cohort) (λ k. holds t k (v .site 0 .stable)) ≡ row
+      → Carried t 0 (row .effects) (viewStart 0 (withCoordinator (row .phase))) v w → Turn t v w
+  returns : {row : Row Participant} {w : View} (n : ℕ) → Opened v → v .site (suc n) .up ≡ false
+      → participantRestart (presumptionOf (v .transaction .cohort) (suc n)) (suc n) (λ k. holds t k (v .site (suc n) .stable)) ≡ row
+      → Carried t (suc n) (row .effects) (viewStart (suc n) (withParticipant (suc n) (row .phase))) v w → Turn t v w
+
+-- An event is none of them, or one; or forces of another transaction's row and then a crash
+pub data Turns (t : ℕ) : View → View → Type 0 where
+  still : {v : View} → Turns t v v
+  more : {v w x : View} → Turn t v w → Turns t w x → Turns t v x
