@@ -2,4 +2,5 @@ mod Open
 mod Cases
 mod History
 mod view
+mod safety
 mod DownEmpty

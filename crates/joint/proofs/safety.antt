@@ -1,0 +1,4 @@
+-- Demand 3: the invariant of one transaction, that each turn keeps it, and what follows.
+pub mod Tables
+pub mod Finite
+pub mod Invariant

@@ -1,0 +1,230 @@
+-- The invariant of one transaction, over its view.
+use Prim.Native.Nat.{ℕ, suc, _<_}
+use mathlib.Core.Path.{_≡_}
+use mathlib.Core.Bool.{Bool, true, false, not, _&&_, _||_}
+use mathlib.Core.List.{List, [], _∷_, map}
+use lib.ListN.{getD}
+use lib.Dec.{T}
+use Rattle.codec.specs.Sets.{member, empty}
+use Rattle.codec.specs.Records.{LogRecord}
+use Rattle.site.specs.Presumption.{Outcome, commit, abort, sameOutcome, Presumption, presumptionNumber}
+use Rattle.site.specs.Cohort.{Cohort, masksOf, presumptionOf, owing}
+use Rattle.site.specs.Step.{Message, messageKind}
+use Rattle.site.specs.Coordinator.{Coordinator, endRecord}
+use Rattle.joint.specs.State.{Site}
+use Rattle.joint.proofs.view.View.{View}
+use Rattle.joint.proofs.view.Turn.{Opened}
+use Rattle.joint.proofs.safety.Tables.{Status, isUp, phaseOf, stableKinds, unforcedKinds, has, Stage, fresh, asking, done, Fine}
+
+-- ---- the coordinator
+
+-- the kinds of its stable records, oldest first
+pub data Log : Type 0 where
+  l0 l1 l12 l2 l123 l23 l3 l14 l4 : Log
+
+abbrev pub kindsIn : Log → List ℕ
+kindsIn l0 = []
+kindsIn l1 = 1 ∷ []
+kindsIn l12 = 1 ∷ 2 ∷ []
+kindsIn l2 = 2 ∷ []
+kindsIn l123 = 1 ∷ 2 ∷ 3 ∷ []
+kindsIn l23 = 2 ∷ 3 ∷ []
+kindsIn l3 = 3 ∷ []
+kindsIn l14 = 1 ∷ 4 ∷ []
+kindsIn l4 = 4 ∷ []
+
+-- what restart makes of the records: nothing, an outcome that is resumed, an outcome that has ended
+pub data Class : Type 0 where
+  nothing : Class
+  live ended : Outcome → Class
+
+abbrev pub classOf : Log → Class
+classOf l0 = nothing
+classOf l1 = live abort
+classOf l12 = live commit
+classOf l2 = live commit
+classOf l123 = ended commit
+classOf l23 = ended commit
+classOf l3 = ended commit
+classOf l14 = ended abort
+classOf l4 = ended abort
+
+abbrev pub resumed : Class → Bool
+resumed nothing = false
+resumed (live o) = true
+resumed (ended o) = false
+
+-- once it has decided: it waits for acks; it is in Unknown, with an unforced end record or without; it is down
+pub data Pace : Type 0 where
+  waiting : ℕ → Pace
+  resting : Bool → Pace
+  down : Pace
+
+-- `never`: not opened; whether it is up. `initial`, `collecting`: whether a record 1, a record 2 stands unforced (in the middle of a row)
+pub data Standing : Type 0 where
+  never : Bool → Standing
+  initial : Bool → Standing
+  collecting : ℕ → Bool → Standing
+  decided : Outcome → Pace → Log → Standing
+
+-- the coordinator is done with a participant
+abbrev pub isDone : Pace → Log → ℕ → Bool
+isDone (waiting w) l p = not (member p w)
+isDone (resting b) l p = true
+isDone down l p = not (resumed (classOf l))
+
+abbrev pub stageOf : Standing → ℕ → Stage
+stageOf (never u) p = fresh
+stageOf (initial b) p = fresh
+stageOf (collecting w b) p = asking (member p w)
+stageOf (decided o pace l) p = done o (isDone pace l p)
+
+abbrev pub hasDecided : Standing → Outcome → Bool
+hasDecided (never u) o = false
+hasDecided (initial b) o = false
+hasDecided (collecting w b) o = false
+hasDecided (decided d pace l) o = sameOutcome d o
+
+-- the records with which a coordinator that has decided o may stand; i: record 1 is written at begin
+abbrev pub logFits : Bool → Outcome → Pace → Class → Bool
+logFits i o (waiting w) nothing = sameOutcome o abort && not i
+logFits i o (waiting w) (live d) = sameOutcome o d
+logFits i o (waiting w) (ended d) = false
+logFits i o (resting true) nothing = false
+logFits i o (resting true) (live d) = sameOutcome o d
+logFits i o (resting true) (ended d) = false
+logFits i o (resting false) nothing = true
+logFits i o (resting false) (live d) = sameOutcome o d && sameOutcome o commit
+logFits i o (resting false) (ended d) = sameOutcome o d
+logFits i o down nothing = true
+logFits i o down (live d) = sameOutcome o d
+logFits i o down (ended d) = sameOutcome o d
+
+abbrev pub standingFits : Bool → Standing → Bool
+standingFits i (never u) = true
+standingFits i (initial b) = not b || i
+standingFits i (collecting w b) = true
+standingFits i (decided o pace l) = logFits i o pace (classOf l)
+
+-- the sets waited for
+abbrev pub SetsFit : Cohort → Standing → Type 0
+SetsFit g (never u) = Unit {0}
+SetsFit g (initial b) = Unit {0}
+SetsFit g (collecting w false) = (w < 256) × ((p : ℕ) → T (member p w) → T (member p (g .members)))
+-- a record 2 stands where no vote is missing
+SetsFit g (collecting w true) = (p : ℕ) → T (member p w) → ⊥
+SetsFit g (decided o (waiting w) l) = (w < 256) × ((p : ℕ) → T (member p w) → T (member p (owing g o)))
+SetsFit g (decided o (resting b) l) = Unit {0}
+SetsFit g (decided o down l) = Unit {0}
+
+-- record 1 is written at begin where a member presumes commit
+abbrev pub writesInit : Cohort → Bool
+writesInit g = not (empty (g .presumeCommit))
+
+abbrev pub initLog : Bool → Log
+initLog true = l1
+initLog false = l0
+
+abbrev pub standingUp : Standing → Bool
+standingUp (never u) = u
+standingUp (initial b) = true
+standingUp (collecting w b) = true
+standingUp (decided o (waiting w) l) = true
+standingUp (decided o (resting b) l) = true
+standingUp (decided o down l) = false
+
+abbrev pub stableAt : Bool → Standing → List ℕ
+stableAt i (never u) = []
+stableAt i (initial b) = []
+stableAt i (collecting w b) = kindsIn (initLog i)
+stableAt i (decided o pace l) = kindsIn l
+
+abbrev pub kindIf : Bool → ℕ → List ℕ
+kindIf true k = k ∷ []
+kindIf false k = []
+
+abbrev pub unforcedAt : Standing → List ℕ
+unforcedAt (never u) = []
+unforcedAt (initial b) = kindIf b 1
+unforcedAt (collecting w b) = kindIf b 2
+unforcedAt (decided o (waiting w) l) = []
+unforcedAt (decided o (resting b) l) = kindIf b (endRecord o)
+unforcedAt (decided o down l) = []
+
+abbrev pub coordinatorAt : Standing → Coordinator
+coordinatorAt (never u) = Coordinator.unknown
+coordinatorAt (initial b) = Coordinator.initial
+coordinatorAt (collecting w b) = Coordinator.collecting w
+coordinatorAt (decided o (waiting w) l) = Coordinator.awaitingAcks o w
+coordinatorAt (decided o (resting b) l) = Coordinator.unknown
+coordinatorAt (decided o down l) = Coordinator.unknown
+
+-- between events: no row is half done, and where something is awaited the set is not empty
+abbrev pub between : Standing → Bool
+between (never u) = true
+between (initial b) = not b
+between (collecting w b) = not b && not (empty w)
+between (decided o (waiting w) l) = not (empty w)
+between (decided o (resting b) l) = true
+between (decided o down l) = true
+
+abbrev pub isNever : Standing → Bool
+isNever (never u) = true
+isNever (initial b) = false
+isNever (collecting w b) = false
+isNever (decided o pace l) = false
+
+-- ---- records
+
+-- the fields of site s's record of kind k behind the transaction
+abbrev pub fieldsAt : Cohort → ℕ → ℕ → List ℕ
+fieldsAt g s k = getD ([] ∷ masksOf g ∷ masksOf g ∷ [] ∷ [] ∷ (presumptionNumber (presumptionOf g s) ∷ []) ∷ []) k []
+
+abbrev pub entry : Cohort → ℕ → ℕ → ℕ → LogRecord
+entry g t s k = record { kind = k; transaction = t; fields = fieldsAt g s k }
+
+-- a site with records of these kinds
+abbrev pub siteWith : Cohort → ℕ → ℕ → Bool → List ℕ → List ℕ → Site
+siteWith g t s u ks js = record { up = u; stable = map (entry g t s) ks; unforced = map (entry g t s) js }
+
+-- ---- the participants
+
+abbrev pub sentIn : View → ℕ → Message → Bool
+sentIn v p m = v .transaction .sent p (messageKind m)
+
+-- participant suc n is a member; m is how the coordinator stands to it
+pub record Member (t : ℕ) (m : Stage) (n : ℕ) (v : View) : Type 0 where
+  pub status : Status
+  pub site : v .site (suc n) ≡ siteWith (v .transaction .cohort) t (suc n) (isUp status) (stableKinds status) (unforcedKinds status)
+  pub phase : v .transaction .participant (suc n) ≡ phaseOf status
+  pub fine : Fine (presumptionOf (v .transaction .cohort) (suc n)) m status (sentIn v (suc n)) (v .entered (suc n)) (v .voted (suc n))
+
+-- it is none: nothing is recorded, sent or entered
+pub record Stranger (n : ℕ) (v : View) : Type 0 where
+  pub stable : v .site (suc n) .stable ≡ []
+  pub unforced : v .site (suc n) .unforced ≡ []
+  pub sent : (m : Message) → sentIn v (suc n) m ≡ false
+  pub entered : (o : Outcome) → v .entered (suc n) o ≡ false
+
+abbrev pub Place : Bool → ℕ → Stage → ℕ → View → Type 0
+Place true t m n v = Member t m n v
+Place false t m n v = Stranger n v
+
+-- ---- the invariant, but for the coordinator's phase: it holds in the middle of a row too
+
+pub record Mid (t : ℕ) (h : Standing) (v : View) : Type 0 where
+  pub number : Opened v → t < 8
+  pub byte : v .transaction .cohort .members < 256
+  pub opened : isNever h ≡ empty (v .transaction .cohort .members)
+  pub log : v .site 0 ≡ siteWith (v .transaction .cohort) t 0 (standingUp h) (stableAt (writesInit (v .transaction .cohort)) h) (unforcedAt h)
+  pub fit : T (standingFits (writesInit (v .transaction .cohort)) h)
+  pub sets : SetsFit (v .transaction .cohort) h
+  pub entries : (o : Outcome) → T (v .entered 0 o) → T (hasDecided h o)
+  pub places : (n : ℕ) → Place (member (suc n) (v .transaction .cohort .members)) t (stageOf h (suc n)) n v
+
+-- ---- the invariant between events
+
+pub record Inv (t : ℕ) (h : Standing) (v : View) : Type 0 where
+  pub mid : Mid t h v
+  pub phase : v .transaction .coordinator ≡ coordinatorAt h
+  pub whole : T (between h)

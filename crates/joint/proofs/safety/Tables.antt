@@ -1,0 +1,202 @@
+-- One participant and the coordinator as it stands to that participant: the tables of the invariant. All of it is finite.
+use Prim.Native.Nat.{ℕ}
+use mathlib.Core.Bool.{Bool, true, false, not, _&&_, _||_}
+use mathlib.Core.List.{List, [], _∷_}
+use lib.Dec.{T, eqb}
+use Rattle.codec.specs.Lists.{any}
+use Rattle.site.specs.Presumption.{Outcome, commit, abort, sameOutcome, Presumption, acks, silence}
+use Rattle.site.specs.Step.{Message, prepare, voteYes, voteNo, tell, ack}
+use Rattle.site.specs.Participant.{Participant, outcomeRecord}
+
+-- ---- a participant: up or down, its phase, the kinds of its stable and of its unforced records, in the combinations that occur
+
+pub data Status : Type 0 where
+  -- up: no record; stable 5; Unknown and no record
+  working prepared gone : Status
+  -- up: stable 5, and 6 or 7 unforced
+  half : Outcome → Status
+  -- up: 7 unforced, alone
+  lone : Status
+  -- up: stable 6 or 7; whether 5 still stands before it
+  shut : Outcome → Bool → Status
+  -- down: no record; stable 5; stable 6 or 7
+  off offVoted : Status
+  offShut : Outcome → Bool → Status
+
+abbrev pub isUp : Status → Bool
+isUp working = true
+isUp prepared = true
+isUp gone = true
+isUp (half o) = true
+isUp lone = true
+isUp (shut o f) = true
+isUp off = false
+isUp offVoted = false
+isUp (offShut o f) = false
+
+abbrev pub phaseOf : Status → Participant
+phaseOf working = Participant.working
+phaseOf prepared = Participant.prepared
+phaseOf gone = Participant.unknown
+phaseOf (half o) = Participant.decided o
+phaseOf lone = Participant.decided abort
+phaseOf (shut o f) = Participant.decided o
+phaseOf off = Participant.unknown
+phaseOf offVoted = Participant.unknown
+phaseOf (offShut o f) = Participant.unknown
+
+-- the record of an outcome, behind 5 or alone
+abbrev pub endKinds : Outcome → Bool → List ℕ
+endKinds o true = 5 ∷ outcomeRecord o ∷ []
+endKinds o false = outcomeRecord o ∷ []
+
+abbrev pub stableKinds : Status → List ℕ
+stableKinds working = []
+stableKinds prepared = 5 ∷ []
+stableKinds gone = []
+stableKinds (half o) = 5 ∷ []
+stableKinds lone = []
+stableKinds (shut o f) = endKinds o f
+stableKinds off = []
+stableKinds offVoted = 5 ∷ []
+stableKinds (offShut o f) = endKinds o f
+
+abbrev pub unforcedKinds : Status → List ℕ
+unforcedKinds working = []
+unforcedKinds prepared = []
+unforcedKinds gone = []
+unforcedKinds (half o) = outcomeRecord o ∷ []
+unforcedKinds lone = outcomeRecord abort ∷ []
+unforcedKinds (shut o f) = []
+unforcedKinds off = []
+unforcedKinds offVoted = []
+unforcedKinds (offShut o f) = []
+
+abbrev pub isWorking : Status → Bool
+isWorking working = true
+isWorking prepared = false
+isWorking gone = false
+isWorking (half o) = false
+isWorking lone = false
+isWorking (shut o f) = false
+isWorking off = false
+isWorking offVoted = false
+isWorking (offShut o f) = false
+
+unfoldable pub has : ℕ → List ℕ → Bool
+has k ks = any (λ j. eqb j k) ks
+
+abbrev pub hasOutcome : List ℕ → Bool
+hasOutcome ks = has 6 ks || has 7 ks
+
+abbrev pub other : Outcome → Outcome
+other commit = abort
+other abort = commit
+
+-- the stable log holds 5 and no outcome
+abbrev pub doubtful : Status → Bool
+doubtful s = has 5 (stableKinds s) && not (hasOutcome (stableKinds s))
+
+-- neither in doubt nor to be brought there by a Prepare; p: a Prepare was sent
+abbrev pub quiet : Status → Bool → Bool
+quiet s p = not (doubtful s) && not (isWorking s && p)
+
+-- no outcome is recorded
+abbrev pub early : Status → Bool
+early s = not (hasOutcome (stableKinds s)) && not (hasOutcome (unforcedKinds s))
+
+-- Unknown or down, with no record
+abbrev pub blank : Status → Bool
+blank s = early s && not (has 5 (stableKinds s)) && not (isWorking s)
+
+-- the records are of outcome o, one that is acknowledged is forced, and a participant that still works aborts
+abbrev pub agrees : Presumption → Outcome → Status → Bool
+agrees c o s =
+    not (has (outcomeRecord (other o)) (stableKinds s))
+    && not (has (outcomeRecord (other o)) (unforcedKinds s))
+    && (not (doubtful s) || not (hasOutcome (unforcedKinds s)) || not (acks c o))
+    && (sameOutcome o abort || not (isWorking s))
+
+-- ---- the coordinator, as it stands to the participant
+
+pub data Stage : Type 0 where
+  -- before begin
+  fresh : Stage
+  -- collecting; whether the participant's vote is missing
+  asking : Bool → Stage
+  -- decided; whether the coordinator is done with the participant: in Unknown, now or after the next restart, or its ack is here or not owed
+  done : Outcome → Bool → Stage
+
+-- ---- the invariant: what states, messages and entries there may be at each stage
+
+abbrev pub fits : Presumption → Stage → Status → Bool → Bool
+fits c fresh s p = early s && not (has 5 (stableKinds s)) && not p
+fits c (asking w) s p = early s && (w || doubtful s)
+fits c (done o u) s p = agrees c o s && (not u || sameOutcome (silence c) o || quiet s p)
+
+-- whether a message may have been sent
+abbrev pub may : Stage → Status → Bool → Message → Bool
+may fresh s p prepare = p
+may fresh s p voteYes = false
+may fresh s p voteNo = false
+may fresh s p (tell o) = false
+may fresh s p (ack o) = false
+may (asking w) s p prepare = p
+may (asking w) s p voteYes = doubtful s
+may (asking w) s p voteNo = blank s
+may (asking w) s p (tell o) = false
+may (asking w) s p (ack o) = false
+may (done d u) s p prepare = p
+may (done d u) s p voteYes = true
+may (done d u) s p voteNo = true
+may (done d u) s p (tell o) = sameOutcome d o || quiet s p
+may (done d u) s p (ack o) = quiet s p
+
+-- whether the participant may have entered an outcome
+abbrev pub mayEnter : Stage → Status → Outcome → Bool
+mayEnter fresh s o = sameOutcome o abort && blank s
+mayEnter (asking w) s o = sameOutcome o abort && blank s
+mayEnter (done d u) s o = sameOutcome d o
+
+-- its vote was counted
+abbrev pub needsYes : Stage → Bool
+needsYes fresh = false
+needsYes (asking w) = not w
+needsYes (done o u) = sameOutcome o commit
+
+-- sent: its messages; entered: its entries; voted: it voted Yes from a stable record
+pub record Fine (c : Presumption) (m : Stage) (s : Status) (sent : Message → Bool) (entered : Outcome → Bool) (voted : Bool) : Type 0 where
+  pub shape : T (fits c m s (sent prepare))
+  pub messages : (g : Message) → T (sent g) → T (may m s (sent prepare) g)
+  pub entries : (o : Outcome) → T (entered o) → T (mayEnter m s o)
+  pub counted : T (needsYes m) → T (sent voteYes)
+  pub honest : T (sent voteYes) → T voted
+
+-- ---- how the coordinator may pass from stage to stage; sent: the participant's messages, of which it has received some
+
+abbrev pub passes : Presumption → (Message → Bool) → Stage → Stage → Bool
+passes c sent fresh fresh = true
+passes c sent fresh (asking w) = w
+passes c sent fresh (done o u) = sameOutcome o abort
+passes c sent (asking w) fresh = false
+passes c sent (asking w) (asking v) = v || not w || sent voteYes
+passes c sent (asking w) (done commit u) = not w && (not u || sameOutcome (silence c) commit)
+passes c sent (asking w) (done abort u) = not u || sameOutcome (silence c) abort || sent voteNo
+passes c sent (done o u) fresh = false
+passes c sent (done o u) (asking w) = false
+passes c sent (done o u) (done d v) = sameOutcome o d && (not v || u || sameOutcome (silence c) o || sent (ack o))
+
+-- what it may send the participant
+abbrev pub maySend : Presumption → Stage → Bool → Message → Bool
+maySend c fresh y m = false
+maySend c (asking w) y prepare = true
+maySend c (asking w) y voteYes = false
+maySend c (asking w) y voteNo = false
+maySend c (asking w) y (tell o) = false
+maySend c (asking w) y (ack o) = false
+maySend c (done d u) y prepare = false
+maySend c (done d u) y voteYes = false
+maySend c (done d u) y voteNo = false
+-- its outcome; or, to one with which it is done, what silence means, upon a Yes
+maySend c (done d u) y (tell o) = sameOutcome d o || (u && y && sameOutcome (silence c) o)
+maySend c (done d u) y (ack o) = false
