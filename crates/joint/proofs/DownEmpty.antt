@@ -136,7 +136,7 @@ pub record Good (r : Run) (p : Plan) : Type 0 where
   pub acts : (r .site (p .site) .up ≡ true) ⊎ AllLogless (p .acts)
   pub settles : (x : Run) → AllDownEmpty x → AllDownEmpty (p .settle x)
 
-abbrev All : (Plan → Type 0) → Option Plan → Type 0
+abbrev pub All : (Plan → Type 0) → Option Plan → Type 0
 All P none = Unit {0}
 All P (some p) = P p
 
@@ -169,12 +169,12 @@ only-good r true p h = h
 only-good r false p h = tt
 
 -- refusals that did not strike
-passes : (n : ℕ) (b : Bool) (l : List (ℕ × Bool)) → first ((suc n, b) ∷ l) ≡ 0 → (b ≡ false) × (first l ≡ 0)
+pub passes : (n : ℕ) (b : Bool) (l : List (ℕ × Bool)) → first ((suc n, b) ∷ l) ≡ 0 → (b ≡ false) × (first l ≡ 0)
 unfolding first
 passes n true l e = absurd (omega arith)
 passes n false l e = (refl, e)
 
-is-up : (r : Run) (s : ℕ) (l : List (ℕ × Bool)) → first ((5, isDown r s) ∷ l) ≡ 0 → r .site s .up ≡ true
+pub is-up : (r : Run) (s : ℕ) (l : List (ℕ × Bool)) → first ((5, isDown r s) ∷ l) ≡ 0 → r .site s .up ≡ true
 unfolding isDown
 is-up r s l e = not-false _ (passes 4 _ l e .0)
 

@@ -109,7 +109,7 @@ unfolding any
 any-append f [] ys = refl
 any-append f (x ∷ xs) ys = rw (any-append f xs ys, or-assoc)
 
-or-cases : (a b : Bool) → T (a || b) → T a ⊎ T b
+pub or-cases : (a b : Bool) → T (a || b) → T a ⊎ T b
 or-cases true b h = inl tt
 or-cases false b h = inr h
 

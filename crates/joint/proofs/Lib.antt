@@ -4,3 +4,5 @@ mod History
 mod view
 mod safety
 mod DownEmpty
+mod Moments
+mod EventMoments

@@ -2,3 +2,11 @@
 pub mod Updates
 pub mod View
 pub mod Turn
+pub mod Acts
+pub mod Carries
+pub mod Settles
+pub mod Ranges
+pub mod Once
+pub mod Restarts
+pub mod Rows
+pub mod Events

@@ -68,7 +68,7 @@ those-below f =
     )
 
 -- a mask is the set of its members
-those-members : (m : ℕ) → m < 256 → those (λ p. member p m) ≡ m
+pub those-members : (m : ℕ) → m < 256 → those (λ p. member p m) ≡ m
 unfolding those bits participants member
 those-members m h = eqb→eq _ _ (below-at 256 (λ m. eqb (those λ p. member p m) m) tt m h)
 

@@ -23,12 +23,12 @@ abbrev pub allOf : List Bool → Bool
 allOf [] = true
 allOf (b ∷ l) = b && allOf l
 
-abbrev nth : ℕ → List Bool → Bool
+abbrev pub nth : ℕ → List Bool → Bool
 nth n [] = true
 nth zero (b ∷ l) = b
 nth (suc n) (b ∷ l) = nth n l
 
-look : (n : ℕ) (l : List Bool) → T (allOf l) → T (nth n l)
+pub look : (n : ℕ) (l : List Bool) → T (allOf l) → T (nth n l)
 look n [] t = tt
 look zero (b ∷ l) t = and-left b (allOf l) t
 look (suc n) (b ∷ l) t = look n l (and-right b (allOf l) t)

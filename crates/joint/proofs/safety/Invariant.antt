@@ -5,7 +5,7 @@ use mathlib.Core.Bool.{Bool, true, false, not, _&&_, _||_}
 use mathlib.Core.List.{List, [], _∷_, map}
 use lib.ListN.{getD}
 use lib.Dec.{T}
-use Rattle.codec.specs.Sets.{member, empty}
+use Rattle.codec.specs.Sets.{member, empty, part}
 use Rattle.codec.specs.Records.{LogRecord}
 use Rattle.site.specs.Presumption.{Outcome, commit, abort, sameOutcome, Presumption, presumptionNumber}
 use Rattle.site.specs.Cohort.{Cohort, masksOf, presumptionOf, owing}
@@ -94,7 +94,7 @@ logFits i o (resting true) nothing = false
 logFits i o (resting true) (live d) = sameOutcome o d
 logFits i o (resting true) (ended d) = false
 logFits i o (resting false) nothing = true
-logFits i o (resting false) (live d) = sameOutcome o d && sameOutcome o commit
+logFits i o (resting false) (live d) = sameOutcome o d
 logFits i o (resting false) (ended d) = sameOutcome o d
 logFits i o down nothing = true
 logFits i o down (live d) = sameOutcome o d
@@ -114,7 +114,10 @@ SetsFit g (collecting w false) = (w < 256) × ((p : ℕ) → T (member p w) → 
 -- a record 2 stands where no vote is missing
 SetsFit g (collecting w true) = (p : ℕ) → T (member p w) → ⊥
 SetsFit g (decided o (waiting w) l) = (w < 256) × ((p : ℕ) → T (member p w) → T (member p (owing g o)))
-SetsFit g (decided o (resting b) l) = Unit {0}
+-- a record 3 stands unforced where acks were owed
+SetsFit g (decided commit (resting true) l) = empty (owing g commit) ≡ false
+SetsFit g (decided abort (resting true) l) = Unit {0}
+SetsFit g (decided o (resting false) l) = Unit {0}
 SetsFit g (decided o down l) = Unit {0}
 
 -- record 1 is written at begin where a member presumes commit
@@ -215,6 +218,7 @@ Place false t m n v = Stranger n v
 pub record Mid (t : ℕ) (h : Standing) (v : View) : Type 0 where
   pub number : Opened v → t < 8
   pub byte : v .transaction .cohort .members < 256
+  pub part : part (v .transaction .cohort .presumeCommit) (v .transaction .cohort .members) ≡ true
   pub opened : isNever h ≡ empty (v .transaction .cohort .members)
   pub log : v .site 0 ≡ siteWith (v .transaction .cohort) t 0 (standingUp h) (stableAt (writesInit (v .transaction .cohort)) h) (unforcedAt h)
   pub fit : T (standingFits (writesInit (v .transaction .cohort)) h)

@@ -172,19 +172,25 @@ pub record Fine (c : Presumption) (m : Stage) (s : Status) (sent : Message → B
   pub counted : T (needsYes m) → T (sent voteYes)
   pub honest : T (sent voteYes) → T voted
 
--- ---- how the coordinator may pass from stage to stage; sent: the participant's messages, of which it has received some
+-- ---- how the coordinator may pass from stage to stage; y, n, a: the participant sent a Yes, a No, an ack of the outcome that is decided
 
-abbrev pub passes : Presumption → (Message → Bool) → Stage → Stage → Bool
-passes c sent fresh fresh = true
-passes c sent fresh (asking w) = w
-passes c sent fresh (done o u) = sameOutcome o abort
-passes c sent (asking w) fresh = false
-passes c sent (asking w) (asking v) = v || not w || sent voteYes
-passes c sent (asking w) (done commit u) = not w && (not u || sameOutcome (silence c) commit)
-passes c sent (asking w) (done abort u) = not u || sameOutcome (silence c) abort || sent voteNo
-passes c sent (done o u) fresh = false
-passes c sent (done o u) (asking w) = false
-passes c sent (done o u) (done d v) = sameOutcome o d && (not v || u || sameOutcome (silence c) o || sent (ack o))
+abbrev pub passes : Presumption → Bool → Bool → Bool → Stage → Stage → Bool
+passes c y n a fresh fresh = true
+passes c y n a fresh (asking w) = w
+passes c y n a fresh (done o u) = sameOutcome o abort
+passes c y n a (asking w) fresh = false
+passes c y n a (asking w) (asking v) = v || not w || y
+passes c y n a (asking w) (done commit u) = not w && (not u || sameOutcome (silence c) commit)
+passes c y n a (asking w) (done abort u) = not u || sameOutcome (silence c) abort || n
+passes c y n a (done o u) fresh = false
+passes c y n a (done o u) (asking w) = false
+passes c y n a (done o u) (done d v) = sameOutcome o d && (not v || u || sameOutcome (silence c) o || a)
+
+-- what the participant may have acknowledged
+abbrev pub acked : (Message → Bool) → Stage → Bool
+acked f fresh = false
+acked f (asking w) = false
+acked f (done o u) = f (ack o)
 
 -- what it may send the participant
 abbrev pub maySend : Presumption → Stage → Bool → Message → Bool

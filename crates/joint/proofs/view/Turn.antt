@@ -1,14 +1,14 @@
 -- What one event may do to the view of one transaction: nothing, a force or a crash (its own or of another transaction's row), or one of the transaction's own steps.
-use Prim.Native.Nat.{ℕ, zero, suc, _<_}
+use Prim.Native.Nat.{ℕ, suc, _<_}
 use mathlib.Core.Path.{_≡_}
 use mathlib.Core.Bool.{Bool, true, false, not, _||_}
 use mathlib.Core.List.{List, [], _∷_, _++_}
-use mathlib.Core.Option.{Option, none, some}
+use mathlib.Core.Option.{some}
 use lib.ListN.{take, drop}
 use lib.Dec.{T, eqb}
-use Rattle.codec.specs.Sets.{member, empty}
+use Rattle.codec.specs.Sets.{member, empty, part}
 use Rattle.codec.specs.Records.{LogRecord}
-use Rattle.site.specs.Step.{Message, receiver, messageKind, Input, begin, timer, received, Effect, Row}
+use Rattle.site.specs.Step.{messageKind, Input, begin, timer, received, Effect, Row}
 use Rattle.site.specs.Cohort.{Cohort, presumptionOf}
 use Rattle.site.specs.Coordinator.{Coordinator, coordinatorStep, coordinatorRestart}
 use Rattle.site.specs.Participant.{Participant, participantStep, participantRestart}
@@ -26,6 +26,12 @@ abbrev pub Given : View → Input → Type 0
 Given v begin = Unit {0}
 Given v timer = Unit {0}
 Given v (received m p) = T (member p (v .transaction .cohort .members)) × T (v .transaction .sent p (messageKind m))
+
+-- it is of participant q itself
+abbrev pub Own : ℕ → Input → Type 0
+Own q begin = Unit {0}
+Own q timer = Unit {0}
+Own q (received m p) = p ≡ q
 
 abbrev pub Up : View → ℕ → Type 0
 Up v s = v .site s .up ≡ true
@@ -67,19 +73,21 @@ viewStart s g v = viewAt s started (viewSettle g v)
 pub data Turn (t : ℕ) (v : View) : View → Type 0 where
   forces : (s : ℕ) → Up v s → Turn t v (viewAt s forced v)
   crashes : (s n : ℕ) → Up v s → Turn t v (viewDown s n v)
-  -- members and PC are bytes, there is a member, and the sites of all members are up
-  opens : (g : Cohort) → t < 8 → g .members < 256 → empty (g .members) ≡ false → empty (v .transaction .cohort .members) ≡ true
+  -- members is a byte, PC a part of it, there is a member, and the sites of all members are up
+  opens : (g : Cohort) → t < 8 → g .members < 256 → part (g .presumeCommit) (g .members) ≡ true → empty (g .members) ≡ false → empty (v .transaction .cohort .members) ≡ true
       → Up v 0 → ((n : ℕ) → member (suc n) (g .members) ≡ true → Up v (suc n)) → Turn t v (viewSettle (openedAs g) v)
   coordinates : {row : Row Coordinator} {w : View} (i : Input) → Opened v → Up v 0 → Given v i
       → coordinatorStep (v .transaction .cohort) i (v .transaction .coordinator) ≡ some row
       → Carried t 0 (row .effects) (viewSettle (withCoordinator (row .phase))) v w → Turn t v w
-  participates : {row : Row Participant} {w : View} (n : ℕ) (i : Input) → T (member (suc n) (v .transaction .cohort .members)) → Up v (suc n) → Given v i
+  participates : {row : Row Participant} {w : View} (n : ℕ) (i : Input) → T (member (suc n) (v .transaction .cohort .members)) → Up v (suc n) → Given v i → Own (suc n) i
       → participantStep (presumptionOf (v .transaction .cohort) (suc n)) (suc n) i (v .transaction .participant (suc n)) ≡ some row
       → Carried t (suc n) (row .effects) (viewSettle (withParticipant (suc n) (row .phase))) v w → Turn t v w
   -- the coordinator, or a member
   discards : (s : ℕ) → Up v s → Opened v → newest closes (v .site s .stable) ≡ true → Turn t v (viewDiscard s v)
   -- a site starts, where the transaction is not opened and where it is
   starts : (s : ℕ) → v .site s .up ≡ false → empty (v .transaction .cohort .members) ≡ true → Turn t v (viewAt s started v)
+  -- a start that is cut, where the transaction is not opened
+  fails : (s n : ℕ) → v .site s .up ≡ false → empty (v .transaction .cohort .members) ≡ true → Turn t v (viewDown s n v)
   resumes : {row : Row Coordinator} {w : View} → Opened v → v .site 0 .up ≡ false
       → coordinatorRestart (v .transaction .cohort) (λ k. holds t k (v .site 0 .stable)) ≡ row
       → Carried t 0 (row .effects) (viewStart 0 (withCoordinator (row .phase))) v w → Turn t v w

@@ -1,15 +1,15 @@
 -- The view of one transaction: all that the safety proof looks at.
 -- It is the transaction itself, of each log its records, and what the history tells of its votes and entries; the entries that the run stores are not read.
 use Prim.Native.Nat.{ℕ}
-use mathlib.Core.Path.{_≡_, refl, fun-ext}
-use mathlib.Core.Bool.{Bool, _&&_, _||_}
+use mathlib.Core.Path.{_≡_, fun-ext}
+use mathlib.Core.Bool.{Bool, false, _&&_, _||_}
 use mathlib.Core.List.{List, [], _∷_}
 use lib.Dec.{eqb}
 use Rattle.codec.specs.Lists.{select, any}
-use Rattle.codec.specs.Records.{LogRecord, ofTransaction}
+use Rattle.codec.specs.Records.{ofTransaction}
 use Rattle.site.specs.Presumption.{Outcome, sameOutcome}
-use Rattle.site.specs.Step.{Message, voteYes, messageKind, Effect, append, force, enter, send}
-use Rattle.joint.specs.State.{Run, Site, Transaction, Act, holds, update, appended, forced, stopped, withSent, forgotten}
+use Rattle.site.specs.Step.{voteYes, messageKind, Effect, append, force, enter, send}
+use Rattle.joint.specs.State.{Run, Site, Transaction, holds, update, appended, forced, stopped, withSent, forgotten}
 use Rattle.joint.specs.Safety.{Moment, sends, isEntry, isVote}
 
 unfoldable pub siteView : ℕ → Site → Site
@@ -26,11 +26,16 @@ pub record View : Type 0 where
 unfoldable pub isEntryAt : ℕ → ℕ → Outcome → Moment → Bool
 isEntryAt t s o m = eqb (m .site) s && isEntry t o m
 
+-- a transaction without the entries that the run stores
+abbrev pub withoutEntries : Transaction → Transaction
+withoutEntries x =
+    record { cohort = x .cohort; coordinator = x .coordinator; participant = x .participant; sent = x .sent; entered = λ s o. false }
+
 -- of transaction t in the run r, when the moments ms have happened
 unfoldable pub view : ℕ → List Moment → Run → View
 view t ms r =
     record {
-      transaction = r .transaction t;
+      transaction = withoutEntries (r .transaction t);
       site = λ s. siteView t (r .site s);
       voted = λ p. any (isVote t p) ms;
       entered = λ s o. any (isEntryAt t s o) ms;

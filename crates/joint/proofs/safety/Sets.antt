@@ -1,0 +1,83 @@
+-- Laws of sets that the coordinator's rows need: who is a member of a set that is made.
+use Prim.Native.Nat.{ℕ, zero, suc, _-_, _*_, _/_, _%_, _^_, _<_}
+use mathlib.Core.Path.{_≡_, refl, sym, ap, _∙_, subst}
+use mathlib.Core.Bool.{Bool, true, false, not, _&&_}
+use mathlib.Core.List.{List, [], _∷_}
+use lib.ListN.{getD}
+use lib.Dec.{T, eqb}
+use native.Mathlib.Omega.{arith}
+use borrow.Author.Tests.{eq-eqb, eqb-true}
+use Rattle.codec.specs.Sets.{participants, member, empty, bits, those, without, both, minus}
+use Rattle.codec.specs.laws.Tests.{true-of, of-true, alike, alike-eq, below, below-at, bools, bools-at}
+use Rattle.codec.specs.laws.Masks.{those-alike, those-below, those-members}
+use Rattle.codec.specs.laws.Members.{noParticipant, numbered, high-bits, member-participant}
+use Rattle.site.specs.Presumption.{Outcome, commit, abort, acks}
+use Rattle.site.specs.Cohort.{Cohort, presumptionOf, owing}
+
+-- ---- the set of those that pass a test
+
+abbrev eight : (ℕ → Bool) → List Bool
+eight f = f 1 ∷ f 2 ∷ f 3 ∷ f 4 ∷ f 5 ∷ f 6 ∷ f 7 ∷ f 8 ∷ []
+
+eight-at : (f : ℕ → Bool) (i : ℕ) → i < 8 → getD (eight f) i false ≡ f (suc i)
+eight-at f zero h = refl
+eight-at f (suc zero) h = refl
+eight-at f (suc (suc zero)) h = refl
+eight-at f (suc (suc (suc zero))) h = refl
+eight-at f (suc (suc (suc (suc zero)))) h = refl
+eight-at f (suc (suc (suc (suc (suc zero))))) h = refl
+eight-at f (suc (suc (suc (suc (suc (suc zero)))))) h = refl
+eight-at f (suc (suc (suc (suc (suc (suc (suc zero))))))) h = refl
+eight-at f (suc (suc (suc (suc (suc (suc (suc (suc i)))))))) h = absurd (omega (arith, h))
+
+thoseTest : List Bool → ℕ → Bool
+thoseTest bs i = alike (member (suc i) (those (λ p. getD bs (p - 1) false))) (getD bs i false)
+
+those-tests : T (bools 8 (λ bs. below 8 (thoseTest bs)))
+unfolding member those bits participants thoseTest
+those-tests = tt
+
+in-those : (f : ℕ → Bool) (i : ℕ) → i < 8 → member (suc i) (those f) ≡ f (suc i)
+unfolding those bits participants thoseTest
+in-those f i h = alike-eq _ _ (below-at 8 (thoseTest (eight f)) (bools-at (λ bs. below 8 (thoseTest bs)) (eight f) those-tests) i h) ∙ eight-at f i h
+
+-- a member of a set that is made passes the test
+pub of-those : (f : ℕ → Bool) (n : ℕ) → T (member (suc n) (those f)) → T (f (suc n))
+of-those f n t =
+    let e = true-of (member (suc n) (those f)) t in
+    let r = numbered (suc n) (member-participant (suc n) (those f) (those-below f) e) in
+    of-true (sym (in-those f n (omega (arith, r .1))) ∙ e)
+
+-- and a member of a byte is in the set if it passes the test
+pub member-those : (f : ℕ → Bool) (n m : ℕ) → m < 256 → T (member (suc n) m) → member (suc n) (those f) ≡ f (suc n)
+member-those f n m h t =
+    let r = numbered (suc n) (member-participant (suc n) m h (true-of (member (suc n) m) t)) in
+    in-those f n (omega (arith, r .1))
+
+-- ---- no members
+
+none-in-0 : (p : ℕ) → member p 0 ≡ false
+unfolding member
+none-in-0 p = rw (high-bits 0 0 p (omega arith) (omega arith)) refl
+
+pub empty-none : (w p : ℕ) → T (empty w) → T (member p w) → ⊥
+unfolding empty
+empty-none w p e t = subst T (ap (member p) (eqb-true w 0 (true-of (eqb w 0) e)) ∙ none-in-0 p) t
+
+-- a set without members is 0
+pub none-empty : (w : ℕ) → w < 256 → ((n : ℕ) → T (member (suc n) w) → ⊥) → T (empty w)
+unfolding empty those bits participants
+none-empty w h none =
+    of-true (eq-eqb w 0 (sym (those-members w h) ∙ those-alike (λ p. member p w) (λ p. false) (λ i k. not-true (member (suc i) w) (none i))))
+  where
+    not-true : (b : Bool) → (T b → ⊥) → b ≡ false
+    not-true true f = absurd (f tt)
+    not-true false f = refl
+
+-- nobody has the number 0
+pub no-zero : (w : ℕ) → T (member 0 w) → ⊥
+unfolding member
+no-zero w t = subst T (ap (λ (k : ℕ). eqb k 1) even) t
+  where
+    even : 2 * w / 2 ^ 0 % 2 ≡ 0
+    even = omega arith

@@ -1,0 +1,257 @@
+-- The coordinator's small steps keep the invariant: a change of standing with its log, an entry, a message, a crash.
+use Prim.Native.Nat.{ℕ, zero, suc}
+use mathlib.Core.Path.{_≡_, refl, sym, ap, _∙_, subst}
+use mathlib.Core.Logic.{_⊎_, inl, inr}
+use mathlib.Core.Bool.{Bool, true, false, cond, not, _&&_, _||_}
+use mathlib.Core.List.{List, [], _∷_, _++_, map}
+use lib.ListN.{take}
+use lib.Dec.{T, eqb}
+use native.Mathlib.Omega.{arith}
+use borrow.Author.Tests.{eq-eqb, ne-eqb, eqb-true}
+use Rattle.codec.specs.Sets.{member, empty}
+use Rattle.codec.specs.Records.{LogRecord}
+use Rattle.site.specs.Presumption.{Outcome, commit, abort, sameOutcome, Presumption, silence}
+use Rattle.site.specs.Cohort.{Cohort, presumptionOf, owing}
+use Rattle.site.specs.Step.{Message, voteYes, voteNo, messageKind, Effect, append, force, enter, send}
+use Rattle.site.specs.Coordinator.{Coordinator, endRecord}
+use Rattle.joint.specs.State.{Site, update, appended, forced, stopped, withCoordinator, withSent, forgotten}
+use Rattle.joint.proofs.view.Updates.{update-other}
+use Rattle.joint.proofs.view.View.{View, viewAt, viewSettle, viewPerform, viewEffects, viewDown}
+use Rattle.joint.proofs.safety.Tables.{Status, has, Stage, fresh, asking, done, Fine, passes, acked, maySend}
+use Rattle.joint.proofs.safety.Passes.{or-left, or-right, or-either, pass-fine, send-fine, also}
+use Rattle.joint.proofs.safety.Invariant.{Standing, never, initial, collecting, decided, stageOf, hasDecided, standingFits, SetsFit, writesInit, standingUp, stableAt, unforcedAt, coordinatorAt, between, isNever, siteWith, sentIn, Member, Stranger, Place, Mid, Inv}
+
+-- ---- what changes of the standing are allowed
+
+abbrev pub cohortOf : View → Cohort
+cohortOf v = v .transaction .cohort
+
+abbrev pub PassesAt : View → Stage → Stage → ℕ → Type 0
+PassesAt v m m′ n = T (passes (presumptionOf (cohortOf v) (suc n)) (sentIn v (suc n) voteYes) (sentIn v (suc n) voteNo) (acked (sentIn v (suc n)) m) m m′)
+
+-- from h0 to h: what is decided stays, and a new commit has a stable record 2
+pub record From (i : Bool) (h0 h : Standing) : Type 0 where
+  pub keeps : (o : Outcome) → T (hasDecided h0 o) → T (hasDecided h o)
+  pub new : T (hasDecided h commit) → T (hasDecided h0 commit) ⊎ T (has 2 (stableAt i h))
+
+pub record Shift (v : View) (h h′ : Standing) : Type 0 where
+  pub never : isNever h′ ≡ isNever h
+  pub fit : T (standingFits (writesInit (cohortOf v)) h′)
+  pub sets : SetsFit (cohortOf v) h′
+  pub from : (h0 : Standing) → From (writesInit (cohortOf v)) h0 h → From (writesInit (cohortOf v)) h0 h′
+  pub passing : (n : ℕ) → T (member (suc n) (cohortOf v .members)) → PassesAt v (stageOf h (suc n)) (stageOf h′ (suc n)) n
+
+abbrev pub standsAs : ℕ → View → Standing → Site
+standsAs t v h = siteWith (cohortOf v) t 0 (standingUp h) (stableAt (writesInit (cohortOf v)) h) (unforcedAt h)
+
+-- ---- places
+
+pub place-map : (t n : ℕ) (m m′ : Stage) (v w : View) (b : Bool) → (T b → Member t m n v → Member t m′ n w) → (T (not b) → Stranger n v → Stranger n w)
+    → Place b t m n v → Place b t m′ n w
+place-map t n m m′ v w true f g x = f tt x
+place-map t n m m′ v w false f g x = g tt x
+
+member-pass : {t : ℕ} {v : View} {n : ℕ} {m : Stage} (m′ : Stage) → PassesAt v m m′ n → Member t m n v → Member t m′ n v
+member-pass m′ p x = record { status = x .status; site = x .site; phase = x .phase; fine = pass-fine (x .fine) m′ p }
+
+pub beside : (k : Site → Site) (f : ℕ → Site) (n : ℕ) → update 0 k f (suc n) ≡ f (suc n)
+beside k f n = update-other 0 (suc n) k f (λ e. absurd (omega (arith, e)))
+
+member-beside : {t : ℕ} {v : View} {n : ℕ} {m : Stage} (k : Site → Site) → Member t m n v → Member t m n (viewAt 0 k v)
+unfolding viewAt
+member-beside {v} {n} k x = record { status = x .status; site = beside k (v .site) n ∙ x .site; phase = x .phase; fine = x .fine }
+
+stranger-beside : {v : View} {n : ℕ} (k : Site → Site) → Stranger n v → Stranger n (viewAt 0 k v)
+unfolding viewAt
+stranger-beside {v} {n} k x =
+    record {
+      stable = ap (λ (y : Site). y .stable) (beside k (v .site) n) ∙ x .stable;
+      unforced = ap (λ (y : Site). y .unforced) (beside k (v .site) n) ∙ x .unforced;
+      sent = x .sent;
+      entered = x .entered;
+    }
+
+member-settle : {t : ℕ} {v : View} {n : ℕ} {m : Stage} (c : Coordinator) → Member t m n v → Member t m n (viewSettle (withCoordinator c) v)
+unfolding viewSettle withCoordinator
+member-settle c x = record { status = x .status; site = x .site; phase = x .phase; fine = x .fine }
+
+stranger-settle : {v : View} {n : ℕ} (c : Coordinator) → Stranger n v → Stranger n (viewSettle (withCoordinator c) v)
+unfolding viewSettle withCoordinator
+stranger-settle c x = record { stable = x .stable; unforced = x .unforced; sent = x .sent; entered = x .entered }
+
+-- the coordinator's own number is no participant's
+own-number : (n : ℕ) → eqb 0 (suc n) ≡ false
+own-number n = ne-eqb 0 (suc n) (λ e. absurd (omega (arith, e)))
+
+not-own : (n : ℕ) (a b : Bool) → T (a || (eqb 0 (suc n) && b)) → T a
+not-own n a b u = or-either a (eqb 0 (suc n) && b) (λ k. k) (λ k. absurd (subst (λ (z : Bool). T (z && b)) (own-number n) k)) u
+
+member-entered : {t : ℕ} {v : View} {n : ℕ} {m : Stage} (o : Outcome) → Member t m n v → Member t m n (viewPerform 0 t (enter o) v)
+unfolding viewPerform
+member-entered {v} {n} o x =
+    record {
+      status = x .status;
+      site = x .site;
+      phase = x .phase;
+      fine =
+          record {
+            shape = x .fine .shape;
+            messages = x .fine .messages;
+            entries = λ d u. x .fine .entries d (not-own n (v .entered (suc n) d) (sameOutcome d o) u);
+            counted = x .fine .counted;
+            honest = x .fine .honest;
+          };
+    }
+
+stranger-entered : (t : ℕ) {v : View} {n : ℕ} (o : Outcome) → Stranger n v → Stranger n (viewPerform 0 t (enter o) v)
+unfolding viewPerform
+stranger-entered t {v} {n} o x =
+    record { stable = x .stable; unforced = x .unforced; sent = x .sent; entered = λ d. rw (x .entered d, own-number n) refl }
+
+both-ways : (b : Bool) → T b → T (not b) → ⊥
+both-ways true t u = u
+both-ways false t u = t
+
+-- ---- standings
+
+module _ {t : ℕ} {v : View} {h : Standing} (mid : Mid t h v) where
+  abbrev isMember : ℕ → Bool
+  isMember n = member (suc n) (cohortOf v .members)
+
+  -- without an effect
+  pub stay : {h′ : Standing} → Shift v h h′ → standsAs t v h ≡ standsAs t v h′ → Mid t h′ v
+  stay {h′} x e =
+      record {
+        number = mid .number;
+        byte = mid .byte;
+        part = mid .part;
+        opened = x .never ∙ mid .opened;
+        log = mid .log ∙ e;
+        fit = x .fit;
+        sets = x .sets;
+        entries = λ o u. x .from h (record { keeps = λ o k. k; new = inl }) .keeps o (mid .entries o u);
+        places = λ n. place-map t n (stageOf h (suc n)) (stageOf h′ (suc n)) v v (isMember n) (λ b. member-pass (stageOf h′ (suc n)) (x .passing n b)) (λ b s. s) (mid .places n);
+      }
+
+  -- with a change of the log
+  pub stand : {h′ : Standing} → Shift v h h′ → (k : Site → Site) → k (standsAs t v h) ≡ standsAs t v h′ → Mid t h′ (viewAt 0 k v)
+  unfolding viewAt update
+  stand {h′} x k e =
+      record {
+        number = mid .number;
+        byte = mid .byte;
+        part = mid .part;
+        opened = x .never ∙ mid .opened;
+        log = ap k (mid .log) ∙ e;
+        fit = x .fit;
+        sets = x .sets;
+        entries = λ o u. x .from h (record { keeps = λ o k. k; new = inl }) .keeps o (mid .entries o u);
+        places = λ n. place-map t n (stageOf h (suc n)) (stageOf h′ (suc n)) v (viewAt 0 k v) (isMember n) (λ b y. member-beside k (member-pass (stageOf h′ (suc n)) (x .passing n b) y)) (λ b. stranger-beside k) (mid .places n);
+      }
+
+  pub settle-mid : (c : Coordinator) → Mid t h (viewSettle (withCoordinator c) v)
+  unfolding viewSettle withCoordinator
+  settle-mid c =
+      record {
+        number = mid .number;
+        byte = mid .byte;
+        part = mid .part;
+        opened = mid .opened;
+        log = mid .log;
+        fit = mid .fit;
+        sets = mid .sets;
+        entries = mid .entries;
+        places = λ n. place-map t n (stageOf h (suc n)) (stageOf h (suc n)) v (viewSettle (withCoordinator c) v) (isMember n) (λ b. member-settle c) (λ b. stranger-settle c) (mid .places n);
+      }
+
+  -- ---- an entry
+
+  pub enter-mid : (o : Outcome) → T (hasDecided h o) → Mid t h (viewPerform 0 t (enter o) v)
+  unfolding viewPerform
+  enter-mid o d =
+      record {
+        number = mid .number;
+        byte = mid .byte;
+        part = mid .part;
+        opened = mid .opened;
+        log = mid .log;
+        fit = mid .fit;
+        sets = mid .sets;
+        entries = λ r u. or-either (v .entered 0 r) (sameOutcome r o) (mid .entries r) (λ k. subst (λ (z : Outcome). T (hasDecided h z)) (sym (same-outcome r o k)) d) u;
+        places = λ n. place-map t n (stageOf h (suc n)) (stageOf h (suc n)) v (viewPerform 0 t (enter o) v) (isMember n) (λ b. member-entered o) (λ b. stranger-entered t o) (mid .places n);
+      }
+    where
+      same-outcome : (r o : Outcome) → T (sameOutcome r o) → r ≡ o
+      same-outcome commit commit u = refl
+      same-outcome commit abort u = absurd (unfold sameOutcome in u)
+      same-outcome abort commit u = absurd (unfold sameOutcome in u)
+      same-outcome abort abort u = refl
+
+  -- ---- a message to the member suc n; y: whether it answers a Yes
+
+  module _ (y : Bool) (n : ℕ) (known : T (member (suc n) (cohortOf v .members))) (answers : T y → T (sentIn v (suc n) voteYes)) (g : Message)
+      (may : T (maySend (presumptionOf (cohortOf v) (suc n)) (stageOf h (suc n)) y g)) where
+    abbrev toHim : ℕ → Bool
+    toHim k = eqb (suc k) (suc n)
+
+    abbrev Sent : ℕ → Bool → Status → Type 0
+    Sent k b s = Fine (presumptionOf (cohortOf v) (suc k)) (stageOf h (suc k)) s (λ j. (b && eqb (messageKind j) (messageKind g)) || sentIn v (suc k) j) (v .entered (suc k)) (v .voted (suc k))
+
+    fine-sent : (k : ℕ) (b : Bool) → toHim k ≡ b → (x : Member t (stageOf h (suc k)) k v) → Sent k b (x .status)
+    fine-sent k false e x = x .fine
+    fine-sent k true e x =
+        send-fine (x .fine) y (subst (λ (z : ℕ). T y → T (sentIn v z voteYes)) (sym him) answers) g
+        (subst (λ (z : ℕ). T (maySend (presumptionOf (cohortOf v) z) (stageOf h z) y g)) (sym him) may)
+      where
+        him : suc k ≡ suc n
+        him = eqb-true (suc k) (suc n) e
+
+    member-sent : (k : ℕ) → Member t (stageOf h (suc k)) k v → Member t (stageOf h (suc k)) k (viewPerform 0 t (send g (suc n)) v)
+    unfolding viewPerform withSent
+    member-sent k x =
+        let f = fine-sent k (toHim k) refl x in
+        record {
+          status = x .status;
+          site = x .site;
+          phase = x .phase;
+          fine =
+              record {
+                shape = f .shape;
+                messages = f .messages;
+                entries = f .entries;
+                counted = f .counted;
+                honest = λ u. or-left (v .voted (suc k)) _ (f .honest u);
+              };
+        }
+
+    not-him : (k : ℕ) → T (not (member (suc k) (cohortOf v .members))) → toHim k ≡ false
+    not-him k u = go (toHim k) refl
+      where
+        go : (b : Bool) → toHim k ≡ b → toHim k ≡ false
+        go false e = e
+        go true e = absurd (both-ways (member (suc n) (cohortOf v .members)) known (subst (λ (z : ℕ). T (not (member z (cohortOf v .members)))) (eqb-true (suc k) (suc n) e) u))
+
+    stranger-sent : (k : ℕ) → T (not (member (suc k) (cohortOf v .members))) → Stranger k v → Stranger k (viewPerform 0 t (send g (suc n)) v)
+    unfolding viewPerform withSent
+    stranger-sent k u x =
+        record {
+          stable = x .stable;
+          unforced = x .unforced;
+          sent = λ m. rw (not-him k u) (x .sent m);
+          entered = x .entered;
+        }
+
+    pub send-mid : Mid t h (viewPerform 0 t (send g (suc n)) v)
+    unfolding viewPerform withSent
+    send-mid =
+        record {
+          number = mid .number;
+          byte = mid .byte;
+          part = mid .part;
+          opened = mid .opened;
+          log = mid .log;
+          fit = mid .fit;
+          sets = mid .sets;
+          entries = mid .entries;
+          places = λ k. place-map t k (stageOf h (suc k)) (stageOf h (suc k)) v (viewPerform 0 t (send g (suc n)) v) (isMember k) (λ b. member-sent k) (stranger-sent k) (mid .places k);
+        }

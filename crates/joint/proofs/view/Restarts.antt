@@ -1,0 +1,170 @@
+-- A restart of a site in the view of one transaction: its own row is seen, if it is opened.
+use Prim.Native.Nat.{ℕ, zero, suc, _<_}
+use mathlib.Core.Path.{_≡_, refl, sym, ap, _∙_, fun-ext}
+use mathlib.Core.Logic.{_≢_}
+use mathlib.Core.Bool.{Bool, true, false, cond, true≢false}
+use mathlib.Core.List.{List, [], _∷_, _++_, append-nil}
+use lib.Dec.{eqb}
+use borrow.Author.Tests.{eqb-true, eqb-false, not-true, not-false}
+use Rattle.codec.specs.Lists.{select}
+use Rattle.codec.specs.Sets.{empty}
+use Rattle.site.specs.Step.{Effect, append, force, enter, send, Row}
+use Rattle.site.specs.Cohort.{presumptionOf}
+use Rattle.site.specs.Coordinator.{Coordinator, coordinatorRestart}
+use Rattle.site.specs.Participant.{Participant, participantRestart}
+use Rattle.joint.specs.State.{Run, opened, holds, started, withCoordinator, withParticipant}
+use Rattle.joint.specs.Plan.{acting, rowPlan, transactions, restarting, joined, restartAll}
+use Rattle.joint.specs.Run.{isForce}
+use Rattle.joint.specs.Safety.{Moment}
+use Rattle.joint.proofs.DownEmpty.{AllLogless, restarting-logless}
+use Rattle.joint.proofs.view.View.{View, siteView, view, viewAt, viewSettle, viewEffects}
+use Rattle.joint.proofs.view.Turn.{Opened, Carried, whole, cutAfter, viewStart, starts, fails, resumes, returns, Turns, still, more}
+use Rattle.joint.proofs.view.Acts.{holds-select, effectsOf, seenEffects}
+use Rattle.joint.proofs.view.Carries.{seen-append, seen-own, seen-other, Shown}
+use Rattle.joint.proofs.view.Once.{absent, once, absent-head, select-absent, once-select, once-transaction}
+use Rattle.joint.proofs.view.Settles.{coordinator-bare, participant-bare, settle-own, settle-other, start-view}
+
+-- ---- rows of a restart
+
+logless-forces : (u : ℕ) (es : List Effect) → AllLogless (acting u es) → select isForce es ≡ []
+unfolding acting select isForce
+logless-forces u [] h = refl
+logless-forces u (append k fs ∷ es) h = absurd (h .0)
+logless-forces u (force ∷ es) h = absurd (h .0)
+logless-forces u (enter o ∷ es) h = logless-forces u es (h .1)
+logless-forces u (send m p ∷ es) h = logless-forces u es (h .1)
+
+module _ (t : ℕ) (r : Run) where
+  other-seen : (s u : ℕ) → u ≢ t → seenEffects t (restarting r s u .acts) ≡ []
+  unfolding restarting rowPlan
+  other-seen zero u h = seen-other t u h _ ∙ logless-forces u _ (restarting-logless r zero u)
+  other-seen (suc n) u h = seen-other t u h _ ∙ logless-forces u _ (restarting-logless r (suc n) u)
+
+  other-settles : (s u : ℕ) → u ≢ t → (ms : List Moment) (x : Run) → view t ms (restarting r s u .settle x) ≡ view t ms x
+  unfolding restarting rowPlan
+  other-settles zero u h ms x = settle-other t u _ h ms x
+  other-settles (suc n) u h ms x = settle-other t u _ h ms x
+
+  restart-site : (s : ℕ) (ts : List ℕ) → restartAll r s ts .site ≡ s
+  unfolding restartAll joined restarting rowPlan
+  restart-site s [] = refl
+  restart-site zero (u ∷ ts) = refl
+  restart-site (suc n) (u ∷ ts) = refl
+
+  module _ (s : ℕ) where
+    absent-seen : (ts : List ℕ) → absent t ts ≡ true → seenEffects t (restartAll r s ts .acts) ≡ []
+    unfolding restartAll joined
+    absent-seen [] h = unfold seenEffects select effectsOf in refl
+    absent-seen (u ∷ ts) h =
+        let q = absent-head t u ts h in
+        seen-append t (restarting r s u .acts) (restartAll r s ts .acts) ∙ rw (other-seen s u (q .0)) (absent-seen ts (q .1))
+
+    absent-settles : (ts : List ℕ) → absent t ts ≡ true → (ms : List Moment) (x : Run)
+        → view t ms (restartAll r s ts .settle x) ≡ viewAt s started (view t ms x)
+    unfolding restartAll joined
+    absent-settles [] h ms x = start-view t s ms x
+    absent-settles (u ∷ ts) h ms x =
+        let q = absent-head t u ts h in
+        absent-settles ts (q .1) ms (restarting r s u .settle x) ∙ ap (viewAt s started) (other-settles s u (q .0) ms x)
+
+    once-seen : (ts : List ℕ) → once t ts ≡ true → seenEffects t (restartAll r s ts .acts) ≡ seenEffects t (restarting r s t .acts)
+    unfolding once restartAll joined
+    once-seen [] h = absurd (true≢false (sym h))
+    once-seen (u ∷ ts) h = seen-append t (restarting r s u .acts) (restartAll r s ts .acts) ∙ go (eqb u t) refl h (once-seen ts)
+      where
+        go : (b : Bool) → eqb u t ≡ b → cond b (absent t ts) (once t ts) ≡ true
+            → (once t ts ≡ true → seenEffects t (restartAll r s ts .acts) ≡ seenEffects t (restarting r s t .acts))
+            → seenEffects t (restarting r s u .acts) ++ seenEffects t (restartAll r s ts .acts) ≡ seenEffects t (restarting r s t .acts)
+        go true q k ih = rw (eqb-true u t q, absent-seen ts k, append-nil)
+        go false q k ih = rw (other-seen s u (eqb-false u t q)) (ih k)
+
+    module _ (f : View → View) (own : (ms : List Moment) (x : Run) → view t ms (restarting r s t .settle x) ≡ f (view t ms x)) where
+      once-settles : (ts : List ℕ) → once t ts ≡ true → (ms : List Moment) (x : Run)
+          → view t ms (restartAll r s ts .settle x) ≡ viewAt s started (f (view t ms x))
+      unfolding once restartAll joined
+      once-settles [] h ms x = absurd (true≢false (sym h))
+      once-settles (u ∷ ts) h ms x = go (eqb u t) refl h (λ k. once-settles ts k ms (restarting r s u .settle x))
+        where
+          go : (b : Bool) → eqb u t ≡ b → cond b (absent t ts) (once t ts) ≡ true
+              → (once t ts ≡ true
+              → view t ms (restartAll r s ts .settle (restarting r s u .settle x)) ≡ viewAt s started (f (view t ms (restarting r s u .settle x))))
+              → view t ms (restartAll r s ts .settle (restarting r s u .settle x)) ≡ viewAt s started (f (view t ms x))
+          go true q k ih = rw (eqb-true u t q) (absent-settles ts k ms (restarting r s t .settle x) ∙ ap (viewAt s started) (own ms x))
+          go false q k ih = ih k ∙ ap (λ (v : View). viewAt s started (f v)) (other-settles s u (eqb-false u t q) ms x)
+
+-- ---- what the view tells of the run
+
+module _ (t : ℕ) (ms : List Moment) (r : Run) where
+  pub not-opened : opened r t ≡ false → empty (view t ms r .transaction .cohort .members) ≡ true
+  unfolding view opened
+  not-opened e = not-false _ e
+
+  pub is-opened : opened r t ≡ true → Opened (view t ms r)
+  unfolding view opened
+  is-opened e = not-true _ e
+
+  pub site-up : (s : ℕ) → view t ms r .site s .up ≡ r .site s .up
+  unfolding view siteView
+  site-up s = refl
+
+-- ---- the turn
+
+module _ (t : ℕ) (r : Run) where
+  -- t is not opened: none of the rows is its
+  absent-turns : {v w : View} (s : ℕ) → v .site s .up ≡ false → empty (v .transaction .cohort .members) ≡ true
+      → Carried t s [] (viewAt s started) v w → Turns t v w
+  unfolding viewEffects
+  absent-turns s d e whole = more (starts s d e) still
+  absent-turns s d e (cutAfter zero n) = more (fails s n d e) still
+  absent-turns s d e (cutAfter (suc m) n) = more (fails s n d e) still
+
+  absent-shown : (s : ℕ) (ts : List ℕ) → r .site s .up ≡ false → opened r t ≡ false → absent t ts ≡ true → Shown t r (restartAll r s ts)
+  absent-shown s ts d e h =
+      record {
+        after = viewAt s started;
+        settles = absent-settles t r s ts h;
+        turns = λ ms w c. absent-turns s (site-up t ms r s ∙ d) (not-opened t ms r e) (rw (restart-site t r s ts, absent-seen t r s ts h) at c);
+      }
+
+  held : (s : ℕ) (ms : List Moment) → _≡_ {A = ℕ → Bool} (λ k. holds t k (view t ms r .site s .stable)) (λ k. holds t k (r .site s .stable))
+  unfolding view siteView
+  held s ms = fun-ext (λ k. holds-select t k (r .site s .stable))
+
+  -- t is opened: one row is its
+  once-shown : (s : ℕ) (ts : List ℕ) → r .site s .up ≡ false → opened r t ≡ true → once t ts ≡ true → Shown t r (restartAll r s ts)
+  unfolding restarting rowPlan viewStart view
+  once-shown zero ts d e h =
+      let row : Row Coordinator = coordinatorRestart (r .transaction t .cohort) (λ k. holds t k (r .site 0 .stable)) in
+      record {
+        after = viewStart 0 (withCoordinator (row .phase));
+        settles = once-settles t r 0 (viewSettle (withCoordinator (row .phase))) (settle-own t _ (coordinator-bare (row .phase))) ts h;
+        turns =
+            λ ms w c.
+            more
+            (resumes {row = row} (is-opened t ms r e) (site-up t ms r 0 ∙ d)
+            (ap (coordinatorRestart (r .transaction t .cohort)) (held 0 ms))
+            (rw (restart-site t r 0 ts, once-seen t r 0 ts h, seen-own t (row .effects)) at c))
+            still;
+      }
+  once-shown (suc n) ts d e h =
+      let presumption = presumptionOf (r .transaction t .cohort) (suc n) in
+      let row : Row Participant = participantRestart presumption (suc n) (λ k. holds t k (r .site (suc n) .stable)) in
+      record {
+        after = viewStart (suc n) (withParticipant (suc n) (row .phase));
+        settles =
+            once-settles t r (suc n) (viewSettle (withParticipant (suc n) (row .phase))) (settle-own t _ (participant-bare (suc n) (row .phase))) ts h;
+        turns =
+            λ ms w c.
+            more
+            (returns {row = row} n (is-opened t ms r e) (site-up t ms r (suc n) ∙ d)
+            (ap (participantRestart presumption (suc n)) (held (suc n) ms))
+            (rw (restart-site t r (suc n) ts, once-seen t r (suc n) ts h, seen-own t (row .effects)) at c))
+            still;
+      }
+
+  pub restart-shown : (s : ℕ) → r .site s .up ≡ false → (opened r t ≡ true → t < 8) → Shown t r (restartAll r s (select (opened r) transactions))
+  restart-shown s d h = go (opened r t) refl
+    where
+      go : (b : Bool) → opened r t ≡ b → Shown t r (restartAll r s (select (opened r) transactions))
+      go true e = once-shown s _ d e (once-select t (opened r) e transactions (once-transaction t (h e)))
+      go false e = absent-shown s _ d e (select-absent t (opened r) e transactions)
