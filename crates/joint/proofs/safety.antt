@@ -6,3 +6,4 @@ pub mod Sets
 pub mod Invariant
 pub mod Logs
 pub mod Steps
+pub mod Crashes

@@ -6,13 +6,14 @@ use mathlib.Core.List.{List, [], _∷_, _++_, map, append-nil}
 use lib.ListN.{take, drop}
 use lib.Dec.{T, eqb}
 use Rattle.codec.specs.Lists.{any, same}
-use Rattle.codec.specs.laws.Tests.{true-of, same-list}
+use Rattle.codec.specs.laws.Tests.{true-of, alike, alike-eq, same-list}
 use Rattle.site.specs.Presumption.{Outcome, commit, abort, sameOutcome}
 use Rattle.site.specs.Cohort.{Cohort}
 use Rattle.site.specs.Coordinator.{endRecord}
 use Rattle.joint.specs.State.{Site, appended, forced, stopped}
 use Rattle.joint.proofs.safety.Tables.{has}
 use Rattle.joint.proofs.safety.Finite.{_⇒_, mp, allOf, nth, look, allBool, at-bool, allOutcome, at-outcome}
+use Rattle.joint.proofs.safety.Passes.{or-left, or-right}
 use Rattle.joint.proofs.safety.Invariant.{Log, l0, l1, l12, l2, l123, l23, l3, l14, l4, kindsIn, Class, nothing, live, ended, classOf, resumed, Pace, waiting, resting, down, logFits, initLog, entry, siteWith}
 
 -- with the end record
@@ -72,31 +73,80 @@ laws w i o l =
     -- 4, 5: a discard
     ∷ (logFits i o (resting false) (classOf l) ⇒ logFits i o (resting false) (classOf (older l)))
     ∷ same (kindsIn (older l)) (drop 1 (kindsIn l))
-    -- 6, 7: restart resumes; 8: it does not
+    -- 6, 7: restart resumes, or does not
     ∷ (resumed (classOf l) ⇒ logFits i o down (classOf l) ⇒ logFits i o (waiting w) (classOf l))
-    ∷ (resumed (classOf l) ⇒ logFits i o down (classOf l) ⇒ logFits i o (resting false) (classOf l))
-    ∷ (not (resumed (classOf l)) ⇒ logFits i o down (classOf l) ⇒ logFits i o (resting false) (classOf l))
-    -- 9: the end record is written, 10: there is none to write
+    ∷ (logFits i o down (classOf l) ⇒ logFits i o (resting false) (classOf l))
+    -- 8: the end record is written, 9: there is none to write
     ∷ ((i || sameOutcome o commit) ⇒ logFits i o (waiting w) (classOf l) ⇒ logFits i o (resting true) (classOf l))
     ∷ (logFits i o (waiting w) (classOf l) ⇒ logFits i o (resting false) (classOf l))
-    -- 11: record 2 is of a commit
+    -- 10: record 2 is of a commit
     ∷ (has 2 (kindsIn l) ⇒ logFits i o down (classOf l) ⇒ sameOutcome o commit)
-    -- 12: an abort without record 1 has no record
+    -- 11: where nothing would be resumed it is an abort without record 1
     ∷ (logFits i o (waiting w) (classOf l) ⇒ not (resumed (classOf l)) ⇒ (sameOutcome o abort && not i))
-    -- 13, 14: restart asks the kinds
-    ∷ (logFits i o down (classOf l) ⇒ sameOutcome o commit ⇒ allOf (eqBool (has 2 (kindsIn l) && not (has 3 (kindsIn l))) (resumed (classOf l)) ∷ not (has 1 (kindsIn l) && not (has 2 (kindsIn l)) && not (has 4 (kindsIn l))) ∷ []))
-    ∷ (logFits i o down (classOf l) ⇒ sameOutcome o abort ⇒ allOf (not (has 2 (kindsIn l) && not (has 3 (kindsIn l))) ∷ eqBool (has 1 (kindsIn l) && not (has 2 (kindsIn l)) && not (has 4 (kindsIn l))) (resumed (classOf l)) ∷ []))
+    -- 12, 13: what restart asks of the kinds
+    ∷ (logFits i o down (classOf l) ⇒ alike (has 2 (kindsIn l) && not (has 3 (kindsIn l))) (sameOutcome o commit && resumed (classOf l)))
+    ∷ (logFits i o down (classOf l) ⇒ alike (has 1 (kindsIn l) && not (has 2 (kindsIn l)) && not (has 4 (kindsIn l))) (sameOutcome o abort && resumed (classOf l)))
+    -- 14: record 2 stays
+    ∷ (has 2 (kindsIn l) ⇒ has 2 (kindsIn (closed l)))
     ∷ []
-  where
-    eqBool : Bool → Bool → Bool
-    eqBool true b = b
-    eqBool false b = not b
 
 law-tests : (w : ℕ) → T (allOf (logs (λ l. allOutcome (λ o. allBool (λ i. allOf (laws w i o l))))))
 unfolding any same has sameOutcome endRecord
 law-tests w = tt
 
-pub law : (k w : ℕ) (i : Bool) (o : Outcome) (l : Log) → T (nth k (laws w i o l))
+law : (k w : ℕ) (i : Bool) (o : Outcome) (l : Log) → T (nth k (laws w i o l))
 law k w i o l =
     look k (laws w i o l)
     (at-bool (λ i. allOf (laws w i o l)) (at-outcome (λ o. allBool (λ i. allOf (laws w i o l))) (at-log (λ l. allOutcome (λ o. allBool (λ i. allOf (laws w i o l)))) (law-tests w) l) o) i)
+
+-- ---- the laws, one by one
+
+module _ (i : Bool) (o : Outcome) (l : Log) where
+  abbrev Fits : Pace → Type 0
+  Fits p = T (logFits i o p (classOf l))
+
+  pub waiting-down : (w : ℕ) → Fits (waiting w) → Fits down
+  waiting-down w = mp (logFits i o (waiting w) (classOf l)) (logFits i o down (classOf l)) (law 0 w i o l)
+
+  pub resting-down : (b : Bool) → Fits (resting b) → Fits down
+  resting-down true f = mp (logFits i o (resting true) (classOf l) || logFits i o (resting false) (classOf l)) (logFits i o down (classOf l)) (law 1 0 i o l) (or-left (logFits i o (resting true) (classOf l)) (logFits i o (resting false) (classOf l)) f)
+  resting-down false f = mp (logFits i o (resting true) (classOf l) || logFits i o (resting false) (classOf l)) (logFits i o down (classOf l)) (law 1 0 i o l) (or-right (logFits i o (resting true) (classOf l)) (logFits i o (resting false) (classOf l)) f)
+
+  pub closed-fits : Fits (resting true) → T (logFits i o (resting false) (classOf (closed l)))
+  closed-fits = mp (logFits i o (resting true) (classOf l)) (logFits i o (resting false) (classOf (closed l))) (law 2 0 i o l)
+
+  pub closed-kinds : Fits (resting true) → kindsIn (closed l) ≡ kindsIn l ++ (endRecord o ∷ [])
+  closed-kinds f = same-list _ _ (true-of _ (mp (logFits i o (resting true) (classOf l)) (same (kindsIn (closed l)) (kindsIn l ++ (endRecord o ∷ []))) (law 3 0 i o l) f))
+
+  pub older-fits : Fits (resting false) → T (logFits i o (resting false) (classOf (older l)))
+  older-fits = mp (logFits i o (resting false) (classOf l)) (logFits i o (resting false) (classOf (older l))) (law 4 0 i o l)
+
+  pub older-kinds : kindsIn (older l) ≡ drop 1 (kindsIn l)
+  older-kinds = same-list _ _ (true-of (same (kindsIn (older l)) (drop 1 (kindsIn l))) (law 5 0 i o l))
+
+  pub resumed-waiting : (w : ℕ) → T (resumed (classOf l)) → Fits down → Fits (waiting w)
+  resumed-waiting w r f = mp (logFits i o down (classOf l)) (logFits i o (waiting w) (classOf l)) (mp (resumed (classOf l)) (logFits i o down (classOf l) ⇒ logFits i o (waiting w) (classOf l)) (law 6 w i o l) r) f
+
+  pub down-resting : Fits down → Fits (resting false)
+  down-resting = mp (logFits i o down (classOf l)) (logFits i o (resting false) (classOf l)) (law 7 0 i o l)
+
+  pub end-written : (w : ℕ) → T (i || sameOutcome o commit) → Fits (waiting w) → Fits (resting true)
+  end-written w r f = mp (logFits i o (waiting w) (classOf l)) (logFits i o (resting true) (classOf l)) (mp (i || sameOutcome o commit) (logFits i o (waiting w) (classOf l) ⇒ logFits i o (resting true) (classOf l)) (law 8 w i o l) r) f
+
+  pub end-unwritten : (w : ℕ) → Fits (waiting w) → Fits (resting false)
+  end-unwritten w = mp (logFits i o (waiting w) (classOf l)) (logFits i o (resting false) (classOf l)) (law 9 w i o l)
+
+  pub commit-record : T (has 2 (kindsIn l)) → Fits down → T (sameOutcome o commit)
+  commit-record r f = mp (logFits i o down (classOf l)) (sameOutcome o commit) (mp (has 2 (kindsIn l)) (logFits i o down (classOf l) ⇒ sameOutcome o commit) (law 10 0 i o l) r) f
+
+  pub abort-unwritten : (w : ℕ) → Fits (waiting w) → T (not (resumed (classOf l)) ⇒ (sameOutcome o abort && not i))
+  abort-unwritten w = mp (logFits i o (waiting w) (classOf l)) (not (resumed (classOf l)) ⇒ (sameOutcome o abort && not i)) (law 11 w i o l)
+
+  pub resumes-commit : Fits down → (has 2 (kindsIn l) && not (has 3 (kindsIn l))) ≡ (sameOutcome o commit && resumed (classOf l))
+  resumes-commit f = alike-eq _ _ (mp (logFits i o down (classOf l)) (alike (has 2 (kindsIn l) && not (has 3 (kindsIn l))) (sameOutcome o commit && resumed (classOf l))) (law 12 0 i o l) f)
+
+  pub resumes-abort : Fits down → (has 1 (kindsIn l) && not (has 2 (kindsIn l)) && not (has 4 (kindsIn l))) ≡ (sameOutcome o abort && resumed (classOf l))
+  resumes-abort f = alike-eq _ _ (mp (logFits i o down (classOf l)) (alike (has 1 (kindsIn l) && not (has 2 (kindsIn l)) && not (has 4 (kindsIn l))) (sameOutcome o abort && resumed (classOf l))) (law 13 0 i o l) f)
+
+pub closed-has : (l : Log) → T (has 2 (kindsIn l)) → T (has 2 (kindsIn (closed l)))
+closed-has l = mp (has 2 (kindsIn l)) (has 2 (kindsIn (closed l))) (law 14 0 true commit l)

@@ -1,0 +1,233 @@
+-- The coordinator loses power: from each standing, in the middle of a row too, with each keep.
+use Prim.Native.Nat.{ℕ, zero, suc}
+use mathlib.Core.Path.{_≡_, refl, sym, ap, _∙_, subst}
+use mathlib.Core.Logic.{_⊎_, inl, inr, ⊎-elim}
+use mathlib.Core.Bool.{Bool, true, false, cond, not, _&&_, _||_}
+use mathlib.Core.List.{List, [], _∷_, _++_, map, append-nil, map-append}
+use lib.ListN.{take}
+use lib.Dec.{T}
+use Rattle.codec.specs.Lists.{any}
+use Rattle.codec.specs.Records.{LogRecord}
+use Rattle.codec.specs.Sets.{member, empty}
+use Rattle.codec.specs.laws.Tests.{same-list, true-of}
+use Rattle.site.specs.Presumption.{Outcome, commit, abort, sameOutcome, presumedAbort, presumedCommit, silence}
+use Rattle.site.specs.Cohort.{Cohort, presumptionOf}
+use Rattle.site.specs.Coordinator.{Coordinator, endRecord}
+use Rattle.joint.specs.State.{Site, stopped, withCoordinator, forgotten}
+use Rattle.joint.proofs.view.View.{View, viewAt, viewSettle, viewDown}
+use Rattle.joint.proofs.safety.Tables.{has}
+use Rattle.joint.proofs.safety.Finite.{_⇒_, mp, allOf, allBool, at-bool, allOutcome, at-outcome}
+use Rattle.joint.proofs.safety.Passes.{or-left, or-right}
+use Rattle.joint.proofs.safety.Sets.{empty-none}
+use Rattle.joint.proofs.safety.Invariant.{Log, l0, l1, kindsIn, classOf, resumed, waiting, resting, down, Pace, Standing, never, initial, collecting, decided, stageOf, hasDecided, logFits, standingFits, SetsFit, writesInit, initLog, standingUp, stableAt, unforcedAt, coordinatorAt, between, entry, siteWith, Mid, Inv}
+use Rattle.joint.proofs.safety.Logs.{closed, commitLog, waiting-down, resting-down, closed-fits, closed-kinds, abort-unwritten, closed-has}
+use Rattle.joint.proofs.safety.Steps.{cohortOf, PassesAt, From, Shift, standsAs, stand, settle-mid}
+
+-- ---- a turn's result: the standing after it
+
+pub record Next (t : ℕ) (h : Standing) (w : View) : Type 0 where
+  pub standing : Standing
+  pub inv : Inv t standing w
+  pub from : From (writesInit (cohortOf w)) h standing
+
+-- ---- logs
+
+module _ (g : Cohort) (t : ℕ) (u : Bool) where
+  take-nil {ℓ} : {A : Type ℓ} (k : ℕ) → take {A = A} k [] ≡ []
+  take-nil zero = refl
+  take-nil (suc k) = refl
+
+  -- nothing is unforced, or nothing is kept
+  stopped-none : (k : ℕ) (ks : List ℕ) → stopped k (siteWith g t 0 u ks []) ≡ siteWith g t 0 false ks []
+  unfolding stopped
+  stopped-none k ks = rw (take-nil k, append-nil) refl
+
+  stopped-lost : (ks js : List ℕ) → stopped 0 (siteWith g t 0 u ks js) ≡ siteWith g t 0 false ks []
+  unfolding stopped
+  stopped-lost ks js = rw append-nil refl
+
+  stopped-kept : (k : ℕ) (ks ms : List ℕ) (j : ℕ) → ms ≡ ks ++ (j ∷ []) → stopped (suc k) (siteWith g t 0 u ks (j ∷ [])) ≡ siteWith g t 0 false ms []
+  unfolding stopped
+  stopped-kept k ks ms j e = rw (e, map-append, take-nil k) refl
+
+-- ---- passing
+
+and-true : (a : Bool) → T a → T (a && true)
+and-true true k = tt
+and-true false k = absurd k
+
+and-true2 : (a b : Bool) → T a → T b → T (a && b)
+and-true2 true b k j = j
+and-true2 false b k j = absurd k
+
+not-true : (b : Bool) → (T b → ⊥) → T (not b)
+not-true true f = absurd (f tt)
+not-true false f = tt
+
+done-before : (a b c : Bool) → T (a || true || b || c)
+done-before true b c = tt
+done-before false b c = tt
+
+stays-so : (u b c : Bool) → T (not u || u || b || c)
+stays-so true b c = tt
+stays-so false b c = tt
+
+waits-passes : (r i : Bool) (o s : Outcome) (u a : Bool) → T (not r ⇒ (sameOutcome o abort && not i)) → T (sameOutcome s abort || i) → T (not (not r) || u || sameOutcome s o || a)
+unfolding sameOutcome
+waits-passes true i o s u a h b = tt
+waits-passes false i commit s u a h b = absurd h
+waits-passes false true abort s u a h b = absurd h
+waits-passes false false abort commit u a h b = absurd b
+waits-passes false false abort abort true a h b = tt
+waits-passes false false abort abort false a h b = tt
+
+-- a member that presumes commit has record 1 written
+pub begun : (g : Cohort) (p : ℕ) → T (sameOutcome (silence (presumptionOf g p)) abort || writesInit g)
+unfolding presumptionOf silence sameOutcome
+begun g p = go (member p (g .presumeCommit)) refl (empty (g .presumeCommit)) refl
+  where
+    go : (b : Bool) → member p (g .presumeCommit) ≡ b → (c : Bool) → empty (g .presumeCommit) ≡ c
+        → T (sameOutcome (silence (cond b presumedCommit presumedAbort)) abort || not c)
+    go true e true f = absurd (empty-none (g .presumeCommit) p (subst T (sym f) tt) (subst T (sym e) tt))
+    go true e false f = tt
+    go false e true f = tt
+    go false e false f = tt
+
+-- ---- the ways from standing to standing
+
+pub refl-outcome : (o : Outcome) → T (sameOutcome o o)
+unfolding sameOutcome
+refl-outcome commit = tt
+refl-outcome abort = tt
+
+pub from-self : (i : Bool) (h : Standing) → From i h h
+from-self i h = record { keeps = λ o k. k; new = inl }
+
+-- the outcome stays
+pub from-same : (i : Bool) (o : Outcome) (p q : Pace) (l l′ : Log) (h0 : Standing) → (T (has 2 (kindsIn l)) → T (has 2 (kindsIn l′)))
+    → From i h0 (decided o p l) → From i h0 (decided o q l′)
+from-same i o p q l l′ h0 grows f = record { keeps = f .keeps; new = λ c. ⊎-elim inl (λ k. inr (grows k)) (f .new c) }
+
+-- nothing was decided
+pub from-none : {i : Bool} {h h′ : Standing} (h0 : Standing) → ((o : Outcome) → T (hasDecided h o) → ⊥) → (T (hasDecided h′ commit) → T (has 2 (stableAt i h′)))
+    → From i h0 h → From i h0 h′
+from-none h0 none new f = record { keeps = λ o k. absurd (none o (f .keeps o k)); new = λ c. inr (new c) }
+
+initial-fits : (j : Bool) → T (logFits j abort down (classOf (initLog j)))
+unfolding sameOutcome
+initial-fits true = tt
+initial-fits false = tt
+
+-- it resumes the abort, or silence means abort
+initial-passes : (j y : Bool) (s : Outcome) → T (sameOutcome s abort || j) → T (not (not (resumed (classOf (initLog j)))) || sameOutcome s abort || y)
+unfolding sameOutcome
+initial-passes true y s k = tt
+initial-passes false y commit k = absurd k
+initial-passes false y abort k = tt
+
+commit-fits : (j : Bool) → T (logFits j commit down (classOf (commitLog j)))
+unfolding sameOutcome
+commit-fits true = tt
+commit-fits false = tt
+
+commit-kinds : (j : Bool) → kindsIn (commitLog j) ≡ kindsIn (initLog j) ++ (2 ∷ [])
+commit-kinds true = refl
+commit-kinds false = refl
+
+pub commit-has : (j : Bool) → T (has 2 (kindsIn (commitLog j)))
+unfolding has any
+commit-has true = tt
+commit-has false = tt
+
+commit-passes : (j w s : Bool) → T (not w) → T (not w && (not (not (resumed (classOf (commitLog j)))) || s))
+commit-passes true w s k = and-true (not w) k
+commit-passes false w s k = and-true (not w) k
+
+module _ (t : ℕ) (v : View) where
+  abbrev i : Bool
+  i = writesInit (cohortOf v)
+
+  lost : {h h′ : Standing} → Mid t h v → (k : ℕ) → Shift v h h′ → stopped k (standsAs t v h) ≡ standsAs t v h′
+      → Coordinator.unknown ≡ coordinatorAt h′ → T (between h′) → Next t h (viewDown 0 k v)
+  unfolding viewDown viewAt viewSettle withCoordinator forgotten
+  lost {h} {h′} mid k x e c b =
+      record {
+        standing = h′;
+        inv = record { mid = settle-mid (stand mid x (stopped k) e) Coordinator.unknown; phase = c; whole = b };
+        from = x .from h (from-self _ h);
+      }
+
+  -- nothing decided: abort, with the records l
+  abbrev abortDown : Log → Standing
+  abortDown l = decided abort down l
+
+  from-initial : (b : Bool) (l : Log) → T (logFits i abort down (classOf l)) → Shift v (initial b) (abortDown l)
+  unfolding sameOutcome
+  from-initial b l f =
+      record { never = refl; fit = f; sets = tt; from = λ h0. from-none h0 (λ o k. k) (λ k. absurd k); passing = λ n m. tt }
+
+  from-collecting : (w : ℕ) (b : Bool) → Shift v (collecting w b) (abortDown (initLog i))
+  unfolding sameOutcome
+  from-collecting w b =
+      record {
+        never = refl;
+        fit = initial-fits i;
+        sets = tt;
+        from = λ h0. from-none h0 (λ o k. k) (λ k. absurd k);
+        passing = λ n m. initial-passes i _ (silence (presumptionOf (cohortOf v) (suc n))) (begun (cohortOf v) (suc n));
+      }
+
+  from-marked : (w : ℕ) → SetsFit (cohortOf v) (collecting w true) → Shift v (collecting w true) (decided commit down (commitLog i))
+  from-marked w none =
+      record {
+        never = refl;
+        fit = commit-fits i;
+        sets = tt;
+        from = λ h0. from-none h0 (λ o k. k) (λ k. commit-has i);
+        passing = λ n m. commit-passes i (member (suc n) w) _ (not-true (member (suc n) w) (none (suc n)));
+      }
+
+  -- decided: the outcome stays
+  rests : (o : Outcome) (b : Bool) (l l′ : Log) → T (logFits i o down (classOf l′)) → (T (has 2 (kindsIn l)) → T (has 2 (kindsIn l′)))
+      → Shift v (decided o (resting b) l) (decided o down l′)
+  rests o b l l′ f grows =
+      record {
+        never = refl;
+        fit = f;
+        sets = tt;
+        from = λ h0. from-same i o (resting b) down l l′ h0 grows;
+        passing = λ n m. and-true2 (sameOutcome o o) _ (refl-outcome o) (done-before (not (not (resumed (classOf l′)))) _ _);
+      }
+
+  waits : (o : Outcome) (w : ℕ) (l : Log) → T (logFits i o (waiting w) (classOf l)) → Shift v (decided o (waiting w) l) (decided o down l)
+  waits o w l f =
+      record {
+        never = refl;
+        fit = waiting-down i o l w f;
+        sets = tt;
+        from = λ h0. from-same i o (waiting w) down l l h0 (λ k. k);
+        passing = λ n m. and-true2 (sameOutcome o o) _ (refl-outcome o) (waits-passes (resumed (classOf l)) i o (silence (presumptionOf (cohortOf v) (suc n))) _ _ (abort-unwritten i o l w f) (begun (cohortOf v) (suc n)));
+      }
+
+  -- ---- the crash
+
+  pub crash-next : (h : Standing) → Mid t h v → (k : ℕ) → Next t h (viewDown 0 k v)
+  crash-next (never u) mid k =
+      lost mid k (record { never = refl; fit = tt; sets = tt; from = λ h0 f. record { keeps = f .keeps; new = f .new }; passing = λ n m. tt }) (stopped-none (cohortOf v) t u k []) refl tt
+  crash-next (initial false) mid k = lost mid k (from-initial false l0 tt) (stopped-none (cohortOf v) t true k []) refl tt
+  crash-next (initial true) mid zero = lost mid 0 (from-initial true l0 tt) (stopped-lost (cohortOf v) t true [] (1 ∷ [])) refl tt
+  crash-next (initial true) mid (suc k) = lost mid (suc k) (from-initial true l1 (unfold sameOutcome in tt)) (stopped-kept (cohortOf v) t true k [] (1 ∷ []) 1 refl) refl tt
+  crash-next (collecting w false) mid k = lost mid k (from-collecting w false) (stopped-none (cohortOf v) t true k (kindsIn (initLog i))) refl tt
+  crash-next (collecting w true) mid zero = lost mid 0 (from-collecting w true) (stopped-lost (cohortOf v) t true (kindsIn (initLog i)) (2 ∷ [])) refl tt
+  crash-next (collecting w true) mid (suc k) =
+      lost mid (suc k) (from-marked w (mid .sets)) (stopped-kept (cohortOf v) t true k (kindsIn (initLog i)) (kindsIn (commitLog i)) 2 (commit-kinds i)) refl tt
+  crash-next (decided o (waiting w) l) mid k = lost mid k (waits o w l (mid .fit)) (stopped-none (cohortOf v) t true k (kindsIn l)) refl tt
+  crash-next (decided o (resting false) l) mid k =
+      lost mid k (rests o false l l (resting-down i o l false (mid .fit)) (λ x. x)) (stopped-none (cohortOf v) t true k (kindsIn l)) refl tt
+  crash-next (decided o (resting true) l) mid zero =
+      lost mid 0 (rests o true l l (resting-down i o l true (mid .fit)) (λ x. x)) (stopped-lost (cohortOf v) t true (kindsIn l) (endRecord o ∷ [])) refl tt
+  crash-next (decided o (resting true) l) mid (suc k) =
+      lost mid (suc k) (rests o true l (closed l) (resting-down i o (closed l) false (closed-fits i o l (mid .fit))) (closed-has l))
+      (stopped-kept (cohortOf v) t true k (kindsIn l) (kindsIn (closed l)) (endRecord o) (closed-kinds i o l (mid .fit))) refl tt
+  crash-next (decided o down l) mid k =
+      lost mid k (record { never = refl; fit = mid .fit; sets = tt; from = λ h0 f. f; passing = λ n m. and-true2 (sameOutcome o o) _ (refl-outcome o) (stays-so (not (resumed (classOf l))) _ _) }) (stopped-none (cohortOf v) t false k (kindsIn l)) refl tt
