@@ -17,16 +17,16 @@ use Rattle.joint.proofs.Open.{joint-opens}
 
 -- ---- hexadecimal text as bytes; what stands below '0' in ASCII only separates
 
-digits : String → List ℕ
+abbrev digits : String → List ℕ
 digits String.[] = []
 digits (String._∷_ c s) = cond (leb (code c) 47) (digits s) (cond (leb (code c) 57) (code c - 48) (code c - 55) ∷ digits s)
 
-paired : List ℕ → List ℕ
+abbrev paired : List ℕ → List ℕ
 paired [] = []
 paired (a ∷ []) = []
 paired (a ∷ b ∷ rest) = (16 * a + b) ∷ paired rest
 
-hex : String → List ℕ
+abbrev pub hex : String → List ℕ
 hex s = paired (digits s)
 
 -- ---- the table
@@ -140,5 +140,5 @@ pub expected : Case → List (List ℕ)
 expected c = ascii (c .output) ∷ c .phases ∷ hex (c .image-of-1) ∷ []
 
 pub cases-hold : map observed cases ≡ map expected cases
-unfolding codec-opens site-opens joint-opens digits paired hex cases phasesOf observed expected
+unfolding codec-opens site-opens joint-opens cases phasesOf observed expected
 cases-hold = refl

@@ -1,5 +1,6 @@
 mod Open
 mod Cases
+mod Examples
 mod History
 mod view
 mod safety

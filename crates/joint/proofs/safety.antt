@@ -4,6 +4,12 @@ pub mod Finite
 pub mod Passes
 pub mod Sets
 pub mod Invariant
+pub mod Rows
+pub mod Local
+pub mod Places
+pub mod Participants
 pub mod Logs
 pub mod Steps
 pub mod Crashes
+pub mod Runs
+pub mod Commits

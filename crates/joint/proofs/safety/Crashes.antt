@@ -28,7 +28,7 @@ use Rattle.joint.proofs.safety.Steps.{cohortOf, PassesAt, From, Shift, 
 pub record Next (t : ℕ) (h : Standing) (w : View) : Type 0 where
   pub standing : Standing
   pub inv : Inv t standing w
-  pub from : From (writesInit (cohortOf w)) h standing
+  pub from : (h0 : Standing) → From (writesInit (cohortOf w)) h0 h → From (writesInit (cohortOf w)) h0 standing
 
 -- ---- logs
 
@@ -56,11 +56,11 @@ and-true : (a : Bool) → T a → T (a && true)
 and-true true k = tt
 and-true false k = absurd k
 
-and-true2 : (a b : Bool) → T a → T b → T (a && b)
+pub and-true2 : (a b : Bool) → T a → T b → T (a && b)
 and-true2 true b k j = j
 and-true2 false b k j = absurd k
 
-not-true : (b : Bool) → (T b → ⊥) → T (not b)
+pub not-true : (b : Bool) → (T b → ⊥) → T (not b)
 not-true true f = absurd (f tt)
 not-true false f = tt
 
@@ -130,7 +130,7 @@ unfolding sameOutcome
 commit-fits true = tt
 commit-fits false = tt
 
-commit-kinds : (j : Bool) → kindsIn (commitLog j) ≡ kindsIn (initLog j) ++ (2 ∷ [])
+pub commit-kinds : (j : Bool) → kindsIn (commitLog j) ≡ kindsIn (initLog j) ++ (2 ∷ [])
 commit-kinds true = refl
 commit-kinds false = refl
 
@@ -154,7 +154,7 @@ module _ (t : ℕ) (v : View) where
       record {
         standing = h′;
         inv = record { mid = settle-mid (stand mid x (stopped k) e) Coordinator.unknown; phase = c; whole = b };
-        from = x .from h (from-self _ h);
+        from = x .from;
       }
 
   -- nothing decided: abort, with the records l
@@ -213,7 +213,7 @@ module _ (t : ℕ) (v : View) where
 
   pub crash-next : (h : Standing) → Mid t h v → (k : ℕ) → Next t h (viewDown 0 k v)
   crash-next (never u) mid k =
-      lost mid k (record { never = refl; fit = tt; sets = tt; from = λ h0 f. record { keeps = f .keeps; new = f .new }; passing = λ n m. tt }) (stopped-none (cohortOf v) t u k []) refl tt
+      lost {h′ = never false} mid k (record { never = refl; fit = tt; sets = tt; from = λ h0. from-none h0 (λ o b. b) (λ b. absurd b); passing = λ n m. tt }) (stopped-none (cohortOf v) t u k []) refl tt
   crash-next (initial false) mid k = lost mid k (from-initial false l0 tt) (stopped-none (cohortOf v) t true k []) refl tt
   crash-next (initial true) mid zero = lost mid 0 (from-initial true l0 tt) (stopped-lost (cohortOf v) t true [] (1 ∷ [])) refl tt
   crash-next (initial true) mid (suc k) = lost mid (suc k) (from-initial true l1 (unfold sameOutcome in tt)) (stopped-kept (cohortOf v) t true k [] (1 ∷ []) 1 refl) refl tt
@@ -230,4 +230,4 @@ module _ (t : ℕ) (v : View) where
       lost mid (suc k) (rests o true l (closed l) (resting-down i o (closed l) false (closed-fits i o l (mid .fit))) (closed-has l))
       (stopped-kept (cohortOf v) t true k (kindsIn l) (kindsIn (closed l)) (endRecord o) (closed-kinds i o l (mid .fit))) refl tt
   crash-next (decided o down l) mid k =
-      lost mid k (record { never = refl; fit = mid .fit; sets = tt; from = λ h0 f. f; passing = λ n m. and-true2 (sameOutcome o o) _ (refl-outcome o) (stays-so (not (resumed (classOf l))) _ _) }) (stopped-none (cohortOf v) t false k (kindsIn l)) refl tt
+      lost {h′ = decided o down l} mid k (record { never = refl; fit = mid .fit; sets = tt; from = λ h0 f. f; passing = λ n m. and-true2 (sameOutcome o o) _ (refl-outcome o) (stays-so (not (resumed (classOf l))) _ _) }) (stopped-none (cohortOf v) t false k (kindsIn l)) refl tt

@@ -1,0 +1,134 @@
+-- Demand 3 speaks of something: lists of events on which commit is entered, abort is entered, and the replies of its third sentence are sent.
+use Prim.Native.Nat.{ℕ}
+use mathlib.Core.Path.{_≡_, refl, ap}
+use mathlib.Core.Bool.{Bool, true, false, _&&_, _||_}
+use mathlib.Core.List.{List, [], _∷_, _++_}
+use lib.Dec.{T, eqb}
+use Rattle.codec.specs.Lists.{any, all}
+use Rattle.codec.specs.Sets.{member}
+use Rattle.codec.specs.laws.Tests.{and-left, and-right, of-true}
+use Rattle.site.specs.Presumption.{Outcome, commit, abort}
+use Rattle.site.specs.Coordinator.{Coordinator, initial, collecting, awaitingAcks}
+use Rattle.site.specs.Numbers.{coordinatorPhase}
+use Rattle.joint.specs.State.{fresh}
+use Rattle.joint.specs.Drill.{eventsIn}
+use Rattle.joint.specs.Safety.{Moment, moments, happened, history, leaves, along, enters, sends, isEntry, isReply, inDoubt, commitStable, outcome, Happens}
+use Rattle.codec.specs.Open.{codec-opens}
+use Rattle.site.specs.Open.{site-opens}
+use Rattle.joint.proofs.Open.{joint-opens}
+use Rattle.joint.proofs.Cases.{hex}
+
+-- what the theorems by computation below open
+unfoldable safety-opens : Unit {0}
+unfolding codec-opens site-opens joint-opens moments happened history leaves along enters sends isEntry isReply inDoubt commitStable outcome
+safety-opens = tt
+
+-- ---- moments that pass a test
+
+-- an element of xs passes the test f
+abbrev Passed : {A : Type 0} → (A → Bool) → List A → Type 0
+Passed {A} f xs = (earlier : List A) × (x : A) × ((later : List A) × (xs ≡ earlier ++ x ∷ later)) × T (f x)
+
+module _ {A : Type 0} (f : A → Bool) where
+  passed-later : (x : A) (xs : List A) → Passed f xs → Passed f (x ∷ xs)
+  passed-later x xs (earlier, y, (later, e), h) = (x ∷ earlier, y, (later, ap (λ (ys : List A). x ∷ ys) e), h)
+
+  passed-either : (x : A) (xs : List A) (b : Bool) → f x ≡ b → T (b || any f xs) → (T (any f xs) → Passed f xs) → Passed f (x ∷ xs)
+  passed-either x xs true e h go = ([], x, (xs, refl), of-true e)
+  passed-either x xs false e h go = passed-later x xs (go h)
+
+  passed : (xs : List A) → T (any f xs) → Passed f xs
+  unfolding any
+  passed [] h = absurd h
+  passed (x ∷ xs) h = passed-either x xs (f x) refl h (passed xs)
+
+-- P holds of a moment of the list
+abbrev pub Some : List (List ℕ) → (Moment → Type 0) → Type 0
+Some es P = (earlier : List Moment) × (m : Moment) × Happens es earlier m × P m
+
+some-passes : (es : List (List ℕ)) (f : Moment → Bool) (P : Moment → Type 0) → ((m : Moment) → T (f m) → P m) → T (any f (history fresh es)) → Some es P
+unfolding Happens
+some-passes es f P holds h = go (passed f (history fresh es) h)
+  where
+    go : Passed f (history fresh es) → Some es P
+    go (earlier, m, w, k) = (earlier, m, w, holds m k)
+
+-- ---- commit and abort are entered, at the coordinator and at two participants, of which 1 presumes abort and 2 commit
+
+-- outcome o of transaction 0 is entered at site s
+abbrev pub entered : List (List ℕ) → Outcome → ℕ → Bool
+entered es o s = any (λ m. eqb (m .site) s && isEntry 0 o m) (history fresh es)
+
+-- abort: the coordinator's timer ends the wait for votes
+abbrev pub entering : Outcome → List (List ℕ)
+entering commit =
+    eventsIn (hex "00 00 03 02 FF 00 / 01 00 00 00 FF 00 / 02 00 01 00 FF 00 / 02 00 02 00 FF 00 / 02 00 01 01 FF 00 / 02 00 02 01 FF 00 / 02 00 01 03 FF 00 / 02 00 02 03 FF 00")
+entering abort =
+    eventsIn (hex "00 00 03 02 FF 00 / 01 00 00 00 FF 00 / 03 00 00 00 FF 00 / 02 00 01 04 FF 00 / 02 00 02 04 FF 00")
+
+pub commit-entered : T (all (entered (entering commit) commit) (0 ∷ 1 ∷ 2 ∷ []))
+unfolding safety-opens
+commit-entered = tt
+
+pub abort-entered : T (all (entered (entering abort) abort) (0 ∷ 1 ∷ 2 ∷ []))
+unfolding safety-opens
+abort-entered = tt
+
+-- `votes` asks something: commit is entered in a run in which 1 and 2 are members
+abbrev pub bothMembers : Moment → Bool
+bothMembers m = all (λ p. member p (m .before .transaction 0 .cohort .members)) (1 ∷ 2 ∷ [])
+
+pub votes-asked : Some (entering commit) (λ m. T (isEntry 0 commit m) × T (bothMembers m))
+votes-asked =
+    some-passes (entering commit) (λ m. isEntry 0 commit m && bothMembers m) (λ m. T (isEntry 0 commit m) × T (bothMembers m))
+    (λ m h. (and-left (isEntry 0 commit m) (bothMembers m) h, and-right (isEntry 0 commit m) (bothMembers m) h))
+    (unfold safety-opens in tt)
+
+-- ---- each outcome is told by a coordinator in Unknown to a participant in doubt
+
+-- commit: all members presume commit, so the coordinator is soon in Unknown, and participant 1 sends its Yes again
+-- abort: participant 1 presumes abort and has voted, and the coordinator loses power before it decides
+abbrev replying : Outcome → List (List ℕ)
+replying commit =
+    eventsIn (hex "00 00 01 01 FF 00 / 01 00 00 00 FF 00 / 02 00 01 00 FF 00 / 02 00 01 01 FF 00 / 03 00 01 00 FF 00 / 02 00 01 01 FF 00")
+replying abort =
+    eventsIn (hex "00 00 01 00 FF 00 / 01 00 00 00 FF 00 / 02 00 01 00 FF 00 / 06 00 00 00 FF 00 / 07 00 00 00 FF 00 / 02 00 01 01 FF 00")
+
+-- what `replies` asks of a moment, for transaction 0 and participant 1
+abbrev pub Asked : Outcome → Moment → Type 0
+Asked o m = T (isReply 0 1 o m) × (m .start .transaction 0 .coordinator ≡ Coordinator.unknown) × T (inDoubt (m .start) 0 1)
+
+isUnknown : Coordinator → Bool
+isUnknown c = eqb (coordinatorPhase c) 4
+
+is-unknown : (c : Coordinator) → T (isUnknown c) → c ≡ Coordinator.unknown
+unfolding isUnknown coordinatorPhase
+is-unknown initial h = absurd h
+is-unknown (collecting w) h = absurd h
+is-unknown (awaitingAcks commit w) h = absurd h
+is-unknown (awaitingAcks abort w) h = absurd h
+is-unknown Coordinator.unknown h = refl
+
+asked : Outcome → Moment → Bool
+asked o m = isReply 0 1 o m && (isUnknown (m .start .transaction 0 .coordinator) && inDoubt (m .start) 0 1)
+
+is-asked : (o : Outcome) (m : Moment) → T (asked o m) → Asked o m
+unfolding asked
+is-asked o m h =
+    let unknown = isUnknown (m .start .transaction 0 .coordinator) in
+    let doubt = inDoubt (m .start) 0 1 in
+    let k = and-right (isReply 0 1 o m) (unknown && doubt) h in
+    (and-left (isReply 0 1 o m) (unknown && doubt) h, is-unknown _ (and-left unknown doubt k), and-right unknown doubt k)
+
+reply-found : (o : Outcome) → T (any (asked o) (history fresh (replying o)))
+unfolding safety-opens asked isUnknown
+reply-found commit = tt
+reply-found abort = tt
+
+reply-outcome : (o : Outcome) → outcome (replying o) 0 ≡ o
+unfolding safety-opens
+reply-outcome commit = refl
+reply-outcome abort = refl
+
+pub replies-asked : (o : Outcome) → (es : List (List ℕ)) × Some es (Asked o) × (outcome es 0 ≡ o)
+replies-asked o = (replying o, some-passes (replying o) (asked o) (Asked o) (is-asked o) (reply-found o), reply-outcome o)

@@ -1,0 +1,231 @@
+-- All that happens at a participant keeps the invariant.
+use Prim.Native.Nat.{ℕ, suc}
+use mathlib.Core.Path.{_≡_, refl, sym, ap, subst, _∙_, fun-ext}
+use mathlib.Core.Bool.{Bool, true, false, not, true≢false}
+use mathlib.Core.List.{List, [], _∷_, _++_, map}
+use mathlib.Core.Option.{Option, none, some}
+use native.Mathlib.Omega.{arith}
+use lib.Dec.{T}
+use borrow.Author.Tests.{eqb-true}
+use Rattle.codec.specs.Lists.{any}
+use Rattle.codec.specs.Records.{LogRecord}
+use Rattle.codec.specs.Sets.{member, empty}
+use Rattle.codec.specs.laws.Members.{high-bits}
+use Rattle.codec.specs.laws.Tests.{true-of, of-true}
+use Rattle.site.specs.Presumption.{Outcome, commit, abort, sameOutcome, Presumption, acks}
+use Rattle.site.specs.Cohort.{Cohort, presumptionOf}
+use Rattle.site.specs.Step.{prepare, voteYes, voteNo, tell, ack, Input, begin, timer, received, Effect, force, send, Row, given}
+use Rattle.site.specs.Participant.{Participant, outcomeRecord, voting, promising, onPrepare, acking, finish, acknowledging, ackingIf, onTell, participantTimer, participantStep, restartWith, participantRestart}
+use Rattle.joint.specs.State.{Site, holds, forced, started, withParticipant}
+use Rattle.joint.specs.Plan.{closes, newest}
+use Rattle.joint.proofs.view.View.{View, viewAt, viewSettle, viewDown}
+use Rattle.joint.proofs.view.Turn.{Carried, Given, Own, Up, Opened, viewDiscard, viewStart}
+use Rattle.joint.proofs.safety.Tables.{Stage, isUp, stableKinds, has}
+use Rattle.joint.proofs.safety.Finite.{mp}
+use Rattle.joint.proofs.safety.Invariant.{Standing, entry, stageOf, sentIn, Member, Place, Inv}
+use Rattle.joint.proofs.safety.Rows.{ofStatus, effects, settled, woken, dropped, heard, lands, rowTest, onRow, step-at, restart-at, force-at, crash-at, discard-at}
+use Rattle.joint.proofs.safety.Local.{holds-kinds, Elsewhere, AllProper, reach-phase, reach-force, reach-down, reach-started, reach-woken, reach-dropped}
+use Rattle.joint.proofs.safety.Places.{isMember, only-at, from-member, member-after, member-carried, from-stranger, stranger-after, take-none, stranger-carried}
+
+-- ---- a participant's rows write records with its own fields, and send its own messages
+
+abbrev OnRow : (Row Participant → Type 0) → Option (Row Participant) → Type 0
+OnRow P none = Unit {0}
+OnRow P (some r) = P r
+
+module _ (g : Cohort) (p : ℕ) where
+  abbrev own : Presumption
+  own = presumptionOf g p
+
+  given-proper : (b : Bool) (es : List Effect) → AllProper g p es → AllProper g p (given b es)
+  unfolding given
+  given-proper true es h = h
+  given-proper false es h = tt
+
+  then-proper : (es fs : List Effect) → AllProper g p es → AllProper g p fs → AllProper g p (es ++ fs)
+  then-proper [] fs h k = k
+  then-proper (e ∷ es) fs h k = (h .0, then-proper es fs (h .1) k)
+
+  acking-proper : (o : Outcome) → AllProper g p (acking own p o)
+  unfolding acking
+  acking-proper o = given-proper (acks own o) (send (ack o) p ∷ []) (refl, tt)
+
+  finish-proper : (o : Outcome) → AllProper g p (finish own p o .effects)
+  unfolding finish outcomeRecord
+  finish-proper commit = (refl, then-proper (given (acks own commit) (force ∷ [])) _ (given-proper _ _ (tt, tt)) (tt, acking-proper commit))
+  finish-proper abort = (refl, then-proper (given (acks own abort) (force ∷ [])) _ (given-proper _ _ (tt, tt)) (tt, acking-proper abort))
+
+  abbrev Good : Option (Row Participant) → Type 0
+  Good = OnRow (λ r. AllProper g p (r .effects))
+
+  prepare-proper : (x : Participant) → Good (onPrepare own p x)
+  unfolding onPrepare promising voting
+  prepare-proper Participant.working = (refl, (tt, (refl, tt)))
+  prepare-proper Participant.prepared = (refl, tt)
+  prepare-proper (Participant.decided commit) = tt
+  prepare-proper (Participant.decided abort) = (refl, tt)
+  prepare-proper Participant.unknown = (refl, tt)
+
+  if-proper : (b : Bool) (o : Outcome) → Good (ackingIf own p b o)
+  unfolding ackingIf acknowledging
+  if-proper true o = acking-proper o
+  if-proper false o = tt
+
+  tell-proper : (o : Outcome) (x : Participant) → Good (onTell own p o x)
+  unfolding onTell acknowledging
+  tell-proper commit Participant.working = tt
+  tell-proper abort Participant.working = finish-proper abort
+  tell-proper commit Participant.prepared = finish-proper commit
+  tell-proper abort Participant.prepared = finish-proper abort
+  tell-proper commit (Participant.decided d) = if-proper (sameOutcome commit d) commit
+  tell-proper abort (Participant.decided d) = if-proper (sameOutcome abort d) abort
+  tell-proper commit Participant.unknown = acking-proper commit
+  tell-proper abort Participant.unknown = acking-proper abort
+
+  timer-proper : (x : Participant) → Good (participantTimer own p x)
+  unfolding participantTimer voting
+  timer-proper Participant.working = (tt, tt)
+  timer-proper Participant.prepared = (refl, tt)
+  timer-proper (Participant.decided o) = tt
+  timer-proper Participant.unknown = tt
+
+  step-proper : (i : Input) (x : Participant) → Good (participantStep own p i x)
+  unfolding participantStep
+  step-proper begin x = tt
+  step-proper timer x = timer-proper x
+  step-proper (received prepare q) x = prepare-proper x
+  step-proper (received voteYes q) x = tt
+  step-proper (received voteNo q) x = tt
+  step-proper (received (tell o) q) x = tell-proper o x
+  step-proper (received (ack o) q) x = tt
+
+  restart-proper : (a b d : Bool) → AllProper g p (restartWith own p a b d .effects)
+  unfolding restartWith voting
+  restart-proper true b d = (tt, tt)
+  restart-proper false true d = (tt, tt)
+  restart-proper false false true = (refl, tt)
+  restart-proper false false false = tt
+
+  returned-proper : (f : ℕ → Bool) → AllProper g p (participantRestart own p f .effects)
+  unfolding participantRestart
+  returned-proper f = restart-proper (f 6) (f 7) (f 5)
+
+-- ---- at a member the tests apply
+
+module _ {t : ℕ} {m : Stage} {n : ℕ} {v : View} (x : Member t m n v) where
+  abbrev habit : Presumption
+  habit = presumptionOf (v .transaction .cohort) (suc n)
+
+  is-up : {b : Bool} → v .site (suc n) .up ≡ b → isUp (x .status) ≡ b
+  is-up u = sym (ap (λ (z : Site). z .up) (x .site)) ∙ u
+
+  discard-passed : Up v (suc n) → newest closes (v .site (suc n) .stable) ≡ true → T (lands habit timer (x .status) (dropped (ofStatus (x .status))))
+  discard-passed u e =
+      mp (newest closes (map (entry (v .transaction .cohort) t (suc n)) (stableKinds (x .status)))) _
+      (mp (isUp (x .status)) _ (discard-at (v .transaction .cohort) t (suc n) habit (x .status)) (of-true (is-up u)))
+      (of-true (sym (ap (λ (z : Site). newest closes (z .stable)) (x .site)) ∙ e))
+
+  step-passed : {row : Row Participant} (i : Input) → Up v (suc n) → participantStep habit (suc n) i (v .transaction .participant (suc n)) ≡ some row
+      → T (rowTest habit i (x .status) settled row)
+  step-passed i u e =
+      subst (λ (o : Option (Row Participant)). T (onRow (rowTest habit i (x .status) settled) o))
+      (ap (participantStep habit (suc n) i) (sym (x .phase)) ∙ e)
+      (mp (isUp (x .status)) _ (step-at habit (suc n) (x .status) i) (of-true (is-up u)))
+
+  kinds-held : (k : ℕ) → holds t k (v .site (suc n) .stable) ≡ has k (stableKinds (x .status))
+  kinds-held k = ap (λ (z : Site). holds t k (z .stable)) (x .site) ∙ holds-kinds (v .transaction .cohort) t (suc n) k (stableKinds (x .status))
+
+  restart-passed : {row : Row Participant} → v .site (suc n) .up ≡ false
+      → participantRestart habit (suc n) (λ k. holds t k (v .site (suc n) .stable)) ≡ row → T (rowTest habit timer (x .status) woken row)
+  restart-passed u e =
+      subst (λ (r : Row Participant). T (rowTest habit timer (x .status) woken r))
+      (ap (participantRestart habit (suc n)) (sym (fun-ext kinds-held)) ∙ e)
+      (mp (not (isUp (x .status))) _ (restart-at habit (suc n) (x .status)) (of-true (ap not (is-up u))))
+
+heard-given : (v : View) (p : ℕ) (i : Input) → Given v i → Own p i → T (heard i (sentIn v p))
+heard-given v p begin g o = tt
+heard-given v p timer g o = tt
+heard-given v p (received m q) g o = subst (λ (z : ℕ). T (sentIn v z m)) o (g .1)
+
+-- ---- at a stranger nothing happens
+
+none-restarts : (c : Presumption) (p t : ℕ) → participantRestart c p (λ k. holds t k []) ≡ record { effects = []; phase = Participant.unknown }
+unfolding participantRestart restartWith holds any
+none-restarts c p t = refl
+
+none-closes : newest closes [] ≡ false
+unfolding newest
+none-closes = refl
+
+none-in-empty : (p m : ℕ) → empty m ≡ true → member p m ≡ false
+unfolding empty member
+none-in-empty p m e = rw (eqb-true m 0 e) (rw (high-bits 0 0 p (omega arith) (omega arith)) refl)
+
+-- ---- the events
+
+module _ (t : ℕ) (h : Standing) (v : View) (inv : Inv t h v) where
+  -- a participant that is a member (b), or none
+  abbrev Moves : ℕ → View → Bool → Type 0
+  Moves n w b = isMember v n ≡ b → Place b t (stageOf h (suc n)) n v → Elsewhere (suc n) v w × Place b t (stageOf h (suc n)) n w
+
+  either : (n : ℕ) {w : View} → ((b : Bool) → Moves n w b) → Inv t h w
+  either n f = only-at inv n (f (isMember v n) refl (inv .mid .places n))
+
+  pub force-kept : (n : ℕ) → Up v (suc n) → Inv t h (viewAt (suc n) forced v)
+  force-kept n u = either n go
+    where
+      go : (b : Bool) → Moves n (viewAt (suc n) forced v) b
+      go true e x = member-after timer x tt (force-at _ (x .status)) (reach-force t (suc n) v (from-member x))
+      go false e x = stranger-after refl x (reach-force t (suc n) v (from-stranger x))
+
+  pub crash-kept : (n k : ℕ) → Inv t h (viewDown (suc n) k v)
+  crash-kept n k = either n go
+    where
+      go : (b : Bool) → Moves n (viewDown (suc n) k v) b
+      go true e x = member-after timer x tt (crash-at _ (x .status) k) (reach-down t n v k (from-member x))
+      go false e x = stranger-after (take-none k) x (reach-down t n v k (from-stranger x))
+
+  pub start-kept : (n : ℕ) → empty (v .transaction .cohort .members) ≡ true → Inv t h (viewAt (suc n) started v)
+  start-kept n u = either n go
+    where
+      go : (b : Bool) → Moves n (viewAt (suc n) started v) b
+      go true e x = absurd (true≢false (sym e ∙ none-in-empty (suc n) (v .transaction .cohort .members) u))
+      go false e x = stranger-after refl x (reach-started t n v (from-stranger x))
+
+  pub row-kept : {row : Row Participant} {w : View} (n : ℕ) (i : Input) → T (member (suc n) (v .transaction .cohort .members)) → Up v (suc n) → Given v i
+      → Own (suc n) i
+      → participantStep (presumptionOf (v .transaction .cohort) (suc n)) (suc n) i (v .transaction .participant (suc n)) ≡ some row
+      → Carried t (suc n) (row .effects) (viewSettle (withParticipant (suc n) (row .phase))) v w → Inv t h w
+  row-kept {row} {w} n i k u d o e c = either n go
+    where
+      go : (b : Bool) → Moves n w b
+      go true q x =
+          member-carried i x (heard-given v (suc n) i d o)
+          (subst (Good (v .transaction .cohort) (suc n)) e (step-proper (v .transaction .cohort) (suc n) i (v .transaction .participant (suc n))))
+          settled _ (λ y z r. reach-phase t (suc n) v (row .phase) r) (step-passed x i u e) c
+      go false q x = absurd (true≢false (sym (true-of (isMember v n) k) ∙ q))
+
+  pub discard-kept : (n : ℕ) → Up v (suc n) → Opened v → newest closes (v .site (suc n) .stable) ≡ true → Inv t h (viewDiscard (suc n) v)
+  discard-kept n u o c = either n go
+    where
+      go : (b : Bool) → Moves n (viewDiscard (suc n) v) b
+      go true e x = member-after timer x tt (discard-passed x u c) (reach-dropped t n v (from-member x))
+      go false e x = absurd (true≢false (sym c ∙ ap (newest closes) (x .stable) ∙ none-closes))
+
+  pub return-kept : {row : Row Participant} {w : View} (n : ℕ) → Opened v → v .site (suc n) .up ≡ false
+      → participantRestart (presumptionOf (v .transaction .cohort) (suc n)) (suc n) (λ k. holds t k (v .site (suc n) .stable)) ≡ row
+      → Carried t (suc n) (row .effects) (viewStart (suc n) (withParticipant (suc n) (row .phase))) v w → Inv t h w
+  return-kept {row} {w} n o u e c = either n go
+    where
+      restarted : List LogRecord → Row Participant
+      restarted l = participantRestart (presumptionOf (v .transaction .cohort) (suc n)) (suc n) (λ k. holds t k l)
+
+      carried : Row Participant → Type 0
+      carried r = Carried t (suc n) (r .effects) (viewStart (suc n) (withParticipant (suc n) (r .phase))) v w
+
+      go : (b : Bool) → Moves n w b
+      go true q x =
+          member-carried timer x tt
+          (subst (λ (r : Row Participant). AllProper (v .transaction .cohort) (suc n) (r .effects)) e (returned-proper (v .transaction .cohort) (suc n) _))
+          woken _ (λ y z r. reach-woken t n v (row .phase) r) (restart-passed x u e) c
+      go false q x = stranger-carried x (subst carried (sym e ∙ ap restarted (x .stable) ∙ none-restarts _ (suc n) t) c)

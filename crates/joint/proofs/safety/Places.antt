@@ -1,0 +1,239 @@
+-- From the tests to the invariant: a participant after something happened at it is a member as before, or a stranger, and all else stays.
+use Prim.Native.Nat.{ℕ, zero, suc}
+use mathlib.Core.Path.{_≡_, refl, sym, ap, subst, _∙_, fun-ext}
+use mathlib.Core.Logic.{_≢_}
+use mathlib.Core.Bool.{Bool, true, false, _&&_, _||_}
+use mathlib.Core.List.{List, [], map}
+use native.Mathlib.Omega.{arith}
+use lib.ListN.{take}
+use lib.Dec.{T, eqb}
+use borrow.Author.Tests.{eqb-true, eqb-false}
+use Rattle.codec.specs.Sets.{member}
+use Rattle.codec.specs.laws.Tests.{and-left, and-right}
+use Rattle.site.specs.Presumption.{Outcome, Presumption}
+use Rattle.site.specs.Cohort.{Cohort, presumptionOf}
+use Rattle.site.specs.Step.{Message, prepare, voteYes, messageKind, Input, begin, timer, received, Row}
+use Rattle.site.specs.Participant.{Participant}
+use Rattle.joint.specs.State.{Site, withParticipant}
+use Rattle.joint.proofs.view.View.{View, viewEffects}
+use Rattle.joint.proofs.view.Turn.{Carried, whole, cutAfter, viewStart}
+use Rattle.joint.proofs.safety.Tables.{Status, isUp, stableKinds, unforcedKinds, Stage, fits, may, mayEnter, Fine}
+use Rattle.joint.proofs.safety.Finite.{_⇒_, mp, allMessage, at-message, allOutcome, at-outcome}
+use Rattle.joint.proofs.safety.Invariant.{Standing, stageOf, siteWith, sentIn, Member, Stranger, Place, Inv}
+use Rattle.joint.proofs.safety.Rows.{Part, still, ofStatus, effects, heard, lands, rowTest, Landed, landed, row-whole, row-cut}
+use Rattle.joint.proofs.safety.Local.{Local, local, Elsewhere, Reached, AllProper, take-proper, reach-effects, reach-down, reach-woken}
+
+-- ---- what is elsewhere stays as it is
+
+module _ (t : ℕ) (v w : View) (g : w .transaction .cohort ≡ v .transaction .cohort) where
+  abbrev FineAt : Presumption → Stage → Status → Local → Type 0
+  FineAt c m s x = Fine c m s (λ k. x .sent (messageKind k)) (x .entered) (x .voted)
+
+  place-same : (b : Bool) (m : Stage) (j : ℕ) → local (suc j) w ≡ local (suc j) v → Place b t m j v → Place b t m j w
+  place-same true m j e x =
+      record {
+        status = x .status;
+        site = rw g (ap (λ (l : Local). l .site) e ∙ x .site);
+        phase = ap (λ (l : Local). l .participant) e ∙ x .phase;
+        fine = rw g (subst (FineAt (presumptionOf (v .transaction .cohort) (suc j)) m (x .status)) (sym e) (x .fine));
+      }
+  place-same false m j e x =
+      record {
+        stable = ap (λ (l : Local). l .site .stable) e ∙ x .stable;
+        unforced = ap (λ (l : Local). l .site .unforced) e ∙ x .unforced;
+        sent = λ k. ap (λ (l : Local). l .sent (messageKind k)) e ∙ x .sent k;
+        entered = λ o. ap (λ (l : Local). l .entered o) e ∙ x .entered o;
+      }
+
+abbrev pub isMember : View → ℕ → Bool
+isMember v n = member (suc n) (v .transaction .cohort .members)
+
+-- only participant suc n changes
+module _ {t : ℕ} {h : Standing} {v w : View} (inv : Inv t h v) (n : ℕ) where
+  pub only-at : Elsewhere (suc n) v w × Place (isMember v n) t (stageOf h (suc n)) n w → Inv t h w
+  only-at (e, here) =
+      record {
+        mid =
+            record {
+              number = rw (e .cohort) (inv .mid .number);
+              byte = rw (e .cohort) (inv .mid .byte);
+              part = rw (e .cohort) (inv .mid .part);
+              opened = rw (e .cohort) (inv .mid .opened);
+              log = rw (e .cohort) (ap (λ (l : Local). l .site) (e .rest 0 none) ∙ inv .mid .log);
+              fit = rw (e .cohort) (inv .mid .fit);
+              sets = rw (e .cohort) (inv .mid .sets);
+              entries = λ o k. inv .mid .entries o (subst (λ (l : Local). T (l .entered o)) (e .rest 0 none) k);
+              places = λ j. subst (λ (g : Cohort). Place (member (suc j) (g .members)) t (stageOf h (suc j)) j w) (sym (e .cohort)) (go j (eqb j n) refl);
+            };
+        phase = e .coordinator ∙ inv .phase;
+        whole = inv .whole;
+      }
+    where
+      none : 0 ≢ suc n
+      none q = absurd (omega (arith, q))
+
+      there : (j : ℕ) → eqb j n ≡ false → suc j ≢ suc n
+      there j q k = eqb-false j n q (omega (arith, k))
+
+      go : (j : ℕ) (b : Bool) → eqb j n ≡ b → Place (isMember v j) t (stageOf h (suc j)) j w
+      go j true q = subst (λ (k : ℕ). Place (isMember v k) t (stageOf h (suc k)) k w) (sym (eqb-true j n q)) here
+      go j false q = place-same t v w (e .cohort) (isMember v j) (stageOf h (suc j)) j (e .rest (suc j) (there j q)) (inv .mid .places j)
+
+-- ---- a member
+
+or-map : (a b d : Bool) → (T b → T d) → T (a || b) → T (a || d)
+or-map true b d f h = tt
+or-map false b d f h = f h
+
+or-right : (a b : Bool) → T b → T (a || b)
+or-right true b h = tt
+or-right false b h = h
+
+or-both : (a b d e : Bool) → (T a → T d) → (T b → T e) → T (a || b) → T (d || e)
+or-both true b true e f g h = tt
+or-both true b false e f g h = absurd (f tt)
+or-both false b d e f g h = or-right d e (g h)
+
+heard-map : (i : Input) (f g : Message → Bool) → ((m : Message) → T (f m) → T (g m)) → T (heard i f) → T (heard i g)
+heard-map begin f g k h = tt
+heard-map timer f g k h = tt
+heard-map (received m q) f g k h = k m h
+
+-- what is fine stays so, with what is new
+module _ {c : Presumption} {m : Stage} {i : Input} {s : Status} {y : Part} {sent : Message → Bool} {entered : Outcome → Bool} {voted : Bool} where
+  fine-after : (l : Landed c i s y) → T (heard i sent) → Fine c m s sent entered voted
+      → Fine c m (l .status) (λ g. y .sent g || sent g) (λ o. y .entered o || entered o) (y .voted || voted)
+  fine-after l d f =
+      record {
+        shape = subst (λ (b : Bool). T (fits c m z b)) (sym same) (and-left (fits c m z p) ms both);
+        messages =
+            λ g k. subst (λ (b : Bool). T (may m z b g)) (sym same)
+            (mp (y .sent g || may m s p g) (may m z p g)
+            (at-message message (and-right (fits c m z p) ms both) g)
+            (or-map (y .sent g) (sent g) (may m s p g) (f .messages g) k));
+        entries =
+            λ o k. mp (y .entered o || mayEnter m s o) (mayEnter m z o)
+            (at-outcome enters (and-right (fits c m z p && ms) es good) o)
+            (or-map (y .entered o) (entered o) (mayEnter m s o) (f .entries o) k);
+        counted = λ k. or-right (y .sent voteYes) (sent voteYes) (f .counted k);
+        honest = or-both (y .sent voteYes) (sent voteYes) (y .voted) voted (l .honest) (f .honest);
+      }
+    where
+      z : Status
+      z = l .status
+
+      p : Bool
+      p = sent prepare
+
+      same : (y .sent prepare || p) ≡ p
+      same = ap (λ (b : Bool). b || p) (l .no-prepare)
+
+      message : Message → Bool
+      message g = (y .sent g || may m s p g) ⇒ may m z p g
+
+      enters : Outcome → Bool
+      enters o = (y .entered o || mayEnter m s o) ⇒ mayEnter m z o
+
+      ms : Bool
+      ms = allMessage message
+
+      es : Bool
+      es = allOutcome enters
+
+      good : T (fits c m z p && ms && es)
+      good =
+          mp (heard i (may m s p)) (fits c m z p && ms && es)
+          (mp (fits c m s p) (heard i (may m s p) ⇒ (fits c m z p && ms && es)) (l .kept m p) (f .shape))
+          (heard-map i sent (may m s p) (f .messages) d)
+
+      both : T (fits c m z p && ms)
+      both = and-left (fits c m z p && ms) es good
+
+fine-same : {c : Presumption} {m : Stage} {s : Status} {sent sent′ : Message → Bool} {entered entered′ : Outcome → Bool} {voted voted′ : Bool}
+    → ((g : Message) → sent′ g ≡ sent g) → ((o : Outcome) → entered′ o ≡ entered o) → voted′ ≡ voted
+    → Fine c m s sent entered voted → Fine c m s sent′ entered′ voted′
+fine-same {c} {m} {s} {sent} {sent′} {entered} {entered′} {voted} {voted′} a b d x =
+    subst (λ (f : Message → Bool). Fine c m s f entered′ voted′) (sym (fun-ext a))
+    (subst (λ (f : Outcome → Bool). Fine c m s sent f voted′) (sym (fun-ext b)) (subst (Fine c m s sent entered) (sym d) x))
+
+module _ {t : ℕ} {m : Stage} {n : ℕ} {v : View} where
+  pub from-member : (x : Member t m n v) → Reached t (suc n) v (ofStatus (x .status)) v
+  from-member x =
+      record {
+        site = x .site;
+        phase = x .phase;
+        sent = λ g. refl;
+        entered = λ o. refl;
+        voted = refl;
+        elsewhere = record { cohort = refl; coordinator = refl; rest = λ s e. refl };
+      }
+
+  pub member-after : {w : View} {y : Part} (i : Input) (x : Member t m n v) → T (heard i (sentIn v (suc n)))
+      → T (lands (presumptionOf (v .transaction .cohort) (suc n)) i (x .status) y) → Reached t (suc n) v y w → Elsewhere (suc n) v w × Member t m n w
+  member-after {w} {y} i x d k r = (
+    r .elsewhere,
+    record {
+      status = l .status;
+      site = rw (r .elsewhere .cohort) (r .site ∙ here);
+      phase = r .phase ∙ l .reached .phase;
+      fine = rw (r .elsewhere .cohort) (fine-same (r .sent) (r .entered) (r .voted) (fine-after l d (x .fine)));
+    },
+  )
+    where
+      l : Landed (presumptionOf (v .transaction .cohort) (suc n)) i (x .status) y
+      l = landed _ i (x .status) y k
+
+      here : siteWith (v .transaction .cohort) t (suc n) (y .up) (y .stable) (y .unforced)
+          ≡ siteWith (v .transaction .cohort) t (suc n) (isUp (l .status)) (stableKinds (l .status)) (unforcedKinds (l .status))
+      here = λ a. siteWith (v .transaction .cohort) t (suc n) (l .reached .up a) (l .reached .stable a) (l .reached .unforced a)
+
+  -- a row of the member, whole or cut
+  pub member-carried : {w : View} {row : Row Participant} (i : Input) (x : Member t m n v) → T (heard i (sentIn v (suc n)))
+      → AllProper (v .transaction .cohort) (suc n) (row .effects)
+      → (f : Participant → Part → Part) (g : View → View)
+      → ((y : Part) (u : View) → Reached t (suc n) v y u → Reached t (suc n) v (f (row .phase) y) (g u))
+      → T (rowTest (presumptionOf (v .transaction .cohort) (suc n)) i (x .status) f row)
+      → Carried t (suc n) (row .effects) g v w → Elsewhere (suc n) v w × Member t m n w
+  member-carried {row} i x d h f g reach k whole =
+      member-after i x d (row-whole _ i (x .status) f row k) (reach _ _ (reach-effects t (suc n) v (row .effects) h (from-member x)))
+  member-carried {row} i x d h f g reach k (cutAfter a b) =
+      member-after i x d (row-cut _ i (x .status) f row k a b)
+      (reach-down t n v b (reach-effects t (suc n) v (take a (row .effects)) (take-proper _ (suc n) a (row .effects) h) (from-member x)))
+
+-- ---- no member
+
+pub take-none : (k : ℕ) → take {A = ℕ} k [] ≡ []
+take-none zero = refl
+take-none (suc k) = refl
+
+module _ {t n : ℕ} {v : View} where
+  pub from-stranger : (x : Stranger n v) → Reached t (suc n) v (still (v .site (suc n) .up) (v .transaction .participant (suc n)) [] []) v
+  from-stranger x =
+      record {
+        site = λ i. record { up = v .site (suc n) .up; stable = x .stable i; unforced = x .unforced i };
+        phase = refl;
+        sent = λ g. refl;
+        entered = λ o. refl;
+        voted = refl;
+        elsewhere = record { cohort = refl; coordinator = refl; rest = λ s e. refl };
+      }
+
+  pub stranger-after : {w : View} {u : Bool} {x : Participant} {ks : List ℕ} → ks ≡ [] → Stranger n v → Reached t (suc n) v (still u x ks []) w
+      → Elsewhere (suc n) v w × Stranger n w
+  stranger-after e x r = (
+    r .elsewhere,
+    record {
+      stable = ap (λ (z : Site). z .stable) (r .site) ∙ ap (map _) e;
+      unforced = ap (λ (z : Site). z .unforced) (r .site);
+      sent = λ g. r .sent g ∙ x .sent g;
+      entered = λ o. r .entered o ∙ x .entered o;
+    },
+  )
+
+  -- a row without effects
+  pub stranger-carried : {w : View} → Stranger n v → Carried t (suc n) [] (viewStart (suc n) (withParticipant (suc n) Participant.unknown)) v w
+      → Elsewhere (suc n) v w × Stranger n w
+  unfolding viewEffects
+  stranger-carried x whole = stranger-after refl x (reach-woken t n v Participant.unknown (from-stranger x))
+  stranger-carried x (cutAfter zero b) = stranger-after (take-none b) x (reach-down t n v b (from-stranger x))
+  stranger-carried x (cutAfter (suc a) b) = stranger-after (take-none b) x (reach-down t n v b (from-stranger x))

@@ -1,0 +1,338 @@
+-- One participant, by the kinds of its records: all that happens at it keeps the tables. By computation, over the rows of the step themselves.
+use Prim.Native.Nat.{ℕ, zero, suc}
+use mathlib.Core.Path.{_≡_, refl, sym, ap, _∙_}
+use mathlib.Core.Bool.{Bool, true, false, not, _&&_, _||_}
+use mathlib.Core.List.{List, [], _∷_, _++_, map}
+use mathlib.Core.Option.{Option, none, some}
+use lib.ListN.{take, drop}
+use lib.Dec.{T, eqb}
+use borrow.Author.Tests.{eqb-true, not-true}
+use Rattle.codec.specs.Lists.{any, same}
+use Rattle.codec.specs.Open.{codec-opens}
+use Rattle.codec.specs.laws.Tests.{and-left, and-right, true-of, of-true, alike, alike-eq, same-list}
+use Rattle.site.specs.Open.{site-opens}
+use Rattle.site.specs.Presumption.{Outcome, commit, abort, sameOutcome, Presumption}
+use Rattle.site.specs.Cohort.{Cohort}
+use Rattle.site.specs.Step.{Message, prepare, voteYes, messageKind, Input, begin, timer, received, Effect, append, force, enter, send, Row}
+use Rattle.site.specs.Participant.{Participant, participantStep, participantRestart}
+use Rattle.site.specs.Numbers.{participantPhase, participantOf}
+use Rattle.joint.specs.Plan.{closes, newest}
+use Rattle.joint.proofs.safety.Tables.{Status, working, prepared, gone, half, lone, shut, off, offVoted, offShut, isUp, phaseOf, stableKinds, unforcedKinds, has, Stage, fits, may, mayEnter}
+use Rattle.joint.proofs.safety.Finite.{_⇒_, mp, allBool, at-bool, allOutcome, allPresumption, at-presumption, allStatus, at-status, allStage, at-stage, allMessage, at-message}
+use Rattle.joint.proofs.safety.Invariant.{entry}
+
+-- ---- a participant, by kinds
+
+-- up or down, its phase and its records; since some moment: what it sent and entered, and whether it voted Yes from a stable record
+pub record Part : Type 0 where
+  pub up : Bool
+  pub phase : Participant
+  pub stable : List ℕ
+  pub unforced : List ℕ
+  pub sent : Message → Bool
+  pub entered : Outcome → Bool
+  pub voted : Bool
+
+-- nothing is sent, entered or voted
+abbrev pub still : Bool → Participant → List ℕ → List ℕ → Part
+still u x ks js =
+    record { up = u; phase = x; stable = ks; unforced = js; sent = λ g. false; entered = λ o. false; voted = false }
+
+abbrev pub ofStatus : Status → Part
+ofStatus s = still (isUp s) (phaseOf s) (stableKinds s) (unforcedKinds s)
+
+-- what it sent, entered and voted stays
+abbrev pub moved : Bool → Participant → List ℕ → List ℕ → Part → Part
+moved u x ks js y =
+    record { up = u; phase = x; stable = ks; unforced = js; sent = y .sent; entered = y .entered; voted = y .voted }
+
+abbrev pub effect : Effect → Part → Part
+effect (append k fs) y = moved (y .up) (y .phase) (y .stable) (y .unforced ++ (k ∷ [])) y
+effect force y = moved (y .up) (y .phase) (y .stable ++ y .unforced) [] y
+effect (enter o) y =
+    record {
+      up = y .up;
+      phase = y .phase;
+      stable = y .stable;
+      unforced = y .unforced;
+      sent = y .sent;
+      entered = λ d. sameOutcome d o || y .entered d;
+      voted = y .voted;
+    }
+effect (send m q) y =
+    record {
+      up = y .up;
+      phase = y .phase;
+      stable = y .stable;
+      unforced = y .unforced;
+      sent = λ g. eqb (messageKind g) (messageKind m) || y .sent g;
+      entered = y .entered;
+      voted = (eqb (messageKind voteYes) (messageKind m) && has 5 (y .stable)) || y .voted;
+    }
+
+abbrev pub effects : List Effect → Part → Part
+effects [] y = y
+effects (e ∷ es) y = effects es (effect e y)
+
+-- down, with these unforced records kept
+abbrev pub halted : List ℕ → Part → Part
+halted ks y = moved false Participant.unknown (y .stable ++ ks) [] y
+
+abbrev pub settled : Participant → Part → Part
+settled x y = moved (y .up) x (y .stable) (y .unforced) y
+
+-- up, in phase x
+abbrev pub woken : Participant → Part → Part
+woken x y = moved true x (y .stable) (y .unforced) y
+
+-- with no record left it is Unknown
+abbrev pub phaseLeft : List ℕ → Participant → Participant
+phaseLeft [] x = Participant.unknown
+phaseLeft (k ∷ ks) x = x
+
+-- the oldest stable record is gone
+abbrev pub dropped : Part → Part
+dropped y = moved (y .up) (phaseLeft (drop 1 (y .stable) ++ y .unforced) (y .phase)) (drop 1 (y .stable)) (y .unforced) y
+
+-- ---- tests
+
+-- f passes at each first part of a list
+abbrev allFirst {ℓ} : {A : Type ℓ} → (List A → Bool) → List A → Bool
+allFirst f [] = f []
+allFirst f (x ∷ xs) = f [] && allFirst (λ l. f (x ∷ l)) xs
+
+at-first {ℓ} : {A : Type ℓ} (f : List A → Bool) (xs : List A) → T (allFirst f xs) → (m : ℕ) → T (f (take m xs))
+at-first f [] h zero = h
+at-first f [] h (suc m) = h
+at-first f (x ∷ xs) h zero = and-left (f []) _ h
+at-first f (x ∷ xs) h (suc m) = at-first (λ l. f (x ∷ l)) xs (and-right (f []) _ h) m
+
+abbrev allStatuses : List Status
+allStatuses =
+    (working ∷ prepared ∷ gone ∷ lone ∷ off ∷ offVoted ∷ half commit ∷ half abort ∷ [])
+    ++ (shut commit true ∷ shut commit false ∷ shut abort true ∷ shut abort false ∷ [])
+    ++ (offShut commit true ∷ offShut commit false ∷ offShut abort true ∷ offShut abort false ∷ [])
+
+-- the test that y is as in status s
+abbrev isAs : Status → Part → Bool
+isAs s y =
+    alike (isUp s) (y .up)
+    && eqb (participantPhase (phaseOf s)) (participantPhase (y .phase))
+    && same (stableKinds s) (y .stable)
+    && same (unforcedKinds s) (y .unforced)
+
+-- the message that an input brings passes f
+abbrev pub heard : Input → (Message → Bool) → Bool
+heard begin f = true
+heard timer f = true
+heard (received m q) f = f m
+
+-- from status s, upon the input i, it came to y, which is status z: z fits, and what was allowed or is new is allowed
+-- m: the coordinator's stage; p: a Prepare was sent
+abbrev pub keeps : Presumption → Input → Status → Part → Status → Stage → Bool → Bool
+keeps c i s y z m p =
+    fits c m s p
+    ⇒ heard i (may m s p)
+    ⇒ (fits c m z p
+    && allMessage (λ g. (y .sent g || may m s p g) ⇒ may m z p g)
+    && allOutcome (λ o. (y .entered o || mayEnter m s o) ⇒ mayEnter m z o))
+
+-- y is a status that keeps the tables at every stage; it sent no Prepare, and a Yes only from a stable record
+abbrev pub lands : Presumption → Input → Status → Part → Bool
+lands c i s y =
+    not (y .sent prepare)
+    && (y .sent voteYes ⇒ y .voted)
+    && any (λ z. isAs z y && allStage (λ m. allBool (λ p. keeps c i s y z m p))) allStatuses
+
+-- the power is cut: any first part of what is unforced is kept
+abbrev cutTest : Presumption → Input → Status → Part → Bool
+cutTest c i s y = allFirst (λ ks. lands c i s (halted ks y)) (y .unforced)
+
+-- a row's effects, all and then f, or some and then a cut
+abbrev pub rowTest : Presumption → Input → Status → (Participant → Part → Part) → Row Participant → Bool
+rowTest c i s f r =
+    lands c i s (f (r .phase) (effects (r .effects) (ofStatus s)))
+    && allFirst (λ es. cutTest c i s (effects es (ofStatus s))) (r .effects)
+
+cut-at : (c : Presumption) (i : Input) (s : Status) (y : Part) → T (cutTest c i s y) → (b : ℕ) → T (lands c i s (halted (take b (y .unforced)) y))
+cut-at c i s y h b = at-first (λ ks. lands c i s (halted ks y)) (y .unforced) h b
+
+module _ (c : Presumption) (i : Input) (s : Status) (f : Participant → Part → Part) (r : Row Participant) (h : T (rowTest c i s f r)) where
+  abbrev after : ℕ → Part
+  after a = effects (take a (r .effects)) (ofStatus s)
+
+  pub row-whole : T (lands c i s (f (r .phase) (effects (r .effects) (ofStatus s))))
+  row-whole = and-left (lands c i s (f (r .phase) (effects (r .effects) (ofStatus s)))) _ h
+
+  pub row-cut : (a b : ℕ) → T (lands c i s (halted (take b (after a .unforced)) (after a)))
+  row-cut a b =
+      cut-at c i s (after a)
+      (at-first (λ es. cutTest c i s (effects es (ofStatus s))) (r .effects)
+      (and-right (lands c i s (f (r .phase) (effects (r .effects) (ofStatus s)))) _ h) a)
+      b
+
+abbrev pub onRow : (Row Participant → Bool) → Option (Row Participant) → Bool
+onRow f none = true
+onRow f (some r) = f r
+
+-- the step of participant p
+abbrev stepTest : Presumption → ℕ → Status → Input → Bool
+stepTest c p s i = isUp s ⇒ onRow (rowTest c i s settled) (participantStep c p i (phaseOf s))
+
+abbrev inputTests : Presumption → ℕ → ℕ → Status → Bool
+inputTests c p q s =
+    stepTest c p s begin && stepTest c p s timer && allMessage (λ m. stepTest c p s (received m q))
+
+step-passes : (p q : ℕ) → T (allPresumption (λ c. allStatus (inputTests c p q)))
+unfolding codec-opens site-opens has
+step-passes p q = tt
+
+pub step-at : (c : Presumption) (p : ℕ) (s : Status) (i : Input) → T (stepTest c p s i)
+step-at c p s i = pick i
+  where
+    alone : Bool
+    alone = stepTest c p s begin && stepTest c p s timer
+
+    messages : ℕ → Bool
+    messages q = allMessage (λ m. stepTest c p s (received m q))
+
+    at : (q : ℕ) → T (alone && messages q)
+    at q = at-status (inputTests c p q) (at-presumption (λ c. allStatus (inputTests c p q)) (step-passes p q) c) s
+
+    pick : (i : Input) → T (stepTest c p s i)
+    pick begin = and-left (stepTest c p s begin) (stepTest c p s timer) (and-left alone (messages 0) (at 0))
+    pick timer = and-right (stepTest c p s begin) (stepTest c p s timer) (and-left alone (messages 0) (at 0))
+    pick (received m q) = at-message (λ m. stepTest c p s (received m q)) (and-right alone (messages q) (at q)) m
+
+-- restart, by the kinds of stable records
+abbrev restartTest : ℕ → Presumption → Status → Bool
+restartTest p c s = not (isUp s) ⇒ rowTest c timer s woken (participantRestart c p (λ k. has k (stableKinds s)))
+
+restart-passes : (p : ℕ) → T (allPresumption (λ c. allStatus (restartTest p c)))
+unfolding codec-opens site-opens has
+restart-passes p = tt
+
+pub restart-at : (c : Presumption) (p : ℕ) (s : Status) → T (restartTest p c s)
+restart-at c p s = at-status (restartTest p c) (at-presumption (λ c. allStatus (restartTest p c)) (restart-passes p) c) s
+
+-- force, crash, discard
+abbrev forceTest : Presumption → Status → Bool
+forceTest c s = lands c timer s (effect force (ofStatus s))
+
+force-passes : T (allPresumption (λ c. allStatus (forceTest c)))
+unfolding codec-opens site-opens has
+force-passes = tt
+
+pub force-at : (c : Presumption) (s : Status) → T (forceTest c s)
+force-at c s = at-status (forceTest c) (at-presumption (λ c. allStatus (forceTest c)) force-passes c) s
+
+abbrev crashTest : Presumption → Status → Bool
+crashTest c s = cutTest c timer s (ofStatus s)
+
+crash-passes : T (allPresumption (λ c. allStatus (crashTest c)))
+unfolding codec-opens site-opens has
+crash-passes = tt
+
+pub crash-at : (c : Presumption) (s : Status) (k : ℕ) → T (lands c timer s (halted (take k (unforcedKinds s)) (ofStatus s)))
+crash-at c s k = cut-at c timer s (ofStatus s) (at-status (crashTest c) (at-presumption (λ c. allStatus (crashTest c)) crash-passes c) s) k
+
+module _ (g : Cohort) (t p : ℕ) where
+  abbrev discardTest : Presumption → Status → Bool
+  discardTest c s = isUp s ⇒ newest closes (map (entry g t p) (stableKinds s)) ⇒ lands c timer s (dropped (ofStatus s))
+
+  discard-passes : T (allPresumption (λ c. allStatus (discardTest c)))
+  unfolding codec-opens site-opens has newest closes
+  discard-passes = tt
+
+  pub discard-at : (c : Presumption) (s : Status) → T (discardTest c s)
+  discard-at c s = at-status (discardTest c) (at-presumption (λ c. allStatus (discardTest c)) discard-passes c) s
+
+-- ---- what a passed test says
+
+-- an element that passes
+found {ℓ} : {A : Type ℓ} (f : A → Bool) (l : List A) → T (any f l) → (x : A) × T (f x)
+unfolding any
+found f [] h = absurd h
+found {A} f (x ∷ l) h = go (f x) refl h (found f l)
+  where
+    go : (b : Bool) → f x ≡ b → T (b || any f l) → (T (any f l) → (y : A) × T (f y)) → (y : A) × T (f y)
+    go true e k rest = (x, of-true e)
+    go false e k rest = rest k
+
+phase-number : (x : Participant) → participantOf (participantPhase x) ≡ x
+unfolding participantOf participantPhase
+phase-number Participant.working = refl
+phase-number Participant.prepared = refl
+phase-number (Participant.decided commit) = refl
+phase-number (Participant.decided abort) = refl
+phase-number Participant.unknown = refl
+
+-- y is as in status s
+pub record As (s : Status) (y : Part) : Type 0 where
+  pub up : y .up ≡ isUp s
+  pub phase : y .phase ≡ phaseOf s
+  pub stable : y .stable ≡ stableKinds s
+  pub unforced : y .unforced ≡ unforcedKinds s
+
+is-as : (s : Status) (y : Part) → T (isAs s y) → As s y
+is-as s y h =
+    record {
+      up = sym (alike-eq (isUp s) (y .up) (and-left a b h1));
+      phase = sym (sym (phase-number (phaseOf s)) ∙ ap participantOf (eqb-true _ _ (true-of _ (and-right a b h1))) ∙ phase-number (y .phase));
+      stable = sym (same-list _ _ (true-of _ (and-right (a && b) d h2)));
+      unforced = sym (same-list _ _ (true-of _ (and-right (a && b && d) e h)));
+    }
+  where
+    a : Bool
+    a = alike (isUp s) (y .up)
+
+    b : Bool
+    b = eqb (participantPhase (phaseOf s)) (participantPhase (y .phase))
+
+    d : Bool
+    d = same (stableKinds s) (y .stable)
+
+    e : Bool
+    e = same (unforcedKinds s) (y .unforced)
+
+    h2 : T (a && b && d)
+    h2 = and-left (a && b && d) e h
+
+    h1 : T (a && b)
+    h1 = and-left (a && b) d h2
+
+-- the status that the participant comes to
+pub record Landed (c : Presumption) (i : Input) (s : Status) (y : Part) : Type 0 where
+  pub status : Status
+  pub reached : As status y
+  pub no-prepare : y .sent prepare ≡ false
+  pub honest : T (y .sent voteYes) → T (y .voted)
+  pub kept : (m : Stage) (p : Bool) → T (keeps c i s y status m p)
+
+pub landed : (c : Presumption) (i : Input) (s : Status) (y : Part) → T (lands c i s y) → Landed c i s y
+landed c i s y h =
+    record {
+      status = z;
+      reached = is-as z y (and-left (isAs z y) (allStage (both z)) (there .1));
+      no-prepare = not-true (y .sent prepare) (true-of _ (and-left (not (y .sent prepare)) honestly first));
+      honest = mp (y .sent voteYes) (y .voted) (and-right (not (y .sent prepare)) honestly first);
+      kept = λ m p. at-bool (λ p. keeps c i s y z m p) (at-stage (both z) (and-right (isAs z y) (allStage (both z)) (there .1)) m) p;
+    }
+  where
+    both : Status → Stage → Bool
+    both z m = allBool (λ p. keeps c i s y z m p)
+
+    comesTo : Status → Bool
+    comesTo z = isAs z y && allStage (both z)
+
+    honestly : Bool
+    honestly = y .sent voteYes ⇒ y .voted
+
+    first : T (not (y .sent prepare) && honestly)
+    first = and-left (not (y .sent prepare) && honestly) (any comesTo allStatuses) h
+
+    there : (z : Status) × T (comesTo z)
+    there = found comesTo allStatuses (and-right (not (y .sent prepare) && honestly) (any comesTo allStatuses) h)
+
+    z : Status
+    z = there .0

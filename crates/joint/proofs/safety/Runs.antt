@@ -1,0 +1,131 @@
+-- The coordinator's rows, effect by effect: in front of each effect the invariant holds with some standing, so that a power cut there is a crash from it.
+use Prim.Native.Nat.{ℕ, zero, suc}
+use mathlib.Core.Path.{_≡_, refl, sym, ap, _∙_, subst}
+use mathlib.Core.Bool.{Bool, true, false, cond, not, _||_}
+use mathlib.Core.List.{List, [], _∷_, _++_, map}
+use lib.ListN.{take}
+use lib.Dec.{T, eqb}
+use Rattle.codec.specs.Lists.{select}
+use Rattle.codec.specs.Sets.{participants, member, listed}
+use Rattle.site.specs.Presumption.{Outcome}
+use Rattle.site.specs.Cohort.{Cohort, presumptionOf}
+use Rattle.site.specs.Step.{Message, voteYes, messageKind, Effect, append, force, enter, send}
+use Rattle.site.specs.Coordinator.{Coordinator, inTurn, ordered}
+use Rattle.joint.specs.State.{withCoordinator, withSent}
+use Rattle.joint.proofs.view.View.{View, viewSettle, viewPerform, viewEffects, viewDown}
+use Rattle.joint.proofs.view.Turn.{Carried, whole, cutAfter}
+use Rattle.joint.proofs.safety.Tables.{maySend}
+use Rattle.joint.proofs.safety.Sets.{no-zero}
+use Rattle.joint.proofs.safety.Invariant.{Standing, stageOf, hasDecided, writesInit, coordinatorAt, between, sentIn, Mid, Inv}
+use Rattle.joint.proofs.safety.Steps.{cohortOf, From, settle-mid, enter-mid, send-mid}
+use Rattle.joint.proofs.safety.Crashes.{Next, crash-next}
+
+-- ---- addressees
+
+-- a member that may be sent a message
+abbrev pub Addressee : Cohort → Standing → Message → ℕ → Type 0
+Addressee c h g zero = ⊥
+Addressee c h g (suc n) = T (member (suc n) (c .members)) × T (maySend (presumptionOf c (suc n)) (stageOf h (suc n)) false g)
+
+abbrev pub Each : (ℕ → Type 0) → List ℕ → Type 0
+Each P [] = Unit {0}
+Each P (p ∷ ps) = P p × Each P ps
+
+-- ---- runs
+
+pub record Node (t : ℕ) (h0 : Standing) (v : View) (h : Standing) : Type 0 where
+  pub mid : Mid t h v
+  pub from : (x : Standing) → From (writesInit (cohortOf v)) x h0 → From (writesInit (cohortOf v)) x h
+
+module _ (t : ℕ) (h0 : Standing) where
+  -- from the standing h0, through the effects, to the standing h′
+  abbrev pub Runs : View → List Effect → Standing → Type 0
+  Runs v [] h′ = Node t h0 v h′
+  Runs v (e ∷ es) h′ = ((h : Standing) × Node t h0 v h) × Runs (viewPerform 0 t e v) es h′
+
+  runs-at : (v : View) (es : List Effect) (h′ : Standing) → Runs v es h′ → (m : ℕ) → (h : Standing) × Node t h0 (viewEffects 0 t (take m es) v) h
+  unfolding viewEffects
+  runs-at v [] h′ x zero = (h′, x)
+  runs-at v [] h′ x (suc m) = (h′, x)
+  runs-at v (e ∷ es) h′ x zero = x .0
+  runs-at v (e ∷ es) h′ x (suc m) = runs-at (viewPerform 0 t e v) es h′ (x .1) m
+
+  runs-end : (v : View) (es : List Effect) (h′ : Standing) → Runs v es h′ → Node t h0 (viewEffects 0 t es v) h′
+  unfolding viewEffects
+  runs-end v [] h′ x = x
+  runs-end v (e ∷ es) h′ x = runs-end (viewPerform 0 t e v) es h′ (x .1)
+
+  -- a cut: a crash from the standing that the effects have led to
+  pub cut-next : (v : View) (h : Standing) → Node t h0 v h → (n : ℕ) → Next t h0 (viewDown 0 n v)
+  unfolding viewDown withCoordinator Rattle.joint.specs.State.forgotten
+  cut-next v h x n =
+      let y = crash-next t v h (x .mid) n in
+      record { standing = y .standing; inv = y .inv; from = λ z f. y .from z (x .from z f) }
+
+  pub row-next : {v w : View} (es : List Effect) (h′ : Standing) (c : Coordinator) → Runs v es h′ → c ≡ coordinatorAt h′ → T (between h′)
+      → Carried t 0 es (viewSettle (withCoordinator c)) v w → Next t h0 w
+  unfolding viewSettle withCoordinator
+  row-next {v} es h′ c x e b whole =
+      let y = runs-end v es h′ x in
+      record { standing = h′; inv = record { mid = settle-mid (y .mid) c; phase = e; whole = b }; from = y .from }
+  row-next {v} es h′ c x e b (cutAfter m n) =
+      let y = runs-at v es h′ x m in
+      cut-next (viewEffects 0 t (take m es) v) (y .0) (y .1) n
+
+  -- ---- entries and messages
+
+  pub enter-run : {v : View} {h : Standing} (es : List Effect) (h′ : Standing) (o : Outcome) → Node t h0 v h → T (hasDecided h o)
+      → (Node t h0 (viewPerform 0 t (enter o) v) h → Runs (viewPerform 0 t (enter o) v) es h′) → Runs v (enter o ∷ es) h′
+  unfolding viewPerform
+  enter-run {h} es h′ o x d k = ((h, x), k (record { mid = enter-mid (x .mid) o d; from = x .from }))
+
+  pub send-run : {v : View} {h : Standing} (es : List Effect) (h′ : Standing) → Node t h0 v h → (y : Bool) (n : ℕ) → T (member (suc n) (cohortOf v .members))
+      → (T y → T (sentIn v (suc n) voteYes)) → (g : Message) → T (maySend (presumptionOf (cohortOf v) (suc n)) (stageOf h (suc n)) y g)
+      → (Node t h0 (viewPerform 0 t (send g (suc n)) v) h → Runs (viewPerform 0 t (send g (suc n)) v) es h′) → Runs v (send g (suc n) ∷ es) h′
+  unfolding viewPerform withSent
+  send-run {h} es h′ x y n m a g s k = ((h, x), k (record { mid = send-mid (x .mid) y n m a g s; from = x .from }))
+
+  pub sends-run : {h : Standing} (es : List Effect) (h′ : Standing) (g : Message) (ps : List ℕ) (v : View) → Each (Addressee (cohortOf v) h g) ps → Node t h0 v h
+      → ((w : View) → cohortOf w ≡ cohortOf v → Node t h0 w h → Runs w es h′) → Runs v (map (send g) ps ++ es) h′
+  unfolding viewPerform withSent
+  sends-run es h′ g [] v a x k = k v refl x
+  sends-run es h′ g (zero ∷ ps) v a x k = absurd (a .0)
+  sends-run es h′ g (suc n ∷ ps) v a x k =
+      send-run (map (send g) ps ++ es) h′ x false n (a .0 .0) (λ f. absurd f) g (a .0 .1) (λ y. sends-run es h′ g ps (viewPerform 0 t (send g (suc n)) v) (a .1) y k)
+
+-- ---- the order of sending
+
+module _ (P : ℕ → Type 0) where
+  each-append : (xs ys : List ℕ) → Each P xs → Each P ys → Each P (xs ++ ys)
+  each-append [] ys a b = b
+  each-append (x ∷ xs) ys a b = (a .0, each-append xs ys (a .1) b)
+
+  each-cond : (b : Bool) (x : ℕ) (xs : List ℕ) → (T b → P x) → Each P xs → Each P (cond b (x ∷ xs) xs)
+  each-cond true x xs h a = (h tt, a)
+  each-cond false x xs h a = a
+
+  each-chosen : (f : ℕ → Bool) → ((p : ℕ) → T (f p) → P p) → (xs : List ℕ) → Each P (select f xs)
+  unfolding select
+  each-chosen f h [] = tt
+  each-chosen f h (x ∷ xs) = each-cond (f x) x (select f xs) (h x) (each-chosen f h xs)
+
+  each-kept : (f : ℕ → Bool) (xs : List ℕ) → Each P xs → Each P (select f xs)
+  unfolding select
+  each-kept f [] a = tt
+  each-kept f (x ∷ xs) a = each-cond (f x) x (select f xs) (λ t. a .0) (each-kept f xs (a .1))
+
+  -- those of a set, in turn, and in the order of sending
+  pub each-in-turn : (to : ℕ) → ((n : ℕ) → T (member (suc n) to) → P (suc n)) → Each P (inTurn to)
+  unfolding inTurn listed
+  each-in-turn to h = each-chosen (λ p. member p to) go participants
+    where
+      go : (p : ℕ) → T (member p to) → P p
+      go zero t = absurd (no-zero to t)
+      go (suc n) t = h n t
+
+  pub each-ordered : (first to : ℕ) → ((n : ℕ) → T (member (suc n) to) → P (suc n)) → Each P (ordered first to)
+  unfolding ordered
+  each-ordered first to h =
+      let a = each-in-turn to h in
+      each-append (select (λ p. member p first) (inTurn to)) (select (λ p. not (member p first)) (inTurn to))
+      (each-kept (λ p. member p first) (inTurn to) a) (each-kept (λ p. not (member p first)) (inTurn to) a)
