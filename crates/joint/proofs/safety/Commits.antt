@@ -1,12 +1,12 @@
 -- The coordinator's rows that begin, count votes and commit.
 use Prim.Native.Nat.{ℕ, zero, suc, _<_}
 use mathlib.Core.Path.{_≡_, refl, sym, ap, _∙_, subst}
-use mathlib.Core.Bool.{Bool, true, false, cond, not, _&&_, _||_}
+use mathlib.Core.Bool.{Bool, true, false, cond, not, _&&_, _||_, true≢false}
 use mathlib.Core.List.{List, [], _∷_, _++_, map, append-nil, map-append}
 use lib.Dec.{T, eqb}
 use borrow.Author.Tests.{eqb-true}
 use Rattle.codec.specs.Sets.{member, empty, without, those}
-use Rattle.codec.specs.laws.Tests.{and-left, and-right}
+use Rattle.codec.specs.laws.Tests.{and-left, and-right, true-of}
 use Rattle.codec.specs.laws.Masks.{those-below}
 use Rattle.site.specs.Presumption.{Outcome, commit, abort, sameOutcome, Presumption, presumedAbort, presumedCommit, acks, silence}
 use Rattle.site.specs.Cohort.{Cohort, masksOf, presumptionOf, owing}
@@ -16,12 +16,12 @@ use Rattle.joint.specs.State.{Site, appended, forced}
 use Rattle.joint.proofs.view.View.{View, viewAt, viewPerform}
 use Rattle.joint.proofs.safety.Finite.{_⇒_}
 use Rattle.joint.proofs.safety.Passes.{or-left, or-right}
-use Rattle.joint.proofs.safety.Sets.{of-those, member-those, empty-none, no-zero}
-use Rattle.joint.proofs.safety.Invariant.{Log, kindsIn, classOf, waiting, resting, down, Standing, initial, collecting, decided, stageOf, logFits, SetsFit, writesInit, initLog, sentIn, siteWith, coordinatorAt, between, Mid}
-use Rattle.joint.proofs.safety.Logs.{commitLog, end-unwritten}
+use Rattle.joint.proofs.safety.Sets.{of-those, member-those, member-owing, empty-none, no-zero}
+use Rattle.joint.proofs.safety.Invariant.{Log, kindsIn, classOf, waiting, resting, down, Pace, Standing, initial, collecting, decided, stageOf, hasDecided, logFits, SetsFit, writesInit, awaitsCommit, initLog, sentIn, siteWith, coordinatorAt, between, Mid}
+use Rattle.joint.proofs.safety.Logs.{commitLog, end-unwritten, commit-proper}
 use Rattle.joint.proofs.safety.Steps.{cohortOf, PassesAt, From, Shift, standsAs, stay, stand}
 use Rattle.joint.proofs.safety.Crashes.{refl-outcome, from-same, from-none, commit-has, commit-kinds, and-true2, not-true}
-use Rattle.joint.proofs.safety.Runs.{Each, Addressee, Node, Runs, enter-run, sends-run, each-in-turn, each-ordered}
+use Rattle.joint.proofs.safety.Runs.{Each, Addressee, Node, Runs, node-stay, append-run, force-run, enter-run, sends-run, each-in-turn, each-ordered}
 
 module _ (t : ℕ) (h0 : Standing) (v : View) where
   abbrev g : Cohort
@@ -33,11 +33,191 @@ module _ (t : ℕ) (h0 : Standing) (v : View) where
   asked : (w : ℕ) → Each (Addressee g (collecting w false) prepare) (inTurn (g .members))
   asked w = each-in-turn (Addressee g (collecting w false) prepare) (g .members) (λ n m. (m, tt))
 
-  begins : (b : Bool) → Shift v (initial b) (collecting (g .members) false)
-  begins b = ?
+  -- nothing is decided before and after
+  undecided : {h h′ : Standing} → ((o : Outcome) → T (hasDecided h o) → ⊥) → (T (hasDecided h′ commit) → ⊥)
+      → (x : Standing) → From (writesInit g) x h → From (writesInit g) x h′
+  undecided f f′ x = from-none x f (λ k. absurd (f′ k))
 
-  pub begin-run : (b : Bool) → writesInit g ≡ b → Node t h0 v (initial false)
-      → Runs t h0 v (given b (append 1 (masksOf g) ∷ force ∷ []) ++ map (send prepare) (inTurn (g .members))) (collecting (g .members) false)
-  unfolding given
-  begin-run true e x = ?
-  begin-run false e x = ?
+  writes : T (writesInit g) → Shift v (initial false) (initial true)
+  writes i = record { never = refl; fit = i; proper = tt; sets = tt; from = undecided (λ o k. k) (λ k. k); passing = λ n m. tt }
+
+  begins : (b : Bool) → g .members < 256 → Shift v (initial b) (collecting (g .members) false)
+  begins b h =
+      record { never = refl; fit = tt; proper = tt; sets = (h, λ p m. m); from = undecided (λ o k. k) (λ k. k); passing = λ n m. m }
+
+  asks : Node t h0 v (collecting (g .members) false) → Runs t h0 v (map (send prepare) (inTurn (g .members)) ++ []) (collecting (g .members) false)
+  asks x = sends-run t h0 [] (collecting (g .members) false) prepare (inTurn (g .members)) v (asked (g .members)) x (λ w e y. y)
+
+module _ (t : ℕ) (h0 : Standing) (v : View) where
+  abbrev firstRecord : Effect
+  firstRecord = append 1 (masksOf (cohortOf v))
+
+  pub begin-run : (b : Bool) → writesInit (cohortOf v) ≡ b → Node t h0 v (initial false)
+      → Runs t h0 v (given b (firstRecord ∷ force ∷ []) ++ map (send prepare) (inTurn (cohortOf v .members))) (collecting (cohortOf v .members) false)
+  unfolding given viewPerform viewAt appended forced
+  begin-run true e x =
+      append-run t h0 (force ∷ map (send prepare) (inTurn (cohortOf v .members))) (collecting (cohortOf v .members) false) 1 (masksOf (cohortOf v)) x
+      (writes t h0 v (subst T (sym e) tt)) refl
+      (λ y.
+      force-run t h0 (map (send prepare) (inTurn (cohortOf v .members))) (collecting (cohortOf v .members) false) y
+      (begins t h0 (viewPerform 0 t firstRecord v) true (x .mid .byte)) (rw e refl)
+      (λ z. rw append-nil at (asks t h0 (viewPerform 0 t force (viewPerform 0 t firstRecord v)) z)))
+  begin-run false e x =
+      rw append-nil at (asks t h0 v (node-stay t h0 x (begins t h0 v false (x .mid .byte)) (rw e refl)))
+
+-- ---- a Yes of p is counted
+
+count-law : (w e y : Bool) → (T e → T y) → T ((w && not e) || not w || y)
+count-law false e y f = tt
+count-law true false y f = tt
+count-law true true y f = f tt
+
+-- the acks that a member owes are those that silence would not mean
+pub owes : (c : Presumption) (o : Outcome) → T (sameOutcome (silence c) o || acks c o)
+unfolding sameOutcome silence acks
+owes presumedAbort commit = tt
+owes presumedAbort abort = tt
+owes presumedCommit commit = tt
+owes presumedCommit abort = tt
+
+was-done : (b s a : Bool) → T (not b) → T (not true || not b || s || a)
+was-done true s a k = absurd k
+was-done false s a k = tt
+
+commit-law : (w u a s : Bool) → T (not w) → u ≡ a → T (s || a) → T (not w && (not (not u) || s))
+commit-law true u a s n e o = absurd n
+commit-law false true a s n e o = tt
+commit-law false false true s n e o = absurd (true≢false (sym e))
+commit-law false false false s n e o = or-false s o
+  where
+    or-false : (s : Bool) → T (s || false) → T s
+    or-false true k = k
+    or-false false k = k
+
+module _ (t : ℕ) (h0 : Standing) (v : View) where
+  abbrev members : ℕ
+  members = cohortOf v .members
+
+  -- w without p is a part of what w is a part of
+  pub without-part : (p w m : ℕ) → ((q : ℕ) → T (member q w) → T (member q m)) → (q : ℕ) → T (member q (without p w)) → T (member q m)
+  unfolding without
+  without-part p w m f zero k = absurd (no-zero _ k)
+  without-part p w m f (suc n) k = f (suc n) (and-left (member (suc n) w) (not (eqb (suc n) p)) (of-those (λ q. member q w && not (eqb q p)) n k))
+
+  pub counts : (p w : ℕ) → Mid t (collecting w false) v → T (sentIn v p voteYes) → Shift v (collecting w false) (collecting (without p w) false)
+  unfolding without
+  counts p w mid y =
+      record {
+        never = refl;
+        fit = tt;
+        proper = tt;
+        sets = (those-below (λ q. member q w && not (eqb q p)), without-part p w members (mid .sets .1));
+        from = undecided t h0 v (λ o k. k) (λ k. k);
+        passing = λ n m. rw (member-those (λ q. member q w && not (eqb q p)) n members (mid .byte) m)
+            (count-law (member (suc n) w) (eqb (suc n) p) (sentIn v (suc n) voteYes) (λ e. subst (λ (q : ℕ). T (sentIn v q voteYes)) (sym (eqb-true (suc n) p (true-of _ e))) y));
+      }
+
+  -- ---- all have voted: commit
+
+  marks : (w : ℕ) → T (empty w) → Shift v (collecting w false) (collecting w true)
+  marks w e = record { never = refl; fit = tt; proper = tt; sets = λ p m. empty-none w p e m; from = undecided t h0 v (λ o k. k) (λ k. k); passing = λ n m. stays-asked (member (suc n) w) _ }
+    where
+      stays-asked : (b y : Bool) → T (b || not b || y)
+      stays-asked true y = tt
+      stays-asked false y = tt
+
+  commit-waits : (j : Bool) (w : ℕ) → T (logFits j commit (waiting w) (classOf (commitLog j)))
+  unfolding sameOutcome
+  commit-waits true w = tt
+  commit-waits false w = tt
+
+  commits : (w : ℕ) → Mid t (collecting w true) v → Shift v (collecting w true) (decided commit (waiting (owing (cohortOf v) commit)) (commitLog (writesInit (cohortOf v))))
+  unfolding owing
+  commits w mid =
+      record {
+        never = refl;
+        fit = commit-waits (writesInit (cohortOf v)) (owing (cohortOf v) commit);
+        proper = commit-proper (writesInit (cohortOf v)) (awaitsCommit (cohortOf v));
+        sets = (those-below _, λ p m. m);
+        from = λ x. from-none x (λ o k. k) (λ k. commit-has (writesInit (cohortOf v)));
+        passing = λ n m.
+            commit-law (member (suc n) w) (member (suc n) (owing (cohortOf v) commit)) (acks (presumptionOf (cohortOf v) (suc n)) commit) _
+            (not-true (member (suc n) w) (mid .sets (suc n))) (member-owing (cohortOf v) commit n (mid .byte) m) (owes (presumptionOf (cohortOf v) (suc n)) commit);
+      }
+
+-- ---- the outcome is told, and what follows where nobody is waited for
+
+module _ (t : ℕ) (h0 : Standing) where
+  -- the outcome is told to members
+  pub told : (g : Cohort) (o : Outcome) (p : Pace) (l : Log) (to : ℕ) → ((q : ℕ) → T (member q to) → T (member q (g .members)))
+      → Each (Addressee g (decided o p l) (tell o)) (inOrder g o to)
+  unfolding inOrder
+  told g o p l to f = each-ordered (Addressee g (decided o p l) (tell o)) (owing g o) to (λ n m. (f (suc n) m, or-left (sameOutcome o o) _ (refl-outcome o)))
+
+  -- nobody is waited for, and no record ends it
+  pub rests-now : (v : View) (o : Outcome) (w : ℕ) (l : Log) → Mid t (decided o (waiting w) l) v → T (empty w) → Shift v (decided o (waiting w) l) (decided o (resting false) l)
+  rests-now v o w l mid e =
+      record {
+        never = refl;
+        fit = end-unwritten (writesInit (cohortOf v)) o l w (mid .fit);
+        proper = mid .proper;
+        sets = tt;
+        from = λ x. from-same (writesInit (cohortOf v)) o (waiting w) (resting false) l l x (λ k. k);
+        passing = λ n m. and-true2 (sameOutcome o o) _ (refl-outcome o) (was-done (member (suc n) w) _ _ (not-true (member (suc n) w) (empty-none w (suc n) e)));
+      }
+
+  -- the standing in which acks of w are awaited, if any
+  abbrev pub untilAckedAs : Bool → Outcome → ℕ → Log → Standing
+  untilAckedAs true o w l = decided o (resting false) l
+  untilAckedAs false o w l = decided o (waiting w) l
+
+  pub until-acked : (v : View) (b : Bool) (o : Outcome) (w : ℕ) (l : Log) → empty w ≡ b → Node t h0 v (decided o (waiting w) l) → Node t h0 v (untilAckedAs b o w l)
+  until-acked v true o w l e x = node-stay t h0 x (rests-now v o w l (x .mid) (subst T (sym e) tt)) refl
+  until-acked v false o w l e x = x
+
+  pub until-phase : (b : Bool) (o : Outcome) (w : ℕ) (l : Log) → empty w ≡ b → untilAcked o w ≡ coordinatorAt (untilAckedAs b o w l)
+  unfolding untilAcked
+  until-phase true o w l e = rw e refl
+  until-phase false o w l e = rw e refl
+
+  pub until-between : (b : Bool) (o : Outcome) (w : ℕ) (l : Log) → empty w ≡ b → T (between (untilAckedAs b o w l))
+  until-between true o w l e = tt
+  until-between false o w l e = subst (λ (c : Bool). T (not c)) (sym e) tt
+
+  -- the outcome is entered and told
+  pub enter-tell : {v : View} (o : Outcome) (p : Pace) (l : Log) (to : ℕ) → ((q : ℕ) → T (member q to) → T (member q (cohortOf v .members))) → (es : List Effect) (h′ : Standing)
+      → Node t h0 v (decided o p l) → ((w : View) → cohortOf w ≡ cohortOf v → Node t h0 w (decided o p l) → Runs t h0 w es h′)
+      → Runs t h0 v (enter o ∷ (tellAll (cohortOf v) o to ++ es)) h′
+  unfolding viewPerform tellAll
+  enter-tell {v} o p l to f es h′ x k =
+      enter-run t h0 (tellAll (cohortOf v) o to ++ es) h′ o x (refl-outcome o)
+      (λ y. sends-run t h0 es h′ (tell o) (inOrder (cohortOf v) o to) (viewPerform 0 t (enter o) v) (told (cohortOf v) o p l to f) y k)
+
+pub forced-kinds : (g : Cohort) (t : ℕ) (u : Bool) (ks js ms : List ℕ) → ms ≡ ks ++ js → forced (siteWith g t 0 u ks js) ≡ siteWith g t 0 u ms []
+unfolding forced
+forced-kinds g t u ks js ms e = rw (e, map-append) refl
+
+-- ---- the row
+
+module _ (t : ℕ) (h0 : Standing) (v : View) where
+  abbrev group : Cohort
+  group = cohortOf v
+
+  abbrev final : Bool → Standing
+  final b = untilAckedAs t h0 b commit (owing group commit) (commitLog (writesInit group))
+
+  abbrev written : View
+  written = viewPerform 0 t (append 2 (masksOf group)) v
+
+  pub commit-run : (w : ℕ) → T (empty w) → (b : Bool) → empty (owing group commit) ≡ b → Node t h0 v (collecting w false)
+      → Runs t h0 v (append 2 (masksOf group) ∷ force ∷ enter commit ∷ tellAll group commit (group .members)) (final b)
+  unfolding viewPerform viewAt appended
+  commit-run w e b q x =
+      append-run t h0 (force ∷ enter commit ∷ tellAll group commit (group .members)) (final b) 2 (masksOf group) x (marks t h0 v w e) refl
+      (λ y.
+      force-run t h0 (enter commit ∷ tellAll group commit (group .members)) (final b) y (commits t h0 written w (y .mid))
+      (forced-kinds group t true (kindsIn (initLog (writesInit group))) (2 ∷ []) (kindsIn (commitLog (writesInit group))) (commit-kinds (writesInit group)))
+      (λ z.
+      subst (λ (l : List Effect). Runs t h0 (viewPerform 0 t force written) (enter commit ∷ l) (final b)) (append-nil (tellAll group commit (group .members)))
+      (enter-tell t h0 {v = viewPerform 0 t force written} commit (waiting (owing group commit)) (commitLog (writesInit group)) (group .members) (λ p m. m) [] (final b) z
+      (λ u f n. until-acked t h0 u b commit (owing group commit) (commitLog (writesInit group)) q n))))

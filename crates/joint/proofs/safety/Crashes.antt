@@ -19,8 +19,8 @@ use Rattle.joint.proofs.safety.Tables.{has}
 use Rattle.joint.proofs.safety.Finite.{_⇒_, mp, allOf, allBool, at-bool, allOutcome, at-outcome}
 use Rattle.joint.proofs.safety.Passes.{or-left, or-right}
 use Rattle.joint.proofs.safety.Sets.{empty-none}
-use Rattle.joint.proofs.safety.Invariant.{Log, l0, l1, kindsIn, classOf, resumed, waiting, resting, down, Pace, Standing, never, initial, collecting, decided, stageOf, hasDecided, logFits, standingFits, SetsFit, writesInit, initLog, standingUp, stableAt, unforcedAt, coordinatorAt, between, entry, siteWith, Mid, Inv}
-use Rattle.joint.proofs.safety.Logs.{closed, commitLog, waiting-down, resting-down, closed-fits, closed-kinds, abort-unwritten, closed-has}
+use Rattle.joint.proofs.safety.Invariant.{Log, l0, l1, kindsIn, classOf, resumed, waiting, resting, down, Pace, Standing, never, initial, collecting, decided, stageOf, hasDecided, logFits, standingFits, properKinds, properLog, awaitsCommit, SetsFit, writesInit, initLog, standingUp, stableAt, unforcedAt, coordinatorAt, between, entry, siteWith, Mid, Inv}
+use Rattle.joint.proofs.safety.Logs.{closed, commitLog, waiting-down, resting-down, closed-fits, closed-kinds, abort-unwritten, closed-has, closed-proper, initial-proper, commit-proper}
 use Rattle.joint.proofs.safety.Steps.{cohortOf, PassesAt, From, Shift, standsAs, stand, settle-mid}
 
 -- ---- a turn's result: the standing after it
@@ -125,6 +125,20 @@ initial-passes true y s k = tt
 initial-passes false y commit k = absurd k
 initial-passes false y abort k = tt
 
+none-proper : (j a : Bool) → T (properKinds j a [])
+unfolding has any
+none-proper true true = tt
+none-proper true false = tt
+none-proper false true = tt
+none-proper false false = tt
+
+-- record 1 alone
+first-proper : (j a : Bool) → T j → T (properKinds j a (1 ∷ []))
+unfolding has any
+first-proper true true k = tt
+first-proper true false k = tt
+first-proper false a k = absurd k
+
 commit-fits : (j : Bool) → T (logFits j commit down (classOf (commitLog j)))
 unfolding sameOutcome
 commit-fits true = tt
@@ -147,6 +161,9 @@ module _ (t : ℕ) (v : View) where
   abbrev i : Bool
   i = writesInit (cohortOf v)
 
+  abbrev a : Bool
+  a = awaitsCommit (cohortOf v)
+
   lost : {h h′ : Standing} → Mid t h v → (k : ℕ) → Shift v h h′ → stopped k (standsAs t v h) ≡ standsAs t v h′
       → Coordinator.unknown ≡ coordinatorAt h′ → T (between h′) → Next t h (viewDown 0 k v)
   unfolding viewDown viewAt viewSettle withCoordinator forgotten
@@ -161,10 +178,10 @@ module _ (t : ℕ) (v : View) where
   abbrev abortDown : Log → Standing
   abortDown l = decided abort down l
 
-  from-initial : (b : Bool) (l : Log) → T (logFits i abort down (classOf l)) → Shift v (initial b) (abortDown l)
+  from-initial : (b : Bool) (l : Log) → T (logFits i abort down (classOf l)) → T (properLog i a (abortDown l)) → Shift v (initial b) (abortDown l)
   unfolding sameOutcome
-  from-initial b l f =
-      record { never = refl; fit = f; sets = tt; from = λ h0. from-none h0 (λ o k. k) (λ k. absurd k); passing = λ n m. tt }
+  from-initial b l f p =
+      record { never = refl; fit = f; proper = p; sets = tt; from = λ h0. from-none h0 (λ o k. k) (λ k. absurd k); passing = λ n m. tt }
 
   from-collecting : (w : ℕ) (b : Bool) → Shift v (collecting w b) (abortDown (initLog i))
   unfolding sameOutcome
@@ -172,6 +189,7 @@ module _ (t : ℕ) (v : View) where
       record {
         never = refl;
         fit = initial-fits i;
+        proper = initial-proper i a;
         sets = tt;
         from = λ h0. from-none h0 (λ o k. k) (λ k. absurd k);
         passing = λ n m. initial-passes i _ (silence (presumptionOf (cohortOf v) (suc n))) (begun (cohortOf v) (suc n));
@@ -182,52 +200,61 @@ module _ (t : ℕ) (v : View) where
       record {
         never = refl;
         fit = commit-fits i;
+        proper = commit-proper i a;
         sets = tt;
         from = λ h0. from-none h0 (λ o k. k) (λ k. commit-has i);
         passing = λ n m. commit-passes i (member (suc n) w) _ (not-true (member (suc n) w) (none (suc n)));
       }
 
   -- decided: the outcome stays
-  rests : (o : Outcome) (b : Bool) (l l′ : Log) → T (logFits i o down (classOf l′)) → (T (has 2 (kindsIn l)) → T (has 2 (kindsIn l′)))
+  rests : (o : Outcome) (b : Bool) (l l′ : Log) → T (logFits i o down (classOf l′)) → T (properLog i a (decided o down l′)) → (T (has 2 (kindsIn l)) → T (has 2 (kindsIn l′)))
       → Shift v (decided o (resting b) l) (decided o down l′)
-  rests o b l l′ f grows =
+  rests o b l l′ f p grows =
       record {
         never = refl;
         fit = f;
+        proper = p;
         sets = tt;
         from = λ h0. from-same i o (resting b) down l l′ h0 grows;
         passing = λ n m. and-true2 (sameOutcome o o) _ (refl-outcome o) (done-before (not (not (resumed (classOf l′)))) _ _);
       }
 
-  waits : (o : Outcome) (w : ℕ) (l : Log) → T (logFits i o (waiting w) (classOf l)) → Shift v (decided o (waiting w) l) (decided o down l)
-  waits o w l f =
+  waits : (o : Outcome) (w : ℕ) (l : Log) → T (logFits i o (waiting w) (classOf l)) → T (properLog i a (decided o down l)) → Shift v (decided o (waiting w) l) (decided o down l)
+  waits o w l f p =
       record {
         never = refl;
         fit = waiting-down i o l w f;
+        proper = p;
         sets = tt;
         from = λ h0. from-same i o (waiting w) down l l h0 (λ k. k);
         passing = λ n m. and-true2 (sameOutcome o o) _ (refl-outcome o) (waits-passes (resumed (classOf l)) i o (silence (presumptionOf (cohortOf v) (suc n))) _ _ (abort-unwritten i o l w f) (begun (cohortOf v) (suc n)));
       }
 
+  -- a record 3 that stands unforced
+  written : (o : Outcome) (l : Log) → SetsFit (cohortOf v) (decided o (resting true) l) → T (sameOutcome o abort || a)
+  unfolding sameOutcome
+  written commit l s = s
+  written abort l s = tt
+
   -- ---- the crash
 
   pub crash-next : (h : Standing) → Mid t h v → (k : ℕ) → Next t h (viewDown 0 k v)
   crash-next (never u) mid k =
-      lost {h′ = never false} mid k (record { never = refl; fit = tt; sets = tt; from = λ h0. from-none h0 (λ o b. b) (λ b. absurd b); passing = λ n m. tt }) (stopped-none (cohortOf v) t u k []) refl tt
-  crash-next (initial false) mid k = lost mid k (from-initial false l0 tt) (stopped-none (cohortOf v) t true k []) refl tt
-  crash-next (initial true) mid zero = lost mid 0 (from-initial true l0 tt) (stopped-lost (cohortOf v) t true [] (1 ∷ [])) refl tt
-  crash-next (initial true) mid (suc k) = lost mid (suc k) (from-initial true l1 (unfold sameOutcome in tt)) (stopped-kept (cohortOf v) t true k [] (1 ∷ []) 1 refl) refl tt
+      lost {h′ = never false} mid k (record { never = refl; fit = tt; proper = tt; sets = tt; from = λ h0. from-none h0 (λ o b. b) (λ b. absurd b); passing = λ n m. tt }) (stopped-none (cohortOf v) t u k []) refl tt
+  crash-next (initial false) mid k = lost mid k (from-initial false l0 tt (none-proper i a)) (stopped-none (cohortOf v) t true k []) refl tt
+  crash-next (initial true) mid zero = lost mid 0 (from-initial true l0 tt (none-proper i a)) (stopped-lost (cohortOf v) t true [] (1 ∷ [])) refl tt
+  crash-next (initial true) mid (suc k) = lost mid (suc k) (from-initial true l1 (unfold sameOutcome in tt) (first-proper i a (mid .fit))) (stopped-kept (cohortOf v) t true k [] (1 ∷ []) 1 refl) refl tt
   crash-next (collecting w false) mid k = lost mid k (from-collecting w false) (stopped-none (cohortOf v) t true k (kindsIn (initLog i))) refl tt
   crash-next (collecting w true) mid zero = lost mid 0 (from-collecting w true) (stopped-lost (cohortOf v) t true (kindsIn (initLog i)) (2 ∷ [])) refl tt
   crash-next (collecting w true) mid (suc k) =
       lost mid (suc k) (from-marked w (mid .sets)) (stopped-kept (cohortOf v) t true k (kindsIn (initLog i)) (kindsIn (commitLog i)) 2 (commit-kinds i)) refl tt
-  crash-next (decided o (waiting w) l) mid k = lost mid k (waits o w l (mid .fit)) (stopped-none (cohortOf v) t true k (kindsIn l)) refl tt
+  crash-next (decided o (waiting w) l) mid k = lost mid k (waits o w l (mid .fit) (mid .proper)) (stopped-none (cohortOf v) t true k (kindsIn l)) refl tt
   crash-next (decided o (resting false) l) mid k =
-      lost mid k (rests o false l l (resting-down i o l false (mid .fit)) (λ x. x)) (stopped-none (cohortOf v) t true k (kindsIn l)) refl tt
+      lost mid k (rests o false l l (resting-down i o l false (mid .fit)) (mid .proper) (λ x. x)) (stopped-none (cohortOf v) t true k (kindsIn l)) refl tt
   crash-next (decided o (resting true) l) mid zero =
-      lost mid 0 (rests o true l l (resting-down i o l true (mid .fit)) (λ x. x)) (stopped-lost (cohortOf v) t true (kindsIn l) (endRecord o ∷ [])) refl tt
+      lost mid 0 (rests o true l l (resting-down i o l true (mid .fit)) (mid .proper) (λ x. x)) (stopped-lost (cohortOf v) t true (kindsIn l) (endRecord o ∷ [])) refl tt
   crash-next (decided o (resting true) l) mid (suc k) =
-      lost mid (suc k) (rests o true l (closed l) (resting-down i o (closed l) false (closed-fits i o l (mid .fit))) (closed-has l))
+      lost mid (suc k) (rests o true l (closed l) (resting-down i o (closed l) false (closed-fits i o l (mid .fit))) (closed-proper i a o l (mid .fit) (written o l (mid .sets)) (mid .proper)) (closed-has l))
       (stopped-kept (cohortOf v) t true k (kindsIn l) (kindsIn (closed l)) (endRecord o) (closed-kinds i o l (mid .fit))) refl tt
   crash-next (decided o down l) mid k =
-      lost {h′ = decided o down l} mid k (record { never = refl; fit = mid .fit; sets = tt; from = λ h0 f. f; passing = λ n m. and-true2 (sameOutcome o o) _ (refl-outcome o) (stays-so (not (resumed (classOf l))) _ _) }) (stopped-none (cohortOf v) t false k (kindsIn l)) refl tt
+      lost {h′ = decided o down l} mid k (record { never = refl; fit = mid .fit; proper = mid .proper; sets = tt; from = λ h0 f. f; passing = λ n m. and-true2 (sameOutcome o o) _ (refl-outcome o) (stays-so (not (resumed (classOf l))) _ _) }) (stopped-none (cohortOf v) t false k (kindsIn l)) refl tt

@@ -106,6 +106,24 @@ standingFits i (initial b) = not b || i
 standingFits i (collecting w b) = true
 standingFits i (decided o pace l) = logFits i o pace (classOf l)
 
+-- a record 1 stands where a member presumes commit, a record 3 where someone owes an ack; i, a: whether it is so
+abbrev pub properKinds : Bool → Bool → List ℕ → Bool
+properKinds i a ks = (i || not (has 1 ks)) && (a || not (has 3 ks))
+
+abbrev pub properLog : Bool → Bool → Standing → Bool
+properLog i a (never u) = true
+properLog i a (initial b) = true
+properLog i a (collecting w b) = true
+properLog i a (decided o pace l) = properKinds i a (kindsIn l)
+
+-- record 1 is written at begin where a member presumes commit
+abbrev pub writesInit : Cohort → Bool
+writesInit g = not (empty (g .presumeCommit))
+
+-- someone owes an ack for commit
+abbrev pub awaitsCommit : Cohort → Bool
+awaitsCommit g = not (empty (owing g commit))
+
 -- the sets waited for
 abbrev pub SetsFit : Cohort → Standing → Type 0
 SetsFit g (never u) = Unit {0}
@@ -115,14 +133,10 @@ SetsFit g (collecting w false) = (w < 256) × ((p : ℕ) → T (member p w) → 
 SetsFit g (collecting w true) = (p : ℕ) → T (member p w) → ⊥
 SetsFit g (decided o (waiting w) l) = (w < 256) × ((p : ℕ) → T (member p w) → T (member p (owing g o)))
 -- a record 3 stands unforced where acks were owed
-SetsFit g (decided commit (resting true) l) = empty (owing g commit) ≡ false
+SetsFit g (decided commit (resting true) l) = T (awaitsCommit g)
 SetsFit g (decided abort (resting true) l) = Unit {0}
 SetsFit g (decided o (resting false) l) = Unit {0}
 SetsFit g (decided o down l) = Unit {0}
-
--- record 1 is written at begin where a member presumes commit
-abbrev pub writesInit : Cohort → Bool
-writesInit g = not (empty (g .presumeCommit))
 
 abbrev pub initLog : Bool → Log
 initLog true = l1
@@ -222,6 +236,7 @@ pub record Mid (t : ℕ) (h : Standing) (v : View) : Type 0 where
   pub opened : isNever h ≡ empty (v .transaction .cohort .members)
   pub log : v .site 0 ≡ siteWith (v .transaction .cohort) t 0 (standingUp h) (stableAt (writesInit (v .transaction .cohort)) h) (unforcedAt h)
   pub fit : T (standingFits (writesInit (v .transaction .cohort)) h)
+  pub proper : T (properLog (writesInit (v .transaction .cohort)) (awaitsCommit (v .transaction .cohort)) h)
   pub sets : SetsFit (v .transaction .cohort) h
   pub entries : (o : Outcome) → T (v .entered 0 o) → T (hasDecided h o)
   pub places : (n : ℕ) → Place (member (suc n) (v .transaction .cohort .members)) t (stageOf h (suc n)) n v

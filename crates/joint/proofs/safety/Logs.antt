@@ -14,7 +14,7 @@ use Rattle.joint.specs.State.{Site, appended, forced, stopped}
 use Rattle.joint.proofs.safety.Tables.{has}
 use Rattle.joint.proofs.safety.Finite.{_⇒_, mp, allOf, nth, look, allBool, at-bool, allOutcome, at-outcome}
 use Rattle.joint.proofs.safety.Passes.{or-left, or-right}
-use Rattle.joint.proofs.safety.Invariant.{Log, l0, l1, l12, l2, l123, l23, l3, l14, l4, kindsIn, Class, nothing, live, ended, classOf, resumed, Pace, waiting, resting, down, logFits, initLog, entry, siteWith}
+use Rattle.joint.proofs.safety.Invariant.{Log, l0, l1, l12, l2, l123, l23, l3, l14, l4, kindsIn, Class, nothing, live, ended, classOf, resumed, Pace, waiting, resting, down, logFits, properKinds, initLog}
 
 -- with the end record
 abbrev pub closed : Log → Log
@@ -61,9 +61,9 @@ at-log f t l3 = look 6 (logs f) t
 at-log f t l14 = look 7 (logs f) t
 at-log f t l4 = look 8 (logs f) t
 
--- what holds of each log, outcome and whether record 1 is written; w is any set
-abbrev laws : ℕ → Bool → Outcome → Log → List Bool
-laws w i o l =
+-- what holds of each log and outcome, whether record 1 is written (i), and whether an ack is owed for commit (a); w is any set
+abbrev laws : ℕ → Bool → Bool → Outcome → Log → List Bool
+laws w a i o l =
     -- 0: a coordinator that waits goes down, 1: one that rests
     (logFits i o (waiting w) (classOf l) ⇒ logFits i o down (classOf l))
     ∷ ((logFits i o (resting true) (classOf l) || logFits i o (resting false) (classOf l)) ⇒ logFits i o down (classOf l))
@@ -86,18 +86,28 @@ laws w i o l =
     -- 12, 13: what restart asks of the kinds
     ∷ (logFits i o down (classOf l) ⇒ alike (has 2 (kindsIn l) && not (has 3 (kindsIn l))) (sameOutcome o commit && resumed (classOf l)))
     ∷ (logFits i o down (classOf l) ⇒ alike (has 1 (kindsIn l) && not (has 2 (kindsIn l)) && not (has 4 (kindsIn l))) (sameOutcome o abort && resumed (classOf l)))
-    -- 14: record 2 stays
+    -- 14: record 2 stays; 15 to 18: records 1 and 3 stand where they may
     ∷ (has 2 (kindsIn l) ⇒ has 2 (kindsIn (closed l)))
+    ∷ (logFits i o (resting true) (classOf l) ⇒ (sameOutcome o abort || a) ⇒ properKinds i a (kindsIn l) ⇒ properKinds i a (kindsIn (closed l)))
+    ∷ (properKinds i a (kindsIn l) ⇒ properKinds i a (kindsIn (older l)))
+    ∷ properKinds i a (kindsIn (initLog i))
+    ∷ properKinds i a (kindsIn (commitLog i))
     ∷ []
 
-law-tests : (w : ℕ) → T (allOf (logs (λ l. allOutcome (λ o. allBool (λ i. allOf (laws w i o l))))))
+law-tests : (w : ℕ) → T (allBool (λ a. allOf (logs (λ l. allOutcome (λ o. allBool (λ i. allOf (laws w a i o l)))))))
 unfolding any same has sameOutcome endRecord
 law-tests w = tt
 
-law : (k w : ℕ) (i : Bool) (o : Outcome) (l : Log) → T (nth k (laws w i o l))
-law k w i o l =
-    look k (laws w i o l)
-    (at-bool (λ i. allOf (laws w i o l)) (at-outcome (λ o. allBool (λ i. allOf (laws w i o l))) (at-log (λ l. allOutcome (λ o. allBool (λ i. allOf (laws w i o l)))) (law-tests w) l) o) i)
+law-of : (k w : ℕ) (a i : Bool) (o : Outcome) (l : Log) → T (nth k (laws w a i o l))
+law-of k w a i o l =
+    look k (laws w a i o l)
+    (at-bool (λ i. allOf (laws w a i o l))
+    (at-outcome (λ o. allBool (λ i. allOf (laws w a i o l)))
+    (at-log (λ l. allOutcome (λ o. allBool (λ i. allOf (laws w a i o l))))
+    (at-bool (λ a. allOf (logs (λ l. allOutcome (λ o. allBool (λ i. allOf (laws w a i o l)))))) (law-tests w) a) l) o) i)
+
+law : (k w : ℕ) (i : Bool) (o : Outcome) (l : Log) → T (nth k (laws w true i o l))
+law k w i o l = law-of k w true i o l
 
 -- ---- the laws, one by one
 
@@ -150,3 +160,19 @@ module _ (i : Bool) (o : Outcome) (l : Log) where
 
 pub closed-has : (l : Log) → T (has 2 (kindsIn l)) → T (has 2 (kindsIn (closed l)))
 closed-has l = mp (has 2 (kindsIn l)) (has 2 (kindsIn (closed l))) (law 14 0 true commit l)
+
+module _ (i a : Bool) where
+  pub closed-proper : (o : Outcome) (l : Log) → T (logFits i o (resting true) (classOf l)) → T (sameOutcome o abort || a) → T (properKinds i a (kindsIn l)) → T (properKinds i a (kindsIn (closed l)))
+  closed-proper o l f u p =
+      mp (properKinds i a (kindsIn l)) (properKinds i a (kindsIn (closed l)))
+      (mp (sameOutcome o abort || a) (properKinds i a (kindsIn l) ⇒ properKinds i a (kindsIn (closed l)))
+      (mp (logFits i o (resting true) (classOf l)) ((sameOutcome o abort || a) ⇒ properKinds i a (kindsIn l) ⇒ properKinds i a (kindsIn (closed l))) (law-of 15 0 a i o l) f) u) p
+
+  pub older-proper : (l : Log) → T (properKinds i a (kindsIn l)) → T (properKinds i a (kindsIn (older l)))
+  older-proper l = mp (properKinds i a (kindsIn l)) (properKinds i a (kindsIn (older l))) (law-of 16 0 a i commit l)
+
+  pub initial-proper : T (properKinds i a (kindsIn (initLog i)))
+  initial-proper = law-of 17 0 a i commit l0
+
+  pub commit-proper : T (properKinds i a (kindsIn (commitLog i)))
+  commit-proper = law-of 18 0 a i commit l0

@@ -11,13 +11,13 @@ use Rattle.site.specs.Presumption.{Outcome}
 use Rattle.site.specs.Cohort.{Cohort, presumptionOf}
 use Rattle.site.specs.Step.{Message, voteYes, messageKind, Effect, append, force, enter, send}
 use Rattle.site.specs.Coordinator.{Coordinator, inTurn, ordered}
-use Rattle.joint.specs.State.{withCoordinator, withSent}
-use Rattle.joint.proofs.view.View.{View, viewSettle, viewPerform, viewEffects, viewDown}
+use Rattle.joint.specs.State.{Site, appended, forced, withCoordinator, withSent, forgotten}
+use Rattle.joint.proofs.view.View.{View, viewAt, viewSettle, viewPerform, viewEffects, viewDown}
 use Rattle.joint.proofs.view.Turn.{Carried, whole, cutAfter}
 use Rattle.joint.proofs.safety.Tables.{maySend}
 use Rattle.joint.proofs.safety.Sets.{no-zero}
 use Rattle.joint.proofs.safety.Invariant.{Standing, stageOf, hasDecided, writesInit, coordinatorAt, between, sentIn, Mid, Inv}
-use Rattle.joint.proofs.safety.Steps.{cohortOf, From, settle-mid, enter-mid, send-mid}
+use Rattle.joint.proofs.safety.Steps.{cohortOf, From, Shift, standsAs, stay, stand, settle-mid, enter-mid, send-mid}
 use Rattle.joint.proofs.safety.Crashes.{Next, crash-next}
 
 -- ---- addressees
@@ -57,7 +57,7 @@ module _ (t : ℕ) (h0 : Standing) where
 
   -- a cut: a crash from the standing that the effects have led to
   pub cut-next : (v : View) (h : Standing) → Node t h0 v h → (n : ℕ) → Next t h0 (viewDown 0 n v)
-  unfolding viewDown withCoordinator Rattle.joint.specs.State.forgotten
+  unfolding viewDown withCoordinator forgotten
   cut-next v h x n =
       let y = crash-next t v h (x .mid) n in
       record { standing = y .standing; inv = y .inv; from = λ z f. y .from z (x .from z f) }
@@ -71,6 +71,26 @@ module _ (t : ℕ) (h0 : Standing) where
   row-next {v} es h′ c x e b (cutAfter m n) =
       let y = runs-at v es h′ x m in
       cut-next (viewEffects 0 t (take m es) v) (y .0) (y .1) n
+
+  -- ---- a change of standing, without an effect and with one on the log
+
+  pub node-stay : {v : View} {h h′ : Standing} → Node t h0 v h → Shift v h h′ → standsAs t v h ≡ standsAs t v h′ → Node t h0 v h′
+  node-stay x s e = record { mid = stay (x .mid) s e; from = λ y f. s .from y (x .from y f) }
+
+  node-stand : {v : View} {h h′ : Standing} → Node t h0 v h → Shift v h h′ → (k : Site → Site) → k (standsAs t v h) ≡ standsAs t v h′ → Node t h0 (viewAt 0 k v) h′
+  unfolding viewAt
+  node-stand x s k e = record { mid = stand (x .mid) s k e; from = λ y f. s .from y (x .from y f) }
+
+  pub append-run : {v : View} {h h1 : Standing} (es : List Effect) (h′ : Standing) (k : ℕ) (fs : List ℕ) → Node t h0 v h → Shift v h h1
+      → appended (record { kind = k; transaction = t; fields = fs }) (standsAs t v h) ≡ standsAs t v h1
+      → (Node t h0 (viewPerform 0 t (append k fs) v) h1 → Runs (viewPerform 0 t (append k fs) v) es h′) → Runs v (append k fs ∷ es) h′
+  unfolding viewPerform
+  append-run {h} es h′ k fs x s e r = ((h, x), r (node-stand x s (appended (record { kind = k; transaction = t; fields = fs })) e))
+
+  pub force-run : {v : View} {h h1 : Standing} (es : List Effect) (h′ : Standing) → Node t h0 v h → Shift v h h1 → forced (standsAs t v h) ≡ standsAs t v h1
+      → (Node t h0 (viewPerform 0 t force v) h1 → Runs (viewPerform 0 t force v) es h′) → Runs v (force ∷ es) h′
+  unfolding viewPerform
+  force-run {h} es h′ x s e r = ((h, x), r (node-stand x s forced e))
 
   -- ---- entries and messages
 

@@ -8,7 +8,7 @@ use lib.Dec.{T, eqb}
 use native.Mathlib.Omega.{arith}
 use borrow.Author.Tests.{eq-eqb, eqb-true}
 use Rattle.codec.specs.Sets.{participants, member, empty, bits, those, without, both, minus}
-use Rattle.codec.specs.laws.Tests.{true-of, of-true, alike, alike-eq, below, below-at, bools, bools-at}
+use Rattle.codec.specs.laws.Tests.{and-left, and-right, true-of, of-true, alike, alike-eq, below, below-at, bools, bools-at}
 use Rattle.codec.specs.laws.Masks.{those-alike, those-below, those-members}
 use Rattle.codec.specs.laws.Members.{noParticipant, numbered, high-bits, member-participant}
 use Rattle.site.specs.Presumption.{Outcome, commit, abort, acks}
@@ -81,3 +81,16 @@ no-zero w t = subst T (ap (λ (k : ℕ). eqb k 1) even) t
   where
     even : 2 * w / 2 ^ 0 % 2 ≡ 0
     even = omega arith
+
+-- ---- those that owe an ack
+
+module _ (g : Cohort) (o : Outcome) where
+  pub member-owing : (n : ℕ) → g .members < 256 → T (member (suc n) (g .members)) → member (suc n) (owing g o) ≡ acks (presumptionOf g (suc n)) o
+  unfolding owing
+  member-owing n h m = member-those (λ p. member p (g .members) && acks (presumptionOf g p) o) n (g .members) h m ∙ rw (true-of (member (suc n) (g .members)) m) refl
+
+  pub owing-member : (n : ℕ) → T (member (suc n) (owing g o)) → T (member (suc n) (g .members)) × T (acks (presumptionOf g (suc n)) o)
+  unfolding owing
+  owing-member n k =
+      let both = of-those (λ p. member p (g .members) && acks (presumptionOf g p) o) n k in
+      (and-left (member (suc n) (g .members)) (acks (presumptionOf g (suc n)) o) both, and-right (member (suc n) (g .members)) (acks (presumptionOf g (suc n)) o) both)

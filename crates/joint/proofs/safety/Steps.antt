@@ -19,7 +19,7 @@ use Rattle.joint.proofs.view.Updates.{update-other}
 use Rattle.joint.proofs.view.View.{View, viewAt, viewSettle, viewPerform, viewEffects, viewDown}
 use Rattle.joint.proofs.safety.Tables.{Status, has, Stage, fresh, asking, done, Fine, passes, acked, maySend}
 use Rattle.joint.proofs.safety.Passes.{or-left, or-right, or-either, pass-fine, send-fine, also}
-use Rattle.joint.proofs.safety.Invariant.{Standing, never, initial, collecting, decided, stageOf, hasDecided, standingFits, SetsFit, writesInit, standingUp, stableAt, unforcedAt, coordinatorAt, between, isNever, siteWith, sentIn, Member, Stranger, Place, Mid, Inv}
+use Rattle.joint.proofs.safety.Invariant.{Standing, never, initial, collecting, decided, stageOf, hasDecided, standingFits, properLog, awaitsCommit, SetsFit, writesInit, standingUp, stableAt, unforcedAt, coordinatorAt, between, isNever, siteWith, sentIn, Member, Stranger, Place, Mid, Inv}
 
 -- ---- what changes of the standing are allowed
 
@@ -37,6 +37,7 @@ pub record From (i : Bool) (h0 h : Standing) : Type 0 where
 pub record Shift (v : View) (h h′ : Standing) : Type 0 where
   pub never : isNever h′ ≡ isNever h
   pub fit : T (standingFits (writesInit (cohortOf v)) h′)
+  pub proper : T (properLog (writesInit (cohortOf v)) (awaitsCommit (cohortOf v)) h′)
   pub sets : SetsFit (cohortOf v) h′
   pub from : (h0 : Standing) → From (writesInit (cohortOf v)) h0 h → From (writesInit (cohortOf v)) h0 h′
   pub passing : (n : ℕ) → T (member (suc n) (cohortOf v .members)) → PassesAt v (stageOf h (suc n)) (stageOf h′ (suc n)) n
@@ -128,6 +129,7 @@ module _ {t : ℕ} {v : View} {h : Standing} (mid : Mid t h v) where
         opened = x .never ∙ mid .opened;
         log = mid .log ∙ e;
         fit = x .fit;
+        proper = x .proper;
         sets = x .sets;
         entries = λ o u. x .from h (record { keeps = λ o k. k; new = inl }) .keeps o (mid .entries o u);
         places = λ n. place-map t n (stageOf h (suc n)) (stageOf h′ (suc n)) v v (isMember n) (λ b. member-pass (stageOf h′ (suc n)) (x .passing n b)) (λ b s. s) (mid .places n);
@@ -144,6 +146,7 @@ module _ {t : ℕ} {v : View} {h : Standing} (mid : Mid t h v) where
         opened = x .never ∙ mid .opened;
         log = ap k (mid .log) ∙ e;
         fit = x .fit;
+        proper = x .proper;
         sets = x .sets;
         entries = λ o u. x .from h (record { keeps = λ o k. k; new = inl }) .keeps o (mid .entries o u);
         places = λ n. place-map t n (stageOf h (suc n)) (stageOf h′ (suc n)) v (viewAt 0 k v) (isMember n) (λ b y. member-beside k (member-pass (stageOf h′ (suc n)) (x .passing n b) y)) (λ b. stranger-beside k) (mid .places n);
@@ -159,6 +162,7 @@ module _ {t : ℕ} {v : View} {h : Standing} (mid : Mid t h v) where
         opened = mid .opened;
         log = mid .log;
         fit = mid .fit;
+        proper = mid .proper;
         sets = mid .sets;
         entries = mid .entries;
         places = λ n. place-map t n (stageOf h (suc n)) (stageOf h (suc n)) v (viewSettle (withCoordinator c) v) (isMember n) (λ b. member-settle c) (λ b. stranger-settle c) (mid .places n);
@@ -176,6 +180,7 @@ module _ {t : ℕ} {v : View} {h : Standing} (mid : Mid t h v) where
         opened = mid .opened;
         log = mid .log;
         fit = mid .fit;
+        proper = mid .proper;
         sets = mid .sets;
         entries = λ r u. or-either (v .entered 0 r) (sameOutcome r o) (mid .entries r) (λ k. subst (λ (z : Outcome). T (hasDecided h z)) (sym (same-outcome r o k)) d) u;
         places = λ n. place-map t n (stageOf h (suc n)) (stageOf h (suc n)) v (viewPerform 0 t (enter o) v) (isMember n) (λ b. member-entered o) (λ b. stranger-entered t o) (mid .places n);
@@ -251,7 +256,8 @@ module _ {t : ℕ} {v : View} {h : Standing} (mid : Mid t h v) where
           opened = mid .opened;
           log = mid .log;
           fit = mid .fit;
-          sets = mid .sets;
+          proper = mid .proper;
+        sets = mid .sets;
           entries = mid .entries;
           places = λ k. place-map t k (stageOf h (suc k)) (stageOf h (suc k)) v (viewPerform 0 t (send g (suc n)) v) (isMember k) (λ b. member-sent k) (stranger-sent k) (mid .places k);
         }
