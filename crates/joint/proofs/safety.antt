@@ -13,3 +13,5 @@ pub mod Steps
 pub mod Crashes
 pub mod Runs
 pub mod Commits
+pub mod Ends
+pub mod Coordinators

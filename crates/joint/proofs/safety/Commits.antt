@@ -80,7 +80,7 @@ owes presumedAbort abort = tt
 owes presumedCommit commit = tt
 owes presumedCommit abort = tt
 
-was-done : (b s a : Bool) → T (not b) → T (not true || not b || s || a)
+pub was-done : (b s a : Bool) → T (not b) → T (not true || not b || s || a)
 was-done true s a k = absurd k
 was-done false s a k = tt
 

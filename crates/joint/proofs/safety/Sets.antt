@@ -1,7 +1,7 @@
 -- Laws of sets that the coordinator's rows need: who is a member of a set that is made.
 use Prim.Native.Nat.{ℕ, zero, suc, _-_, _*_, _/_, _%_, _^_, _<_}
 use mathlib.Core.Path.{_≡_, refl, sym, ap, _∙_, subst}
-use mathlib.Core.Bool.{Bool, true, false, not, _&&_}
+use mathlib.Core.Bool.{Bool, true, false, cond, not, _&&_}
 use mathlib.Core.List.{List, [], _∷_}
 use lib.ListN.{getD}
 use lib.Dec.{T, eqb}
@@ -11,7 +11,7 @@ use Rattle.codec.specs.Sets.{participants, member, empty, bits, those, without,
 use Rattle.codec.specs.laws.Tests.{and-left, and-right, true-of, of-true, alike, alike-eq, below, below-at, bools, bools-at}
 use Rattle.codec.specs.laws.Masks.{those-alike, those-below, those-members}
 use Rattle.codec.specs.laws.Members.{noParticipant, numbered, high-bits, member-participant}
-use Rattle.site.specs.Presumption.{Outcome, commit, abort, acks}
+use Rattle.site.specs.Presumption.{Outcome, commit, abort, presumedAbort, presumedCommit, acks}
 use Rattle.site.specs.Cohort.{Cohort, presumptionOf, owing}
 
 -- ---- the set of those that pass a test
@@ -94,3 +94,28 @@ module _ (g : Cohort) (o : Outcome) where
   owing-member n k =
       let both = of-those (λ p. member p (g .members) && acks (presumptionOf g p) o) n k in
       (and-left (member (suc n) (g .members)) (acks (presumptionOf g (suc n)) o) both, and-right (member (suc n) (g .members)) (acks (presumptionOf g (suc n)) o) both)
+
+-- a set that is not empty has a member
+pub not-none : (w : ℕ) → w < 256 → T (not (empty w)) → ((n : ℕ) → T (member (suc n) w) → ⊥) → ⊥
+not-none w h e none = both-ways (empty w) (none-empty w h none) e
+  where
+    both-ways : (b : Bool) → T b → T (not b) → ⊥
+    both-ways true t u = u
+    both-ways false t u = t
+
+-- if all of its members are members of m, then m is not empty
+pub not-empty : (w m : ℕ) → w < 256 → T (not (empty w)) → ((n : ℕ) → T (member (suc n) w) → T (member (suc n) m)) → T (not (empty m))
+not-empty w m h e f = go (empty m) refl
+  where
+    go : (b : Bool) → empty m ≡ b → T (not b)
+    go true q = not-none w h e (λ n k. empty-none m (suc n) (of-true q) (f n k))
+    go false q = tt
+
+-- who owes an ack of an abort presumes commit
+pub owes-abort : (g : Cohort) (n : ℕ) → T (member (suc n) (owing g abort)) → T (member (suc n) (g .presumeCommit))
+unfolding presumptionOf acks
+owes-abort g n k = go (member (suc n) (g .presumeCommit)) (owing-member g abort n k .1)
+  where
+    go : (b : Bool) → T (acks (cond b presumedCommit presumedAbort) abort) → T b
+    go true u = tt
+    go false u = absurd (unfold acks in u)

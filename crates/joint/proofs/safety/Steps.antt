@@ -109,9 +109,16 @@ unfolding viewPerform
 stranger-entered t {v} {n} o x =
     record { stable = x .stable; unforced = x .unforced; sent = x .sent; entered = λ d. rw (x .entered d, own-number n) refl }
 
-both-ways : (b : Bool) → T b → T (not b) → ⊥
+pub both-ways : (b : Bool) → T b → T (not b) → ⊥
 both-ways true t u = u
 both-ways false t u = t
+
+pub same-outcome : (r o : Outcome) → T (sameOutcome r o) → r ≡ o
+unfolding sameOutcome
+same-outcome commit commit u = refl
+same-outcome commit abort u = absurd u
+same-outcome abort commit u = absurd u
+same-outcome abort abort u = refl
 
 -- ---- standings
 
@@ -185,12 +192,6 @@ module _ {t : ℕ} {v : View} {h : Standing} (mid : Mid t h v) where
         entries = λ r u. or-either (v .entered 0 r) (sameOutcome r o) (mid .entries r) (λ k. subst (λ (z : Outcome). T (hasDecided h z)) (sym (same-outcome r o k)) d) u;
         places = λ n. place-map t n (stageOf h (suc n)) (stageOf h (suc n)) v (viewPerform 0 t (enter o) v) (isMember n) (λ b. member-entered o) (λ b. stranger-entered t o) (mid .places n);
       }
-    where
-      same-outcome : (r o : Outcome) → T (sameOutcome r o) → r ≡ o
-      same-outcome commit commit u = refl
-      same-outcome commit abort u = absurd (unfold sameOutcome in u)
-      same-outcome abort commit u = absurd (unfold sameOutcome in u)
-      same-outcome abort abort u = refl
 
   -- ---- a message to the member suc n; y: whether it answers a Yes
 
