@@ -15,3 +15,4 @@ pub mod Runs
 pub mod Commits
 pub mod Ends
 pub mod Coordinators
+pub mod Wakes

@@ -21,7 +21,7 @@ use Rattle.joint.proofs.safety.Passes.{or-left, or-right}
 use Rattle.joint.proofs.safety.Sets.{empty-none}
 use Rattle.joint.proofs.safety.Invariant.{Log, l0, l1, kindsIn, classOf, resumed, waiting, resting, down, Pace, Standing, never, initial, collecting, decided, stageOf, hasDecided, logFits, standingFits, properKinds, properLog, awaitsCommit, SetsFit, writesInit, initLog, standingUp, stableAt, unforcedAt, coordinatorAt, between, entry, siteWith, Mid, Inv}
 use Rattle.joint.proofs.safety.Logs.{closed, commitLog, waiting-down, resting-down, closed-fits, closed-kinds, abort-unwritten, closed-has, closed-proper, initial-proper, commit-proper}
-use Rattle.joint.proofs.safety.Steps.{cohortOf, PassesAt, From, Shift, standsAs, stand, settle-mid}
+use Rattle.joint.proofs.safety.Steps.{cohortOf, PassesAt, From, Shift, move, standsAs, stand, settle-mid}
 
 -- ---- a turn's result: the standing after it
 
@@ -170,7 +170,7 @@ module _ (t : ℕ) (v : View) where
   lost {h} {h′} mid k x e c b =
       record {
         standing = h′;
-        inv = record { mid = settle-mid (stand mid x (stopped k) e) Coordinator.unknown; phase = c; whole = b };
+        inv = record { mid = settle-mid (stand mid (move x) (stopped k) e) Coordinator.unknown; phase = c; whole = b };
         from = x .from;
       }
 

@@ -45,6 +45,12 @@ abbrev pub commitLog : Bool → Log
 commitLog true = l12
 commitLog false = l2
 
+-- no record ends it
+abbrev pub unended : Class → Bool
+unended nothing = true
+unended (live o) = true
+unended (ended o) = false
+
 -- ---- tests over all logs
 
 abbrev logs : (Log → Bool) → List Bool
@@ -92,6 +98,8 @@ laws w a i o l =
     ∷ (properKinds i a (kindsIn l) ⇒ properKinds i a (kindsIn (older l)))
     ∷ properKinds i a (kindsIn (initLog i))
     ∷ properKinds i a (kindsIn (commitLog i))
+    -- 19: what is waited for, or whose end is unforced, has no stable end record
+    ∷ ((logFits i o (waiting w) (classOf l) || logFits i o (resting true) (classOf l)) ⇒ unended (classOf l))
     ∷ []
 
 law-tests : (w : ℕ) → T (allBool (λ a. allOf (logs (λ l. allOutcome (λ o. allBool (λ i. allOf (laws w a i o l)))))))
@@ -157,6 +165,16 @@ module _ (i : Bool) (o : Outcome) (l : Log) where
 
   pub resumes-abort : Fits down → (has 1 (kindsIn l) && not (has 2 (kindsIn l)) && not (has 4 (kindsIn l))) ≡ (sameOutcome o abort && resumed (classOf l))
   resumes-abort f = alike-eq _ _ (mp (logFits i o down (classOf l)) (alike (has 1 (kindsIn l) && not (has 2 (kindsIn l)) && not (has 4 (kindsIn l))) (sameOutcome o abort && resumed (classOf l))) (law 13 0 i o l) f)
+
+  pub waiting-unended : (w : ℕ) → Fits (waiting w) → T (unended (classOf l))
+  waiting-unended w f =
+      mp (logFits i o (waiting w) (classOf l) || logFits i o (resting true) (classOf l)) (unended (classOf l)) (law 19 w i o l)
+      (or-left (logFits i o (waiting w) (classOf l)) (logFits i o (resting true) (classOf l)) f)
+
+  pub ending-unended : Fits (resting true) → T (unended (classOf l))
+  ending-unended f =
+      mp (logFits i o (waiting 0) (classOf l) || logFits i o (resting true) (classOf l)) (unended (classOf l)) (law 19 0 i o l)
+      (or-right (logFits i o (waiting 0) (classOf l)) (logFits i o (resting true) (classOf l)) f)
 
 pub closed-has : (l : Log) → T (has 2 (kindsIn l)) → T (has 2 (kindsIn (closed l)))
 closed-has l = mp (has 2 (kindsIn l)) (has 2 (kindsIn (closed l))) (law 14 0 true commit l)

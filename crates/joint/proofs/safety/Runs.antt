@@ -17,7 +17,7 @@ use Rattle.joint.proofs.view.Turn.{Carried, whole, cutAfter}
 use Rattle.joint.proofs.safety.Tables.{maySend}
 use Rattle.joint.proofs.safety.Sets.{no-zero}
 use Rattle.joint.proofs.safety.Invariant.{Standing, stageOf, hasDecided, writesInit, coordinatorAt, between, sentIn, Mid, Inv}
-use Rattle.joint.proofs.safety.Steps.{cohortOf, From, Shift, standsAs, stay, stand, settle-mid, enter-mid, send-mid}
+use Rattle.joint.proofs.safety.Steps.{cohortOf, From, Shift, move, standsAs, stay, stand, settle-mid, enter-mid, send-mid}
 use Rattle.joint.proofs.safety.Crashes.{Next, crash-next}
 
 -- ---- addressees
@@ -43,14 +43,14 @@ module _ (t : ℕ) (h0 : Standing) where
   Runs v [] h′ = Node t h0 v h′
   Runs v (e ∷ es) h′ = ((h : Standing) × Node t h0 v h) × Runs (viewPerform 0 t e v) es h′
 
-  runs-at : (v : View) (es : List Effect) (h′ : Standing) → Runs v es h′ → (m : ℕ) → (h : Standing) × Node t h0 (viewEffects 0 t (take m es) v) h
+  pub runs-at : (v : View) (es : List Effect) (h′ : Standing) → Runs v es h′ → (m : ℕ) → (h : Standing) × Node t h0 (viewEffects 0 t (take m es) v) h
   unfolding viewEffects
   runs-at v [] h′ x zero = (h′, x)
   runs-at v [] h′ x (suc m) = (h′, x)
   runs-at v (e ∷ es) h′ x zero = x .0
   runs-at v (e ∷ es) h′ x (suc m) = runs-at (viewPerform 0 t e v) es h′ (x .1) m
 
-  runs-end : (v : View) (es : List Effect) (h′ : Standing) → Runs v es h′ → Node t h0 (viewEffects 0 t es v) h′
+  pub runs-end : (v : View) (es : List Effect) (h′ : Standing) → Runs v es h′ → Node t h0 (viewEffects 0 t es v) h′
   unfolding viewEffects
   runs-end v [] h′ x = x
   runs-end v (e ∷ es) h′ x = runs-end (viewPerform 0 t e v) es h′ (x .1)
@@ -75,11 +75,11 @@ module _ (t : ℕ) (h0 : Standing) where
   -- ---- a change of standing, without an effect and with one on the log
 
   pub node-stay : {v : View} {h h′ : Standing} → Node t h0 v h → Shift v h h′ → standsAs t v h ≡ standsAs t v h′ → Node t h0 v h′
-  node-stay x s e = record { mid = stay (x .mid) s e; from = λ y f. s .from y (x .from y f) }
+  node-stay x s e = record { mid = stay (x .mid) (move s) e; from = λ y f. s .from y (x .from y f) }
 
   node-stand : {v : View} {h h′ : Standing} → Node t h0 v h → Shift v h h′ → (k : Site → Site) → k (standsAs t v h) ≡ standsAs t v h′ → Node t h0 (viewAt 0 k v) h′
   unfolding viewAt
-  node-stand x s k e = record { mid = stand (x .mid) s k e; from = λ y f. s .from y (x .from y f) }
+  node-stand x s k e = record { mid = stand (x .mid) (move s) k e; from = λ y f. s .from y (x .from y f) }
 
   pub append-run : {v : View} {h h1 : Standing} (es : List Effect) (h′ : Standing) (k : ℕ) (fs : List ℕ) → Node t h0 v h → Shift v h h1
       → appended (record { kind = k; transaction = t; fields = fs }) (standsAs t v h) ≡ standsAs t v h1

@@ -34,6 +34,16 @@ pub record From (i : Bool) (h0 h : Standing) : Type 0 where
   pub keeps : (o : Outcome) → T (hasDecided h0 o) → T (hasDecided h o)
   pub new : T (hasDecided h commit) → T (hasDecided h0 commit) ⊎ T (has 2 (stableAt i h))
 
+-- what is decided stays decided; the records may be fewer
+pub record Move (v : View) (h h′ : Standing) : Type 0 where
+  pub never : isNever h′ ≡ isNever h
+  pub fit : T (standingFits (writesInit (cohortOf v)) h′)
+  pub proper : T (properLog (writesInit (cohortOf v)) (awaitsCommit (cohortOf v)) h′)
+  pub sets : SetsFit (cohortOf v) h′
+  pub keeps : (o : Outcome) → T (hasDecided h o) → T (hasDecided h′ o)
+  pub passing : (n : ℕ) → T (member (suc n) (cohortOf v .members)) → PassesAt v (stageOf h (suc n)) (stageOf h′ (suc n)) n
+
+-- and a stable record 2 stays
 pub record Shift (v : View) (h h′ : Standing) : Type 0 where
   pub never : isNever h′ ≡ isNever h
   pub fit : T (standingFits (writesInit (cohortOf v)) h′)
@@ -41,6 +51,17 @@ pub record Shift (v : View) (h h′ : Standing) : Type 0 where
   pub sets : SetsFit (cohortOf v) h′
   pub from : (h0 : Standing) → From (writesInit (cohortOf v)) h0 h → From (writesInit (cohortOf v)) h0 h′
   pub passing : (n : ℕ) → T (member (suc n) (cohortOf v .members)) → PassesAt v (stageOf h (suc n)) (stageOf h′ (suc n)) n
+
+pub move : {v : View} {h h′ : Standing} → Shift v h h′ → Move v h h′
+move {h} x =
+    record {
+      never = x .never;
+      fit = x .fit;
+      proper = x .proper;
+      sets = x .sets;
+      keeps = x .from h (record { keeps = λ o k. k; new = inl }) .keeps;
+      passing = x .passing;
+    }
 
 abbrev pub standsAs : ℕ → View → Standing → Site
 standsAs t v h = siteWith (cohortOf v) t 0 (standingUp h) (stableAt (writesInit (cohortOf v)) h) (unforcedAt h)
@@ -127,7 +148,7 @@ module _ {t : ℕ} {v : View} {h : Standing} (mid : Mid t h v) where
   isMember n = member (suc n) (cohortOf v .members)
 
   -- without an effect
-  pub stay : {h′ : Standing} → Shift v h h′ → standsAs t v h ≡ standsAs t v h′ → Mid t h′ v
+  pub stay : {h′ : Standing} → Move v h h′ → standsAs t v h ≡ standsAs t v h′ → Mid t h′ v
   stay {h′} x e =
       record {
         number = mid .number;
@@ -138,12 +159,12 @@ module _ {t : ℕ} {v : View} {h : Standing} (mid : Mid t h v) where
         fit = x .fit;
         proper = x .proper;
         sets = x .sets;
-        entries = λ o u. x .from h (record { keeps = λ o k. k; new = inl }) .keeps o (mid .entries o u);
+        entries = λ o u. x .keeps o (mid .entries o u);
         places = λ n. place-map t n (stageOf h (suc n)) (stageOf h′ (suc n)) v v (isMember n) (λ b. member-pass (stageOf h′ (suc n)) (x .passing n b)) (λ b s. s) (mid .places n);
       }
 
   -- with a change of the log
-  pub stand : {h′ : Standing} → Shift v h h′ → (k : Site → Site) → k (standsAs t v h) ≡ standsAs t v h′ → Mid t h′ (viewAt 0 k v)
+  pub stand : {h′ : Standing} → Move v h h′ → (k : Site → Site) → k (standsAs t v h) ≡ standsAs t v h′ → Mid t h′ (viewAt 0 k v)
   unfolding viewAt update
   stand {h′} x k e =
       record {
@@ -155,7 +176,7 @@ module _ {t : ℕ} {v : View} {h : Standing} (mid : Mid t h v) where
         fit = x .fit;
         proper = x .proper;
         sets = x .sets;
-        entries = λ o u. x .from h (record { keeps = λ o k. k; new = inl }) .keeps o (mid .entries o u);
+        entries = λ o u. x .keeps o (mid .entries o u);
         places = λ n. place-map t n (stageOf h (suc n)) (stageOf h′ (suc n)) v (viewAt 0 k v) (isMember n) (λ b y. member-beside k (member-pass (stageOf h′ (suc n)) (x .passing n b) y)) (λ b. stranger-beside k) (mid .places n);
       }
 

@@ -1,0 +1,193 @@
+-- Restart, force and discard at the coordinator, and the opening, keep the invariant.
+use Prim.Native.Nat.{ℕ, zero, suc, _<_}
+use mathlib.Core.Path.{_≡_, refl, sym, ap, _∙_, subst}
+use mathlib.Core.Logic.{inl}
+use mathlib.Core.Bool.{Bool, true, false, cond, not, _&&_, _||_, true≢false}
+use mathlib.Core.List.{List, [], _∷_, _++_, map, append-nil}
+use lib.ListN.{drop}
+use lib.Dec.{T, eqb}
+use Rattle.codec.specs.Lists.{any}
+use Rattle.codec.specs.Sets.{member, empty, minus, part}
+use Rattle.codec.specs.Records.{LogRecord, awaitsAcks, membersIn, presumeCommitIn}
+use Rattle.codec.specs.laws.Tests.{true-of, of-true}
+use Rattle.codec.specs.laws.Masks.{those-alike, those-below}
+use Rattle.site.specs.Presumption.{Outcome, commit, abort, sameOutcome, Presumption, presumedAbort, presumedCommit, acks, silence}
+use Rattle.site.specs.Cohort.{Cohort, masksOf, presumptionOf, owing}
+use Rattle.site.specs.Step.{Message, prepare, voteYes, voteNo, Effect, enter, Row, given}
+use Rattle.site.specs.Coordinator.{Coordinator, endRecord, tellAll, untilAcked, restartFrom, coordinatorRestart}
+use Rattle.site.specs.Participant.{Participant}
+use Rattle.joint.specs.State.{Site, holds, forced, started, withCoordinator}
+use Rattle.joint.specs.Plan.{openedAs, closes, newest}
+use Rattle.joint.proofs.view.View.{View, viewAt, viewSettle, viewEffects, viewDown}
+use Rattle.joint.proofs.view.Turn.{Carried, whole, cutAfter, Up, Opened, trimmedView, viewForget, viewDiscard, viewStart}
+use Rattle.joint.proofs.safety.Tables.{has, Stage, fresh, asking, done, passes, acked, working}
+use Rattle.joint.proofs.safety.Passes.{or-left, or-right}
+use Rattle.joint.proofs.safety.Sets.{member-owing, owing-member, empty-none, not-empty}
+use Rattle.joint.proofs.safety.Invariant.{Log, l0, l1, l12, l2, l123, l23, l3, l14, l4, kindsIn, classOf, resumed, waiting, resting, down, Pace, Standing, never, initial, collecting, decided, stageOf, hasDecided, logFits, SetsFit, writesInit, awaitsCommit, initLog, isNever, stableAt, coordinatorAt, between, entry, siteWith, sentIn, Member, Stranger, Place, Mid, Inv}
+use Rattle.joint.proofs.safety.Logs.{closed, older, unended, waiting-down, resting-down, commit-record, waiting-unended, ending-unended, closed-fits, closed-kinds, closed-proper, closed-has, older-fits, older-kinds, older-proper, resumed-waiting, down-resting, resumes-commit, resumes-abort}
+use Rattle.joint.proofs.safety.Local.{holds-kinds}
+use Rattle.joint.proofs.safety.Steps.{cohortOf, PassesAt, From, Move, Shift, move, standsAs, stand, settle-mid, same-outcome, both-ways}
+use Rattle.joint.proofs.safety.Crashes.{Next, refl-outcome, from-self, from-same, from-none, and-true2, not-true}
+use Rattle.joint.proofs.safety.Runs.{Node, Runs, runs-at, runs-end, cut-next}
+use Rattle.joint.proofs.safety.Commits.{owes, enter-tell, forced-kinds}
+
+-- ---- after a turn
+
+pub record After (t : ℕ) (h : Standing) (w : View) : Type 0 where
+  pub standing : Standing
+  pub inv : Inv t standing w
+  pub from : From (writesInit (cohortOf w)) h standing
+
+pub after : {t : ℕ} {h : Standing} {w : View} → Next t h w → After t h w
+after {h} x = record { standing = x .standing; inv = x .inv; from = x .from h (from-self _ h) }
+
+-- ---- a standing that stays
+
+passes-self : (c : Presumption) (y n a : Bool) (m : Stage) → T (passes c y n a m m)
+passes-self c y n a fresh = tt
+passes-self c y n a (asking true) = tt
+passes-self c y n a (asking false) = tt
+passes-self c y n a (done o true) = and-true2 (sameOutcome o o) _ (refl-outcome o) tt
+passes-self c y n a (done o false) = and-true2 (sameOutcome o o) _ (refl-outcome o) tt
+
+pass-self : (v : View) (m : Stage) (n : ℕ) → PassesAt v m m n
+pass-self v m n = passes-self (presumptionOf (cohortOf v) (suc n)) (sentIn v (suc n) voteYes) (sentIn v (suc n) voteNo) (acked (sentIn v (suc n)) m) m
+
+same-shift : {t : ℕ} {h : Standing} {v : View} → Mid t h v → Shift v h h
+same-shift {h} {v} mid =
+    record { never = refl; fit = mid .fit; proper = mid .proper; sets = mid .sets; from = λ x f. f; passing = λ n m. pass-self v (stageOf h (suc n)) n }
+
+-- ---- force
+
+module _ (t : ℕ) (v : View) where
+  -- with a change of the log alone
+  stood : {h h′ : Standing} → Inv t h v → Shift v h h′ → (k : Site → Site) → k (standsAs t v h) ≡ standsAs t v h′ → coordinatorAt h ≡ coordinatorAt h′ → T (between h′) → After t h (viewAt 0 k v)
+  unfolding viewAt
+  stood {h} {h′} inv x k e p b =
+      record {
+        standing = h′;
+        inv = record { mid = stand (inv .mid) (move x) k e; phase = inv .phase ∙ p; whole = b };
+        from = x .from h (from-self _ h);
+      }
+
+  -- nothing is unforced
+  forced-same : (u : Bool) (ks : List ℕ) → forced (siteWith (cohortOf v) t 0 u ks []) ≡ siteWith (cohortOf v) t 0 u ks []
+  forced-same u ks = forced-kinds (cohortOf v) t u ks [] ks (sym (append-nil ks))
+
+  owed : (o : Outcome) (l : Log) → SetsFit (cohortOf v) (decided o (resting true) l) → T (sameOutcome o abort || awaitsCommit (cohortOf v))
+  owed commit l s = or-right (sameOutcome commit abort) (awaitsCommit (cohortOf v)) s
+  owed abort l s = or-left (sameOutcome abort abort) (awaitsCommit (cohortOf v)) (refl-outcome abort)
+
+  ended : (o : Outcome) (l : Log) → Mid t (decided o (resting true) l) v → Shift v (decided o (resting true) l) (decided o (resting false) (closed l))
+  ended o l mid =
+      record {
+        never = refl;
+        fit = closed-fits (writesInit (cohortOf v)) o l (mid .fit);
+        proper = closed-proper (writesInit (cohortOf v)) (awaitsCommit (cohortOf v)) o l (mid .fit) (owed o l (mid .sets)) (mid .proper);
+        sets = tt;
+        from = λ x. from-same (writesInit (cohortOf v)) o (resting true) (resting false) l (closed l) x (closed-has l);
+        passing = λ n m. pass-self v (done o true) n;
+      }
+
+  pub force-next : (h : Standing) → Inv t h v → After t h (viewAt 0 forced v)
+  force-next (never u) inv = stood inv (same-shift (inv .mid)) forced (forced-same u []) refl tt
+  force-next (initial true) inv = absurd (inv .whole)
+  force-next (initial false) inv = stood inv (same-shift (inv .mid)) forced (forced-same true []) refl tt
+  force-next (collecting w true) inv = absurd (inv .whole)
+  force-next (collecting w false) inv = stood inv (same-shift (inv .mid)) forced (forced-same true (kindsIn (initLog (writesInit (cohortOf v))))) refl (inv .whole)
+  force-next (decided o (waiting w) l) inv = stood inv (same-shift (inv .mid)) forced (forced-same true (kindsIn l)) refl (inv .whole)
+  force-next (decided o (resting false) l) inv = stood inv (same-shift (inv .mid)) forced (forced-same true (kindsIn l)) refl tt
+  force-next (decided o (resting true) l) inv =
+      stood inv (ended o l (inv .mid)) forced (forced-kinds (cohortOf v) t true (kindsIn l) (endRecord o ∷ []) (kindsIn (closed l)) (closed-kinds (writesInit (cohortOf v)) o l (inv .mid .fit))) refl tt
+  force-next (decided o down l) inv = stood inv (same-shift (inv .mid)) forced (forced-same false (kindsIn l)) refl tt
+
+-- ---- discard
+
+-- a record 2 closes where nobody owes an ack for commit
+owing-commit : (g : Cohort) → owing g commit ≡ minus (g .members) (g .presumeCommit)
+unfolding owing minus presumptionOf acks
+owing-commit g = those-alike _ _ (λ i h. ap (λ (b : Bool). member (suc i) (g .members) && b) (go (member (suc i) (g .presumeCommit))))
+  where
+    go : (b : Bool) → acks (cond b presumedCommit presumedAbort) commit ≡ not b
+    go true = refl
+    go false = refl
+
+module _ (g : Cohort) (t : ℕ) where
+  2-closes : closes (entry g t 0 2) ≡ not (awaitsCommit g)
+  unfolding closes any awaitsAcks membersIn presumeCommitIn masksOf
+  2-closes = rw (owing-commit g) refl
+
+  -- it has no record that closes it, if a commit awaits acks
+  not-closed : (l : Log) → T (unended (classOf l)) → (T (has 2 (kindsIn l)) → T (awaitsCommit g)) → newest closes (map (entry g t 0) (kindsIn l)) ≡ true → ⊥
+  unfolding newest has any
+  not-closed l0 o a e = true≢false (sym e)
+  not-closed l1 o a e = true≢false (sym (unfold closes any in e))
+  not-closed l12 o a e = both-ways (awaitsCommit g) (a tt) (of-true (sym 2-closes ∙ e))
+  not-closed l2 o a e = both-ways (awaitsCommit g) (a tt) (of-true (sym 2-closes ∙ e))
+  not-closed l123 o a e = absurd o
+  not-closed l23 o a e = absurd o
+  not-closed l3 o a e = absurd o
+  not-closed l14 o a e = absurd o
+  not-closed l4 o a e = absurd o
+
+drop-map : (f : ℕ → LogRecord) (ks : List ℕ) → drop 1 (map f ks) ≡ map f (drop 1 ks)
+drop-map f [] = refl
+drop-map f (k ∷ ks) = refl
+
+module _ (t : ℕ) (v : View) where
+  abbrev Closes : List ℕ → Type 0
+  Closes ks = newest closes (map (entry (cohortOf v) t 0) ks) ≡ true
+
+  trims : (o : Outcome) (l : Log) → Mid t (decided o (resting false) l) v → Move v (decided o (resting false) l) (decided o (resting false) (older l))
+  trims o l mid =
+      record {
+        never = refl;
+        fit = older-fits (writesInit (cohortOf v)) o l (mid .fit);
+        proper = older-proper (writesInit (cohortOf v)) (awaitsCommit (cohortOf v)) l (mid .proper);
+        sets = tt;
+        keeps = λ r k. k;
+        passing = λ n m. pass-self v (done o true) n;
+      }
+
+  -- a commit whose acks are awaited, or were
+  awaits : (x : Outcome) (w : ℕ) (l : Log) → Mid t (decided x (waiting w) l) v → T (not (empty w)) → T (has 2 (kindsIn l)) → T (awaitsCommit (cohortOf v))
+  awaits x w l mid left r =
+      let is = same-outcome x commit (commit-record (writesInit (cohortOf v)) x l r (waiting-down (writesInit (cohortOf v)) x l w (mid .fit))) in
+      not-empty w (owing (cohortOf v) commit) (mid .sets .0) left (λ n k. subst (λ (y : Outcome). T (member (suc n) (owing (cohortOf v) y))) is (mid .sets .1 (suc n) k))
+
+  awaited : (x : Outcome) (l : Log) → T (sameOutcome x commit) → SetsFit (cohortOf v) (decided x (resting true) l) → T (awaitsCommit (cohortOf v))
+  unfolding sameOutcome
+  awaited commit l c s = s
+  awaited abort l c s = absurd c
+
+  initial-open : (j : Bool) → Closes (kindsIn (initLog j)) → ⊥
+  unfolding has any
+  initial-open true k = not-closed (cohortOf v) t l1 tt (λ f. absurd f) k
+  initial-open false k = not-closed (cohortOf v) t l0 tt (λ f. absurd f) k
+
+  trimmed-kinds : (l : Log) → trimmedView (siteWith (cohortOf v) t 0 true (kindsIn l) []) ≡ siteWith (cohortOf v) t 0 true (kindsIn (older l)) []
+  unfolding trimmedView
+  trimmed-kinds l = rw (drop-map (entry (cohortOf v) t 0) (kindsIn l), sym (older-kinds true commit l)) refl
+
+  discard-standing : (h : Standing) → Inv t h v → Opened v → Up v 0 → Closes (stableAt (writesInit (cohortOf v)) h) → After t h (viewAt 0 trimmedView v)
+  unfolding viewAt
+  discard-standing (never u) inv o up e = absurd (true≢false (inv .mid .opened ∙ o))
+  discard-standing (initial b) inv o up e = absurd (not-closed (cohortOf v) t l0 tt (λ f. absurd (unfold has any in f)) e)
+  discard-standing (collecting w b) inv o up e = absurd (initial-open (writesInit (cohortOf v)) e)
+  discard-standing (decided x (waiting w) l) inv o up e =
+      absurd (not-closed (cohortOf v) t l (waiting-unended (writesInit (cohortOf v)) x l w (inv .mid .fit)) (awaits x w l (inv .mid) (inv .whole)) e)
+  discard-standing (decided x (resting true) l) inv o up e =
+      absurd
+      (not-closed (cohortOf v) t l (ending-unended (writesInit (cohortOf v)) x l (inv .mid .fit))
+      (λ r. awaited x l (commit-record (writesInit (cohortOf v)) x l r (resting-down (writesInit (cohortOf v)) x l true (inv .mid .fit))) (inv .mid .sets)) e)
+  discard-standing (decided x (resting false) l) inv o up e =
+      record {
+        standing = decided x (resting false) (older l);
+        inv = record { mid = stand (inv .mid) (trims x l (inv .mid)) trimmedView (trimmed-kinds l); phase = inv .phase; whole = tt };
+        from = record { keeps = λ r k. k; new = inl };
+      }
+  discard-standing (decided x down l) inv o up e = absurd (true≢false (sym up ∙ ap (λ (s : Site). s .up) (inv .mid .log)))
+
+  pub discard-next : (h : Standing) → Inv t h v → Opened v → Up v 0 → newest closes (v .site 0 .stable) ≡ true → After t h (viewDiscard 0 v)
+  unfolding viewDiscard viewForget
+  discard-next h inv o up e = discard-standing h inv o up (subst (λ (s : Site). newest closes (s .stable) ≡ true) (inv .mid .log) e)
