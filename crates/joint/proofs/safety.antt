@@ -16,3 +16,4 @@ pub mod Commits
 pub mod Ends
 pub mod Coordinators
 pub mod Wakes
+pub mod Resumes

@@ -1,0 +1,182 @@
+-- The coordinator's restart, and the opening of a transaction, keep the invariant.
+use Prim.Native.Nat.{ℕ, suc, _<_}
+use mathlib.Core.Path.{_≡_, refl, sym, ap, _∙_, subst, fun-ext}
+use mathlib.Core.Logic.{inl}
+use mathlib.Core.Bool.{Bool, true, false, cond, not, _&&_, _||_, true≢false}
+use mathlib.Core.List.{List, [], _∷_, _++_, map, append-nil}
+use lib.ListN.{take}
+use lib.Dec.{T, eqb}
+use Rattle.codec.specs.Lists.{any}
+use Rattle.codec.specs.Sets.{member, empty, part}
+use Rattle.codec.specs.laws.Tests.{true-of, of-true}
+use Rattle.codec.specs.laws.Masks.{those-below}
+use Rattle.site.specs.Presumption.{Outcome, commit, abort, sameOutcome, acks, silence}
+use Rattle.site.specs.Cohort.{Cohort, presumptionOf, owing}
+use Rattle.site.specs.Step.{Message, prepare, messageKind, Effect, append, force, enter, send, Row, given}
+use Rattle.site.specs.Coordinator.{Coordinator, tellAll, untilAcked, restartFrom, coordinatorRestart}
+use Rattle.site.specs.Participant.{Participant}
+use Rattle.joint.specs.State.{Site, holds, started, withCoordinator, withSent}
+use Rattle.joint.specs.Plan.{openedAs}
+use Rattle.joint.proofs.view.View.{View, viewAt, viewSettle, viewPerform, viewEffects, viewDown}
+use Rattle.joint.proofs.view.Turn.{Carried, whole, cutAfter, Up, Opened, viewStart}
+use Rattle.joint.proofs.safety.Tables.{has, Stage, fresh, done, Fine, working}
+use Rattle.joint.proofs.safety.Passes.{or-left, or-right}
+use Rattle.joint.proofs.safety.Sets.{member-owing, owing-member, empty-none}
+use Rattle.joint.proofs.safety.Invariant.{Log, kindsIn, classOf, resumed, waiting, resting, down, Pace, Standing, never, initial, collecting, decided, stageOf, hasDecided, logFits, SetsFit, writesInit, isNever, coordinatorAt, between, entry, siteWith, sentIn, Member, Stranger, Place, Mid, Inv}
+use Rattle.joint.proofs.safety.Logs.{resumed-waiting, down-resting, resumes-commit, resumes-abort}
+use Rattle.joint.proofs.safety.Local.{holds-kinds}
+use Rattle.joint.proofs.safety.Steps.{cohortOf, From, Shift, move, standsAs, stand, settle-mid}
+use Rattle.joint.proofs.safety.Crashes.{Next, refl-outcome, from-self, from-same, from-none, and-true2, not-true}
+use Rattle.joint.proofs.safety.Runs.{Node, Runs, enter-run, runs-at, runs-end, cut-next}
+use Rattle.joint.proofs.safety.Commits.{owes, untilAckedAs, until-phase, until-between, enter-tell}
+use Rattle.joint.proofs.safety.Wakes.{After, after}
+
+-- ---- the standing that a restart leads to
+
+-- b: somebody is waited for or not
+resume-law : (u w a s k : Bool) → w ≡ a → T (s || a) → T (not (not w) || u || s || k)
+resume-law u true a s k e o = tt
+resume-law true false a s k e o = tt
+resume-law false false true s k e o = absurd (true≢false (sym e))
+resume-law false false false true k e o = tt
+resume-law false false false false k e o = absurd o
+
+module _ (t : ℕ) (h0 : Standing) where
+  -- the outcome is resumed: acks are awaited, or none is owed
+  resumes-waiting : (v : View) (o : Outcome) (l : Log) → Mid t (decided o down l) v → T (resumed (classOf l)) → Shift v (decided o down l) (decided o (waiting (owing (cohortOf v) o)) l)
+  unfolding owing
+  resumes-waiting v o l mid r =
+      record {
+        never = refl;
+        fit = resumed-waiting (writesInit (cohortOf v)) o l (owing (cohortOf v) o) r (mid .fit);
+        proper = mid .proper;
+        sets = (those-below _, λ p k. k);
+        from = λ x. from-same (writesInit (cohortOf v)) o down (waiting (owing (cohortOf v) o)) l l x (λ k. k);
+        passing = λ n m. and-true2 (sameOutcome o o) _ (refl-outcome o)
+            (resume-law (not (resumed (classOf l))) (member (suc n) (owing (cohortOf v) o)) (acks (presumptionOf (cohortOf v) (suc n)) o) _ _
+            (member-owing (cohortOf v) o n (mid .byte) m) (owes (presumptionOf (cohortOf v) (suc n)) o));
+      }
+
+  resumes-resting : (v : View) (o : Outcome) (l : Log) → Mid t (decided o down l) v → T (empty (owing (cohortOf v) o)) → Shift v (decided o down l) (decided o (resting false) l)
+  resumes-resting v o l mid e =
+      record {
+        never = refl;
+        fit = down-resting (writesInit (cohortOf v)) o l (mid .fit);
+        proper = mid .proper;
+        sets = tt;
+        from = λ x. from-same (writesInit (cohortOf v)) o down (resting false) l l x (λ k. k);
+        passing = λ n m. and-true2 (sameOutcome o o) _ (refl-outcome o)
+            (resting-law (not (resumed (classOf l))) (acks (presumptionOf (cohortOf v) (suc n)) o) _ _
+            (λ a. empty-none (owing (cohortOf v) o) (suc n) e (subst T (sym (member-owing (cohortOf v) o n (mid .byte) m)) a)) (owes (presumptionOf (cohortOf v) (suc n)) o));
+      }
+    where
+      resting-law : (u a s k : Bool) → (T a → ⊥) → T (s || a) → T (not true || u || s || k)
+      resting-law true a s k f o = tt
+      resting-law false a true k f o = tt
+      resting-law false true false k f o = absurd (f tt)
+      resting-law false false false k f o = absurd o
+
+  forgets : (v : View) (o : Outcome) (l : Log) → Mid t (decided o down l) v → resumed (classOf l) ≡ false → Shift v (decided o down l) (decided o (resting false) l)
+  forgets v o l mid e =
+      record {
+        never = refl;
+        fit = down-resting (writesInit (cohortOf v)) o l (mid .fit);
+        proper = mid .proper;
+        sets = tt;
+        from = λ x. from-same (writesInit (cohortOf v)) o down (resting false) l l x (λ k. k);
+        passing = λ n m. and-true2 (sameOutcome o o) _ (refl-outcome o) (rw e tt);
+      }
+
+  -- ---- whole or cut
+
+  effects-cohort : (es : List Effect) (v : View) → cohortOf (viewEffects 0 t es v) ≡ cohortOf v
+  unfolding viewEffects
+  effects-cohort [] v = refl
+  effects-cohort (e ∷ es) v = effects-cohort es (viewPerform 0 t e v) ∙ one e
+    where
+      one : (e : Effect) → cohortOf (viewPerform 0 t e v) ≡ cohortOf v
+      one (append k fs) = unfold viewPerform viewAt in refl
+      one force = unfold viewPerform viewAt in refl
+      one (enter o) = unfold viewPerform in refl
+      one (send m p) = unfold viewPerform withSent in refl
+
+  -- the effects happen while the site is down
+  start-next : {v w : View} (es : List Effect) (o : Outcome) (l : Log) (h′ : Standing) (c : Coordinator) → Runs t h0 v es (decided o down l)
+      → ((u : View) → cohortOf u ≡ cohortOf v → Mid t (decided o down l) u → Shift u (decided o down l) h′) → ((u : View) → started (standsAs t u (decided o down l)) ≡ standsAs t u h′)
+      → c ≡ coordinatorAt h′ → T (between h′) → Carried t 0 es (viewStart 0 (withCoordinator c)) v w → Next t h0 w
+  unfolding viewStart viewAt viewSettle withCoordinator
+  start-next {v} es o l h′ c x k q p b whole =
+      let y = runs-end t h0 v es (decided o down l) x in
+      let u = viewEffects 0 t es v in
+      let s = k u (effects-cohort es v) (y .mid) in
+      record {
+        standing = h′;
+        inv = record { mid = settle-mid (stand (y .mid) (move s) started (q u)) c; phase = p; whole = b };
+        from = λ z f. s .from z (y .from z f);
+      }
+  start-next {v} es o l h′ c x k q p b (cutAfter m n) =
+      let y = runs-at t h0 v es (decided o down l) x m in
+      cut-next t h0 (viewEffects 0 t (take m es) v) (y .0) (y .1) n
+
+  -- ---- the rows of restart
+
+  -- the outcome is entered, and told or not
+  resume-run : {v : View} (o : Outcome) (l : Log) (c : Bool) → Node t h0 v (decided o down l) → Runs t h0 v (enter o ∷ given c (tellAll (cohortOf v) o (cohortOf v .members))) (decided o down l)
+  unfolding given
+  resume-run {v} o l true x =
+      subst (λ (es : List Effect). Runs t h0 v (enter o ∷ es) (decided o down l)) (append-nil (tellAll (cohortOf v) o (cohortOf v .members)))
+      (enter-tell t h0 {v = v} o down l (cohortOf v .members) (λ q m. m) [] (decided o down l) x (λ u e y. y))
+  resume-run {v} o l false x = enter-run t h0 [] (decided o down l) o x (refl-outcome o) (λ y. y)
+
+  module _ (v : View) (o : Outcome) (l : Log) (r : T (resumed (classOf l))) where
+    resume-shift : (b : Bool) → empty (owing (cohortOf v) o) ≡ b → (u : View) → cohortOf u ≡ cohortOf v → Mid t (decided o down l) u
+        → Shift u (decided o down l) (untilAckedAs t h0 b o (owing (cohortOf v) o) l)
+    resume-shift true q u e mid = resumes-resting u o l mid (of-true (ap (λ (g : Cohort). empty (owing g o)) e ∙ q))
+    resume-shift false q u e mid = subst (λ (g : Cohort). Shift u (decided o down l) (decided o (waiting (owing g o)) l)) e (resumes-waiting u o l mid r)
+
+    resume-stands : (b : Bool) (u : View) → started (standsAs t u (decided o down l)) ≡ standsAs t u (untilAckedAs t h0 b o (owing (cohortOf v) o) l)
+    unfolding started
+    resume-stands true u = refl
+    resume-stands false u = refl
+
+    resume-next : {w : View} (c : Bool) → Node t h0 v (decided o down l)
+        → Carried t 0 (enter o ∷ given c (tellAll (cohortOf v) o (cohortOf v .members))) (viewStart 0 (withCoordinator (untilAcked o (owing (cohortOf v) o)))) v w → Next t h0 w
+    resume-next c x d =
+        start-next (enter o ∷ given c (tellAll (cohortOf v) o (cohortOf v .members))) o l (untilAckedAs t h0 b o (owing (cohortOf v) o) l) (untilAcked o (owing (cohortOf v) o)) (resume-run o l c x)
+        (resume-shift b refl) (resume-stands b) (until-phase t h0 b o (owing (cohortOf v) o) l refl) (until-between t h0 b o (owing (cohortOf v) o) l refl) d
+      where
+        b : Bool
+        b = empty (owing (cohortOf v) o)
+
+-- ---- restart
+
+module _ (t : ℕ) (v w : View) where
+  abbrev Woken : Row Coordinator → Type 0
+  Woken row = Carried t 0 (row .effects) (viewStart 0 (withCoordinator (row .phase))) v w
+
+  -- what the log says: commit is resumed, abort is resumed, nothing is
+  restart-next : (o : Outcome) (l : Log) → Mid t (decided o down l) v → (r : Bool) → resumed (classOf l) ≡ r
+      → Woken (restartFrom (cohortOf v) (sameOutcome o commit && r) (sameOutcome o abort && r)) → Next t (decided o down l) w
+  unfolding restartFrom sameOutcome
+  restart-next commit l mid true q d = resume-next t (decided commit down l) v commit l (of-true q) (not (empty (owing (cohortOf v) commit))) (record { mid = mid; from = λ x f. f }) d
+  restart-next abort l mid true q d = resume-next t (decided abort down l) v abort l (of-true q) true (record { mid = mid; from = λ x f. f }) (unfold given in d)
+  restart-next commit l mid false q d = start-next t (decided commit down l) [] commit l (decided commit (resting false) l) Coordinator.unknown (record { mid = mid; from = λ x f. f }) (λ u e m. forgets t (decided commit down l) u commit l m q) (λ u. unfold started in refl) refl tt d
+  restart-next abort l mid false q d = start-next t (decided abort down l) [] abort l (decided abort (resting false) l) Coordinator.unknown (record { mid = mid; from = λ x f. f }) (λ u e m. forgets t (decided abort down l) u abort l m q) (λ u. unfold started in refl) refl tt d
+
+  kinds-asked : (o : Outcome) (l : Log) → Mid t (decided o down l) v → (k : ℕ) → holds t k (v .site 0 .stable) ≡ has k (kindsIn l)
+  kinds-asked o l mid k = ap (λ (s : Site). holds t k (s .stable)) (mid .log) ∙ holds-kinds (cohortOf v) t 0 k (kindsIn l)
+
+  restart-row : (o : Outcome) (l : Log) → Mid t (decided o down l) v
+      → coordinatorRestart (cohortOf v) (λ k. holds t k (v .site 0 .stable)) ≡ restartFrom (cohortOf v) (sameOutcome o commit && resumed (classOf l)) (sameOutcome o abort && resumed (classOf l))
+  unfolding coordinatorRestart
+  restart-row o l mid =
+      rw (kinds-asked o l mid 1, kinds-asked o l mid 2, kinds-asked o l mid 3, kinds-asked o l mid 4, resumes-commit (writesInit (cohortOf v)) o l (mid .fit), resumes-abort (writesInit (cohortOf v)) o l (mid .fit)) refl
+
+  pub resume-after : (h : Standing) → Inv t h v → Opened v → v .site 0 .up ≡ false → {row : Row Coordinator} → coordinatorRestart (cohortOf v) (λ k. holds t k (v .site 0 .stable)) ≡ row
+      → Woken row → After t h w
+  resume-after (never u) inv o up e d = absurd (true≢false (inv .mid .opened ∙ o))
+  resume-after (initial b) inv o up e d = absurd (true≢false (sym (ap (λ (s : Site). s .up) (inv .mid .log)) ∙ up))
+  resume-after (collecting c b) inv o up e d = absurd (true≢false (sym (ap (λ (s : Site). s .up) (inv .mid .log)) ∙ up))
+  resume-after (decided x (waiting c) l) inv o up e d = absurd (true≢false (sym (ap (λ (s : Site). s .up) (inv .mid .log)) ∙ up))
+  resume-after (decided x (resting b) l) inv o up e d = absurd (true≢false (sym (ap (λ (s : Site). s .up) (inv .mid .log)) ∙ up))
+  resume-after (decided x down l) inv o up e d = after (restart-next x l (inv .mid) (resumed (classOf l)) refl (subst Woken (sym e ∙ restart-row x l (inv .mid)) d))
