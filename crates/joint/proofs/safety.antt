@@ -17,3 +17,4 @@ pub mod Ends
 pub mod Coordinators
 pub mod Wakes
 pub mod Resumes
+pub mod Opens
