@@ -18,3 +18,4 @@ pub mod Coordinators
 pub mod Wakes
 pub mod Resumes
 pub mod Opens
+pub mod Kept

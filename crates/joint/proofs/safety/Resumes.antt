@@ -89,7 +89,7 @@ module _ (t : ℕ) (h0 : Standing) where
 
   -- ---- whole or cut
 
-  effects-cohort : (es : List Effect) (v : View) → cohortOf (viewEffects 0 t es v) ≡ cohortOf v
+  pub effects-cohort : (es : List Effect) (v : View) → cohortOf (viewEffects 0 t es v) ≡ cohortOf v
   unfolding viewEffects
   effects-cohort [] v = refl
   effects-cohort (e ∷ es) v = effects-cohort es (viewPerform 0 t e v) ∙ one e

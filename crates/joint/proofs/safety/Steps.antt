@@ -102,7 +102,7 @@ unfolding viewSettle withCoordinator
 stranger-settle c x = record { stable = x .stable; unforced = x .unforced; sent = x .sent; entered = x .entered }
 
 -- the coordinator's own number is no participant's
-own-number : (n : ℕ) → eqb 0 (suc n) ≡ false
+pub own-number : (n : ℕ) → eqb 0 (suc n) ≡ false
 own-number n = ne-eqb 0 (suc n) (λ e. absurd (omega (arith, e)))
 
 not-own : (n : ℕ) (a b : Bool) → T (a || (eqb 0 (suc n) && b)) → T a

@@ -53,21 +53,28 @@ passes-self c y n a (done o false) = and-true2 (sameOutcome o o) _ (refl-outcome
 pass-self : (v : View) (m : Stage) (n : ℕ) → PassesAt v m m n
 pass-self v m n = passes-self (presumptionOf (cohortOf v) (suc n)) (sentIn v (suc n) voteYes) (sentIn v (suc n) voteNo) (acked (sentIn v (suc n)) m) m
 
-same-shift : {t : ℕ} {h : Standing} {v : View} → Mid t h v → Shift v h h
-same-shift {h} {v} mid =
-    record { never = refl; fit = mid .fit; proper = mid .proper; sets = mid .sets; from = λ x f. f; passing = λ n m. pass-self v (stageOf h (suc n)) n }
+same-move : {t : ℕ} {h : Standing} {v : View} → Mid t h v → Move v h h
+same-move {h} {v} mid =
+    record { never = refl; fit = mid .fit; proper = mid .proper; sets = mid .sets; keeps = λ o k. k; passing = λ n m. pass-self v (stageOf h (suc n)) n }
 
 -- ---- force
 
+-- nothing is decided by it
+pub record Forced (t : ℕ) (h : Standing) (w : View) : Type 0 where
+  pub standing : Standing
+  pub inv : Inv t standing w
+  pub same : (o : Outcome) → hasDecided standing o ≡ hasDecided h o
+
 module _ (t : ℕ) (v : View) where
   -- with a change of the log alone
-  stood : {h h′ : Standing} → Inv t h v → Shift v h h′ → (k : Site → Site) → k (standsAs t v h) ≡ standsAs t v h′ → coordinatorAt h ≡ coordinatorAt h′ → T (between h′) → After t h (viewAt 0 k v)
+  stood : {h h′ : Standing} → Inv t h v → Move v h h′ → (k : Site → Site) → k (standsAs t v h) ≡ standsAs t v h′ → coordinatorAt h ≡ coordinatorAt h′ → T (between h′)
+      → ((o : Outcome) → hasDecided h′ o ≡ hasDecided h o) → Forced t h (viewAt 0 k v)
   unfolding viewAt
-  stood {h} {h′} inv x k e p b =
+  stood {h} {h′} inv x k e p b same =
       record {
         standing = h′;
-        inv = record { mid = stand (inv .mid) (move x) k e; phase = inv .phase ∙ p; whole = b };
-        from = x .from h (from-self _ h);
+        inv = record { mid = stand (inv .mid) x k e; phase = inv .phase ∙ p; whole = b };
+        same = same;
       }
 
   -- nothing is unforced
@@ -78,28 +85,28 @@ module _ (t : ℕ) (v : View) where
   owed commit l s = or-right (sameOutcome commit abort) (awaitsCommit (cohortOf v)) s
   owed abort l s = or-left (sameOutcome abort abort) (awaitsCommit (cohortOf v)) (refl-outcome abort)
 
-  ended : (o : Outcome) (l : Log) → Mid t (decided o (resting true) l) v → Shift v (decided o (resting true) l) (decided o (resting false) (closed l))
+  ended : (o : Outcome) (l : Log) → Mid t (decided o (resting true) l) v → Move v (decided o (resting true) l) (decided o (resting false) (closed l))
   ended o l mid =
       record {
         never = refl;
         fit = closed-fits (writesInit (cohortOf v)) o l (mid .fit);
         proper = closed-proper (writesInit (cohortOf v)) (awaitsCommit (cohortOf v)) o l (mid .fit) (owed o l (mid .sets)) (mid .proper);
         sets = tt;
-        from = λ x. from-same (writesInit (cohortOf v)) o (resting true) (resting false) l (closed l) x (closed-has l);
+        keeps = λ r k. k;
         passing = λ n m. pass-self v (done o true) n;
       }
 
-  pub force-next : (h : Standing) → Inv t h v → After t h (viewAt 0 forced v)
-  force-next (never u) inv = stood inv (same-shift (inv .mid)) forced (forced-same u []) refl tt
+  pub force-next : (h : Standing) → Inv t h v → Forced t h (viewAt 0 forced v)
+  force-next (never u) inv = stood inv (same-move (inv .mid)) forced (forced-same u []) refl tt (λ r. refl)
   force-next (initial true) inv = absurd (inv .whole)
-  force-next (initial false) inv = stood inv (same-shift (inv .mid)) forced (forced-same true []) refl tt
+  force-next (initial false) inv = stood inv (same-move (inv .mid)) forced (forced-same true []) refl tt (λ r. refl)
   force-next (collecting w true) inv = absurd (inv .whole)
-  force-next (collecting w false) inv = stood inv (same-shift (inv .mid)) forced (forced-same true (kindsIn (initLog (writesInit (cohortOf v))))) refl (inv .whole)
-  force-next (decided o (waiting w) l) inv = stood inv (same-shift (inv .mid)) forced (forced-same true (kindsIn l)) refl (inv .whole)
-  force-next (decided o (resting false) l) inv = stood inv (same-shift (inv .mid)) forced (forced-same true (kindsIn l)) refl tt
+  force-next (collecting w false) inv = stood inv (same-move (inv .mid)) forced (forced-same true (kindsIn (initLog (writesInit (cohortOf v))))) refl (inv .whole) (λ r. refl)
+  force-next (decided o (waiting w) l) inv = stood inv (same-move (inv .mid)) forced (forced-same true (kindsIn l)) refl (inv .whole) (λ r. refl)
+  force-next (decided o (resting false) l) inv = stood inv (same-move (inv .mid)) forced (forced-same true (kindsIn l)) refl tt (λ r. refl)
   force-next (decided o (resting true) l) inv =
-      stood inv (ended o l (inv .mid)) forced (forced-kinds (cohortOf v) t true (kindsIn l) (endRecord o ∷ []) (kindsIn (closed l)) (closed-kinds (writesInit (cohortOf v)) o l (inv .mid .fit))) refl tt
-  force-next (decided o down l) inv = stood inv (same-shift (inv .mid)) forced (forced-same false (kindsIn l)) refl tt
+      stood inv (ended o l (inv .mid)) forced (forced-kinds (cohortOf v) t true (kindsIn l) (endRecord o ∷ []) (kindsIn (closed l)) (closed-kinds (writesInit (cohortOf v)) o l (inv .mid .fit))) refl tt (λ r. refl)
+  force-next (decided o down l) inv = stood inv (same-move (inv .mid)) forced (forced-same false (kindsIn l)) refl tt (λ r. refl)
 
 -- ---- discard
 

@@ -16,7 +16,7 @@ use Rattle.joint.specs.Run.{Result, partly, cutShort, carry, isForce}
 use Rattle.joint.specs.Safety.{Moment, moments}
 use Rattle.joint.proofs.view.Updates.{update-keeps, select-append, among, select-take}
 use Rattle.joint.proofs.view.View.{View, view, viewAt, viewPerform, viewEffects}
-use Rattle.joint.proofs.view.Turn.{Carried, whole, cutAfter, Up, forces, crashes, Turns, still, more}
+use Rattle.joint.proofs.view.Turn.{Carried, whole, cutAfter, Up, forces, crashes, Turns, still, turn}
 use Rattle.joint.proofs.view.Acts.{seen, effectsOf, seenEffects, acts-view, down-view}
 
 -- ---- the effects that are seen
@@ -89,7 +89,7 @@ module _ (t s : ℕ) where
   unfolding viewEffects viewPerform
   forces-then [] h v x u k = k u
   forces-then (append j fs ∷ es) h v x u k = absurd h
-  forces-then (force ∷ es) h v x u k = more (forces s u) (forces-then es h (viewAt s forced v) x (forced-up v u) k)
+  forces-then (force ∷ es) h v x u k = forces s u (forces-then es h (viewAt s forced v) x (forced-up v u) k)
   forces-then (enter o ∷ es) h v x u k = absurd h
   forces-then (send m p ∷ es) h v x u k = absurd h
 
@@ -97,7 +97,7 @@ module _ (t s : ℕ) where
   pub other-turns : {v w : View} (es : List Effect) → Up v s → Carried t s (select isForce es) (λ x. x) v w → Turns t v w
   other-turns {v} es u whole = forces-then (select isForce es) (select-forces es) v _ u (λ c. still)
   other-turns {v} es u (cutAfter m n) =
-      forces-then (take m (select isForce es)) (take-forces m _ (select-forces es)) v _ u (λ c. more (crashes s n c) still)
+      forces-then (take m (select isForce es)) (take-forces m _ (select-forces es)) v _ u (λ c. turn (crashes s n c))
 
 -- ---- a plan carried out
 

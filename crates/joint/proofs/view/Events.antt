@@ -23,7 +23,7 @@ use Rattle.joint.specs.Safety.{Moment, moments, happened}
 use Rattle.joint.proofs.DownEmpty.{All, passes, is-up}
 use Rattle.joint.proofs.History.{EventCase, refused, whole, cut, event-case}
 use Rattle.joint.proofs.view.View.{siteView, view, viewSettle}
-use Rattle.joint.proofs.view.Turn.{viewDiscard, opens, discards, Turns, still, more}
+use Rattle.joint.proofs.view.Turn.{viewDiscard, opens, discards, Turns, still, turn}
 use Rattle.joint.proofs.view.Acts.{seenEffects}
 use Rattle.joint.proofs.view.Carries.{seen-own, seen-other, other-turns, Shown, whole-turns, cut-turns}
 use Rattle.joint.proofs.view.Settles.{opened-bare, settle-own, settle-other, discard-own, discard-other}
@@ -109,10 +109,9 @@ module _ (t : ℕ) (r : Run) where
       let b = all-up r (listed M) (a .1) in
       quiet-shown t r 0 (atTransaction t (openedAs g)) (viewSettle (openedAs g)) (b .0) (settle-own t _ (opened-bare g))
       (λ ms.
-      more
+      turn
       (opens g (range .0) (range .1) (range .3) (unfold empty in ne-eqb M 0 (λ e. omega (arith, range .2))) (not-opened t ms r (a .0)) (site-up t ms r 0 ∙ b .0)
-      (λ n m. site-up t ms r (suc n) ∙ members-up r M (range .1) (b .1) n m))
-      still)
+      (λ n m. site-up t ms r (suc n) ∙ members-up r M (range .1) (b .1) n m)))
 
   opening-other : (M C u : ℕ) → u ≢ t → Planned (opening u M C)
   unfolding refusals plan
@@ -150,7 +149,7 @@ module _ (t : ℕ) (r : Run) where
       only-shown t r _ _
       (λ e.
       quiet-shown t r s (discard t s) (viewDiscard s) up (discard-own t s)
-      (λ ms. more (discards s (site-up t ms r s ∙ up) (is-opened t ms r (was-opened r t _ h)) e) still))
+      (λ ms. turn (discards s (site-up t ms r s ∙ up) (is-opened t ms r (was-opened r t _ h)) e)))
 
   forcing-shown : (s : ℕ) → Planned (forcing s)
   unfolding refusals plan

@@ -18,7 +18,7 @@ use Rattle.joint.specs.Run.{isForce}
 use Rattle.joint.specs.Safety.{Moment}
 use Rattle.joint.proofs.DownEmpty.{AllLogless, restarting-logless}
 use Rattle.joint.proofs.view.View.{View, siteView, view, viewAt, viewSettle, viewEffects}
-use Rattle.joint.proofs.view.Turn.{Opened, Carried, whole, cutAfter, viewStart, starts, fails, resumes, returns, Turns, still, more}
+use Rattle.joint.proofs.view.Turn.{Opened, Carried, whole, cutAfter, viewStart, starts, fails, resumes, returns, Turns, still, turn}
 use Rattle.joint.proofs.view.Acts.{holds-select, effectsOf, seenEffects}
 use Rattle.joint.proofs.view.Carries.{seen-append, seen-own, seen-other, Shown}
 use Rattle.joint.proofs.view.Once.{absent, once, absent-head, select-absent, once-select, once-transaction}
@@ -114,9 +114,9 @@ module _ (t : ℕ) (r : Run) where
   absent-turns : {v w : View} (s : ℕ) → v .site s .up ≡ false → empty (v .transaction .cohort .members) ≡ true
       → Carried t s [] (viewAt s started) v w → Turns t v w
   unfolding viewEffects
-  absent-turns s d e whole = more (starts s d e) still
-  absent-turns s d e (cutAfter zero n) = more (fails s n d e) still
-  absent-turns s d e (cutAfter (suc m) n) = more (fails s n d e) still
+  absent-turns s d e whole = turn (starts s d e)
+  absent-turns s d e (cutAfter zero n) = turn (fails s n d e)
+  absent-turns s d e (cutAfter (suc m) n) = turn (fails s n d e)
 
   absent-shown : (s : ℕ) (ts : List ℕ) → r .site s .up ≡ false → opened r t ≡ false → absent t ts ≡ true → Shown t r (restartAll r s ts)
   absent-shown s ts d e h =
@@ -140,11 +140,10 @@ module _ (t : ℕ) (r : Run) where
         settles = once-settles t r 0 (viewSettle (withCoordinator (row .phase))) (settle-own t _ (coordinator-bare (row .phase))) ts h;
         turns =
             λ ms w c.
-            more
+            turn
             (resumes {row = row} (is-opened t ms r e) (site-up t ms r 0 ∙ d)
             (ap (coordinatorRestart (r .transaction t .cohort)) (held 0 ms))
-            (rw (restart-site t r 0 ts, once-seen t r 0 ts h, seen-own t (row .effects)) at c))
-            still;
+            (rw (restart-site t r 0 ts, once-seen t r 0 ts h, seen-own t (row .effects)) at c));
       }
   once-shown (suc n) ts d e h =
       let presumption = presumptionOf (r .transaction t .cohort) (suc n) in
@@ -155,11 +154,10 @@ module _ (t : ℕ) (r : Run) where
             once-settles t r (suc n) (viewSettle (withParticipant (suc n) (row .phase))) (settle-own t _ (participant-bare (suc n) (row .phase))) ts h;
         turns =
             λ ms w c.
-            more
+            turn
             (returns {row = row} n (is-opened t ms r e) (site-up t ms r (suc n) ∙ d)
             (ap (participantRestart presumption (suc n)) (held (suc n) ms))
-            (rw (restart-site t r (suc n) ts, once-seen t r (suc n) ts h, seen-own t (row .effects)) at c))
-            still;
+            (rw (restart-site t r (suc n) ts, once-seen t r (suc n) ts h, seen-own t (row .effects)) at c));
       }
 
   pub restart-shown : (s : ℕ) → r .site s .up ≡ false → (opened r t ≡ true → t < 8) → Shown t r (restartAll r s (select (opened r) transactions))

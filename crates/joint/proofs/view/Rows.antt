@@ -19,7 +19,7 @@ use Rattle.joint.specs.Plan.{settling, rowPlan, planned, step}
 use Rattle.joint.specs.Safety.{Moment}
 use Rattle.joint.proofs.DownEmpty.{All}
 use Rattle.joint.proofs.view.View.{View, view, viewEffects, viewSettle}
-use Rattle.joint.proofs.view.Turn.{Carried, whole, cutAfter, Given, Own, Up, crashes, coordinates, participates, Turns, still, more}
+use Rattle.joint.proofs.view.Turn.{Carried, whole, cutAfter, Given, Own, Up, crashes, coordinates, participates, Turns, still, turn}
 use Rattle.joint.proofs.view.Acts.{effectsOf, seenEffects}
 use Rattle.joint.proofs.view.Carries.{seen-own, seen-other, other-turns, Shown}
 use Rattle.joint.proofs.view.Settles.{coordinator-bare, participant-bare, settle-own, settle-other}
@@ -38,8 +38,8 @@ module _ (t : ℕ) (r : Run) where
   quiet-turns : (s : ℕ) (f : View → View) (v w : View) → Up v s → Turns t v (f v) → Carried t s [] f v w → Turns t v w
   unfolding viewEffects
   quiet-turns s f v w u h whole = h
-  quiet-turns s f v w u h (cutAfter zero n) = more (crashes s n u) still
-  quiet-turns s f v w u h (cutAfter (suc m) n) = more (crashes s n u) still
+  quiet-turns s f v w u h (cutAfter zero n) = turn (crashes s n u)
+  quiet-turns s f v w u h (cutAfter (suc m) n) = turn (crashes s n u)
 
   pub quiet-shown : (s : ℕ) (settle : Run → Run) (f : View → View) → r .site s .up ≡ true
       → ((ms : List Moment) (x : Run) → view t ms (settle x) ≡ f (view t ms x))
@@ -82,7 +82,7 @@ module _ (t : ℕ) (r : Run) where
           settles = settle-own t _ (coordinator-bare (row .phase));
           turns =
               λ ms w c.
-              more (coordinates {row = row} i (is-opened t ms r ready) (site-up t ms r 0 ∙ up) (given ms) e (rw (seen-own t (row .effects)) at c)) still;
+              turn (coordinates {row = row} i (is-opened t ms r ready) (site-up t ms r 0 ∙ up) (given ms) e (rw (seen-own t (row .effects)) at c));
         }
 
     participant-shown : (n : ℕ) → T (member (suc n) (r .transaction t .cohort .members)) → r .site (suc n) .up ≡ true → Own (suc n) i → (row : Option (Row Participant))
@@ -95,7 +95,7 @@ module _ (t : ℕ) (r : Run) where
           after = viewSettle (withParticipant (suc n) (row .phase));
           settles = settle-own t _ (participant-bare (suc n) (row .phase));
           turns =
-              λ ms w c. more (participates {row = row} n i m (site-up t ms r (suc n) ∙ up) (given ms) own e (rw (seen-own t (row .effects)) at c)) still;
+              λ ms w c. turn (participates {row = row} n i m (site-up t ms r (suc n) ∙ up) (given ms) own e (rw (seen-own t (row .effects)) at c));
         }
 
     pub step-own : (s : ℕ) → takesPart r t s ≡ true → r .site s .up ≡ true → ((n : ℕ) → s ≡ suc n → Own (suc n) i) → All (Shown t r) (step r t s i)

@@ -1,4 +1,4 @@
--- What one event may do to the view of one transaction: nothing, a force or a crash (its own or of another transaction's row), or one of the transaction's own steps.
+-- What one event may do to the view of one transaction: nothing, forces and a crash (its own or of another transaction's row), or one of the transaction's own steps.
 use Prim.Native.Nat.{ℕ, suc, _<_}
 use mathlib.Core.Path.{_≡_}
 use mathlib.Core.Bool.{Bool, true, false, not, _||_}
@@ -71,7 +71,6 @@ viewStart s g v = viewAt s started (viewSettle g v)
 -- ---- the turns
 
 pub data Turn (t : ℕ) (v : View) : View → Type 0 where
-  forces : (s : ℕ) → Up v s → Turn t v (viewAt s forced v)
   crashes : (s n : ℕ) → Up v s → Turn t v (viewDown s n v)
   -- members is a byte, PC a part of it, there is a member, and the sites of all members are up
   opens : (g : Cohort) → t < 8 → g .members < 256 → part (g .presumeCommit) (g .members) ≡ true → empty (g .members) ≡ false → empty (v .transaction .cohort .members) ≡ true
@@ -95,7 +94,8 @@ pub data Turn (t : ℕ) (v : View) : View → Type 0 where
       → participantRestart (presumptionOf (v .transaction .cohort) (suc n)) (suc n) (λ k. holds t k (v .site (suc n) .stable)) ≡ row
       → Carried t (suc n) (row .effects) (viewStart (suc n) (withParticipant (suc n) (row .phase))) v w → Turn t v w
 
--- An event is none of them, or one; or forces of another transaction's row and then a crash
+-- what one event does: nothing, or one of them, behind the forces of its row where that is another transaction's
 pub data Turns (t : ℕ) : View → View → Type 0 where
   still : {v : View} → Turns t v v
-  more : {v w x : View} → Turn t v w → Turns t w x → Turns t v x
+  turn : {v w : View} → Turn t v w → Turns t v w
+  forces : {v w : View} (s : ℕ) → Up v s → Turns t (viewAt s forced v) w → Turns t v w

@@ -1,0 +1,154 @@
+-- Each event keeps the invariant of each transaction; a decision stays; commit is decided only behind a stable record 2 and all Yes votes.
+use Prim.Native.Nat.{ℕ, zero, suc}
+use mathlib.Core.Path.{_≡_, refl, sym, ap, _∙_, subst}
+use mathlib.Core.Logic.{_⊎_, inl, inr, ⊎-elim}
+use mathlib.Core.Bool.{Bool, true, false, _&&_, _||_}
+use mathlib.Core.List.{List, [], _∷_}
+use lib.ListN.{take}
+use lib.Dec.{T, eqb}
+use Rattle.codec.specs.Sets.{member}
+use Rattle.codec.specs.laws.Tests.{and-left, of-true}
+use Rattle.site.specs.Coordinator.{Coordinator}
+use Rattle.site.specs.Presumption.{Outcome, commit, abort, sameOutcome}
+use Rattle.site.specs.Cohort.{Cohort}
+use Rattle.site.specs.Step.{voteYes, Effect, append, force, enter, send}
+use Rattle.joint.specs.State.{Site, forced, started, holds, withCoordinator, forgotten}
+use Rattle.joint.specs.Safety.{sends}
+use Rattle.joint.proofs.view.View.{View, viewAt, viewSettle, viewPerform, viewEffects, viewDown}
+use Rattle.joint.proofs.view.Turn.{Carried, whole, cutAfter, viewStart, viewDiscard, viewForget, Turn, crashes, opens, coordinates, participates, discards, starts, fails, resumes, returns, Turns, still, turn, forces}
+use Rattle.joint.proofs.safety.Tables.{has}
+use Rattle.joint.proofs.safety.Passes.{or-either}
+use Rattle.joint.proofs.safety.Sets.{empty-none}
+use Rattle.joint.proofs.safety.Invariant.{Standing, never, initial, collecting, decided, stageOf, hasDecided, writesInit, stableAt, sentIn, Member, Place, Mid, Inv}
+use Rattle.joint.proofs.safety.Steps.{cohortOf, From, own-number}
+use Rattle.joint.proofs.safety.Crashes.{from-self, crash-next}
+use Rattle.joint.proofs.safety.Participants.{force-kept, crash-kept, start-kept, row-kept, discard-kept, return-kept}
+use Rattle.joint.proofs.safety.Coordinators.{coordinator-next}
+use Rattle.joint.proofs.safety.Wakes.{After, after, force-next, discard-next}
+use Rattle.joint.proofs.safety.Resumes.{resume-after, effects-cohort}
+use Rattle.joint.proofs.safety.Opens.{open-after, start-after}
+
+-- ---- a decided commit has all votes
+
+-- at a stage that has decided commit
+member-voted : {t : ℕ} {n : ℕ} {v : View} (h : Standing) → T (hasDecided h commit) → Member t (stageOf h (suc n)) n v → T (v .voted (suc n))
+member-voted (never u) d x = absurd d
+member-voted (initial b) d x = absurd d
+member-voted (collecting w b) d x = absurd d
+member-voted (decided o p l) d x = x .fine .honest (x .fine .counted d)
+
+pub all-voted : {t : ℕ} {v : View} (h : Standing) → Mid t h v → T (hasDecided h commit) → (n : ℕ) → T (member (suc n) (cohortOf v .members)) → T (v .voted (suc n))
+all-voted {t} {v} h mid d n m = go (member (suc n) (cohortOf v .members)) m (mid .places n)
+  where
+    go : (b : Bool) → T b → Place b t (stageOf h (suc n)) n v → T (v .voted (suc n))
+    go true k x = member-voted h d x
+    go false k x = absurd k
+
+-- ---- the coordinator casts no vote
+
+perform-voted : (t : ℕ) (e : Effect) (v : View) (n : ℕ) → T (viewPerform 0 t e v .voted (suc n)) → T (v .voted (suc n))
+unfolding viewPerform viewAt
+perform-voted t (append k fs) v n u = u
+perform-voted t force v n u = u
+perform-voted t (enter o) v n u = u
+perform-voted t (send m p) v n u =
+    or-either (v .voted (suc n)) _ (λ k. k)
+    (λ k. absurd (subst T (own-number n) (and-left (eqb 0 (suc n)) _ (and-left (eqb 0 (suc n) && sends voteYes (suc n) (send m p)) (holds t 5 (v .site (suc n) .stable)) k)))) u
+
+effects-voted : (t : ℕ) (es : List Effect) (v : View) (n : ℕ) → T (viewEffects 0 t es v .voted (suc n)) → T (v .voted (suc n))
+unfolding viewEffects
+effects-voted t [] v n u = u
+effects-voted t (e ∷ es) v n u = perform-voted t e v n (effects-voted t es (viewPerform 0 t e v) n u)
+
+-- ---- a turn
+
+pub record Kept (t : ℕ) (h : Standing) (v w : View) : Type 0 where
+  pub standing : Standing
+  pub inv : Inv t standing w
+  pub from : From (writesInit (cohortOf w)) h standing
+  -- commit only behind the votes of all members, cast before the event
+  pub asked : T (hasDecided standing commit) → (n : ℕ) → T (member (suc n) (cohortOf v .members)) → T (v .voted (suc n))
+
+-- at a participant: the coordinator stands as it did
+same-kept : {t : ℕ} {h : Standing} {v w : View} → Inv t h v → Inv t h w → Kept t h v w
+same-kept {h} old new = record { standing = h; inv = new; from = from-self _ h; asked = all-voted h (old .mid) }
+
+-- at the coordinator
+after-kept : {t : ℕ} {h : Standing} {v w : View} → cohortOf w ≡ cohortOf v → ((n : ℕ) → T (w .voted (suc n)) → T (v .voted (suc n))) → After t h w → Kept t h v w
+after-kept e f x =
+    record {
+      standing = x .standing;
+      inv = x .inv;
+      from = x .from;
+      asked = λ d n m. f n (all-voted (x .standing) (x .inv .mid) d n (subst (λ (g : Cohort). T (member (suc n) (g .members))) (sym e) m));
+    }
+
+module _ {t : ℕ} {es : List Effect} {f : View → View} {v : View} where
+  carried-cohort : {w : View} → ((x : View) → cohortOf (f x) ≡ cohortOf x) → Carried t 0 es f v w → cohortOf w ≡ cohortOf v
+  carried-cohort k whole = k _ ∙ effects-cohort t (never true) es v
+  carried-cohort k (cutAfter m n) = unfold viewDown forgotten withCoordinator in effects-cohort t (never true) (take m es) v
+
+  carried-voted : {w : View} → ((x : View) (n : ℕ) → T (f x .voted (suc n)) → T (x .voted (suc n))) → Carried t 0 es f v w → (n : ℕ) → T (w .voted (suc n)) → T (v .voted (suc n))
+  carried-voted k whole n u = effects-voted t es v n (k (viewEffects 0 t es v) n u)
+  carried-voted k (cutAfter m j) n u = effects-voted t (take m es) v n (unfold viewDown in u)
+
+settle-cohort : (c : Coordinator) (x : View) → cohortOf (viewSettle (withCoordinator c) x) ≡ cohortOf x
+unfolding viewSettle withCoordinator
+settle-cohort c x = refl
+
+settle-voted : (c : Coordinator) (x : View) (n : ℕ) → T (viewSettle (withCoordinator c) x .voted (suc n)) → T (x .voted (suc n))
+unfolding viewSettle
+settle-voted c x n u = u
+
+start-cohort : (c : Coordinator) (x : View) → cohortOf (viewStart 0 (withCoordinator c) x) ≡ cohortOf x
+unfolding viewStart viewAt viewSettle withCoordinator
+start-cohort c x = refl
+
+start-voted : (c : Coordinator) (x : View) (n : ℕ) → T (viewStart 0 (withCoordinator c) x .voted (suc n)) → T (x .voted (suc n))
+unfolding viewStart viewAt viewSettle
+start-voted c x n u = u
+
+pub turn-kept : {t : ℕ} {h : Standing} {v w : View} → Inv t h v → Turn t v w → Kept t h v w
+unfolding viewAt viewDown viewDiscard viewForget forgotten withCoordinator
+turn-kept {t} {h} {v} inv (crashes zero k up) = after-kept refl (λ n u. u) (after (crash-next t v h (inv .mid) k))
+turn-kept {t} {h} {v} inv (crashes (suc n) k up) = same-kept inv (crash-kept t h v inv n k)
+turn-kept {t} {h} {v} inv (opens g a b c d e up ups) =
+    let x = open-after t v g a b c d e up ups h inv in
+    record { standing = x .standing; inv = x .inv; from = x .from; asked = λ k n m. absurd (empty-none (cohortOf v .members) (suc n) (of-true e) m) }
+turn-kept {t} {h} {v} {w} inv (coordinates {row} i o up k e d) =
+    after-kept (carried-cohort (settle-cohort (row .phase)) d) (carried-voted (settle-voted (row .phase)) d) (after (coordinator-next t v w row inv o up i k e d))
+turn-kept {t} {h} {v} inv (participates n i m up k own e d) = same-kept inv (row-kept t h v inv n i m up k own e d)
+turn-kept {t} {h} {v} inv (discards zero up o e) = after-kept refl (λ n u. u) (discard-next t v h inv o up e)
+turn-kept {t} {h} {v} inv (discards (suc n) up o e) = same-kept inv (discard-kept t h v inv n up o e)
+turn-kept {t} {h} {v} inv (starts zero d e) = after-kept refl (λ n u. u) (start-after t v e h inv)
+turn-kept {t} {h} {v} inv (starts (suc n) d e) = same-kept inv (start-kept t h v inv n e)
+turn-kept {t} {h} {v} inv (fails zero k d e) = after-kept refl (λ n u. u) (after (crash-next t v h (inv .mid) k))
+turn-kept {t} {h} {v} inv (fails (suc n) k d e) = same-kept inv (crash-kept t h v inv n k)
+turn-kept {t} {h} {v} {w} inv (resumes {row} o d e c) =
+    after-kept (carried-cohort (start-cohort (row .phase)) c) (carried-voted (start-voted (row .phase)) c) (resume-after t v w h inv o d e c)
+turn-kept {t} {h} {v} inv (returns n o d e c) = same-kept inv (return-kept t h v inv n o d e c)
+
+-- ---- an event
+
+-- behind a force, by which nothing is decided and no vote is cast
+behind : {t : ℕ} {v w : View} (s : ℕ) (h h1 : Standing) → ((o : Outcome) → hasDecided h1 o ≡ hasDecided h o) → Kept t h1 (viewAt s forced v) w → Kept t h v w
+unfolding viewAt
+behind s h h1 e x =
+    record {
+      standing = x .standing;
+      inv = x .inv;
+      from =
+          record {
+            keeps = λ o k. x .from .keeps o (subst T (sym (e o)) k);
+            new = λ c. ⊎-elim (λ k. inl (subst T (e commit) k)) inr (x .from .new c);
+          };
+      asked = x .asked;
+    }
+
+pub turns-kept : {t : ℕ} {v w : View} (h : Standing) → Inv t h v → Turns t v w → Kept t h v w
+turns-kept h inv still = same-kept inv inv
+turns-kept h inv (turn x) = turn-kept inv x
+turns-kept {t} h inv (forces {v} zero up x) =
+    let y = force-next t v h inv in
+    behind 0 h (y .standing) (y .same) (turns-kept (y .standing) (y .inv) x)
+turns-kept {t} h inv (forces {v} (suc n) up x) = behind (suc n) h h (λ o. refl) (turns-kept h (force-kept t h v inv n up) x)
