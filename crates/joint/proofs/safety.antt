@@ -19,3 +19,4 @@ pub mod Wakes
 pub mod Resumes
 pub mod Opens
 pub mod Kept
+pub mod Tracked

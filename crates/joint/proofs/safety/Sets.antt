@@ -56,7 +56,7 @@ member-those f n m h t =
 
 -- ---- no members
 
-none-in-0 : (p : ℕ) → member p 0 ≡ false
+pub none-in-0 : (p : ℕ) → member p 0 ≡ false
 unfolding member
 none-in-0 p = rw (high-bits 0 0 p (omega arith) (omega arith)) refl
 

@@ -1,0 +1,143 @@
+-- Along every list of events the invariant of every transaction holds; commit is decided exactly if record 2 was stable at some moment.
+use Prim.Native.Nat.{ℕ, zero, suc, _<_}
+use mathlib.Core.Path.{_≡_, refl, sym, ap, _∙_, subst}
+use mathlib.Core.Logic.{_⊎_, inl, inr, ⊎-elim}
+use mathlib.Core.Bool.{Bool, true, false, not, _&&_, _||_, true≢false}
+use mathlib.Core.List.{List, [], _∷_, _++_, map, append-assoc, append-nil}
+use lib.Dec.{T, eqb}
+use native.Mathlib.Omega.{arith}
+use Rattle.codec.specs.Lists.{any, select}
+use Rattle.codec.specs.Sets.{participants, member, empty, bits, those, both, part}
+use Rattle.codec.specs.laws.Tests.{true-of, of-true}
+use Rattle.site.specs.Presumption.{Outcome, commit, abort, sameOutcome}
+use Rattle.joint.specs.State.{Run, Site, fresh, opened, holds}
+use Rattle.joint.specs.Run.{event, after}
+use Rattle.joint.specs.Safety.{Moment, happened, history, along, leaves, commitStable}
+use Rattle.joint.proofs.History.{by-events, after-snoc, history-snoc, passed, committed-snoc, any-cases, any-append}
+use Rattle.joint.proofs.Moments.{any-middle}
+use Rattle.joint.proofs.EventMoments.{commit-stays}
+use Rattle.joint.proofs.view.View.{View, siteView, view}
+use Rattle.joint.proofs.view.Acts.{holds-select}
+use Rattle.joint.proofs.view.Turn.{Turns}
+use Rattle.joint.proofs.view.Events.{event-turns}
+use Rattle.joint.proofs.safety.Tables.{has, Stage}
+use Rattle.joint.proofs.safety.Passes.{or-left, or-right, or-either}
+use Rattle.joint.proofs.safety.Sets.{none-in-0}
+use Rattle.joint.proofs.safety.Local.{holds-kinds}
+use Rattle.joint.proofs.safety.Invariant.{Log, kindsIn, classOf, Pace, waiting, resting, down, Standing, never, initial, collecting, decided, hasDecided, logFits, initLog, writesInit, stableAt, Place, Mid, Inv}
+use Rattle.joint.proofs.safety.Logs.{waiting-down, resting-down, commit-record}
+use Rattle.joint.proofs.safety.Steps.{cohortOf, From}
+use Rattle.joint.proofs.safety.Kept.{Kept, turns-kept}
+
+part-none : part 0 0 ≡ true
+unfolding part both those bits participants member
+part-none = refl
+
+module _ (t : ℕ) where
+  -- what t sees of the run that a list of events leaves, and of its history
+  abbrev pub seenAfter : List (List ℕ) → View
+  seenAfter es = view t (history fresh es) (after fresh es)
+
+  -- ---- one event more
+
+  small : (es : List (List ℕ)) (h : Standing) → Inv t h (seenAfter es) → opened (after fresh es) t ≡ true → t < 8
+  unfolding view opened
+  small es h inv e = inv .mid .number (not-true (empty (after fresh es .transaction t .cohort .members)) e)
+    where
+      not-true : (b : Bool) → not b ≡ true → b ≡ false
+      not-true true q = absurd (true≢false (sym q))
+      not-true false q = refl
+
+  pub next-kept : (es : List (List ℕ)) (e : List ℕ) (h : Standing) → Inv t h (seenAfter es) → Kept t h (seenAfter es) (seenAfter (es ++ (e ∷ [])))
+  next-kept es e h inv = rw (history-snoc, after-snoc) (turns-kept h inv (event-turns t (history fresh es) (after fresh es) e (small es h inv)))
+
+  -- ---- a stable record 2 is of a decided commit
+
+  record-decided : {v : View} (h : Standing) → Mid t h v → T (has 2 (stableAt (writesInit (cohortOf v)) h)) → T (hasDecided h commit)
+  unfolding has any
+  record-decided (never u) mid r = r
+  record-decided (initial b) mid r = r
+  record-decided {v} (collecting w b) mid r = go (writesInit (cohortOf v)) r
+    where
+      go : (j : Bool) → T (has 2 (kindsIn (initLog j))) → ⊥
+      go true k = unfold has any in k
+      go false k = unfold has any in k
+  record-decided {v} (decided o (waiting w) l) mid r = commit-record (writesInit (cohortOf v)) o l r (waiting-down (writesInit (cohortOf v)) o l w (mid .fit))
+  record-decided {v} (decided o (resting b) l) mid r = commit-record (writesInit (cohortOf v)) o l r (resting-down (writesInit (cohortOf v)) o l b (mid .fit))
+  record-decided {v} (decided o down l) mid r = commit-record (writesInit (cohortOf v)) o l r (mid .fit)
+
+  -- the run's record 2, and that of the standing
+  record-stands : (es : List (List ℕ)) (h : Standing) → Inv t h (seenAfter es) → commitStable t (after fresh es) ≡ has 2 (stableAt (writesInit (cohortOf (seenAfter es))) h)
+  unfolding view commitStable siteView
+  record-stands es h inv =
+      sym (holds-select t 2 (after fresh es .site 0 .stable)) ∙ ap (λ (s : Site). holds t 2 (s .stable)) (inv .mid .log)
+      ∙ holds-kinds (cohortOf (seenAfter es)) t 0 2 (stableAt (writesInit (cohortOf (seenAfter es))) h)
+
+  -- ---- every list of events
+
+  pub record Tracked (es : List (List ℕ)) : Type 0 where
+    pub standing : Standing
+    pub inv : Inv t standing (seenAfter es)
+    -- record 2 was stable at some moment exactly if commit is decided
+    pub stable : T (hasDecided standing commit) → T (any (commitStable t) (along fresh es))
+    pub decides : T (any (commitStable t) (along fresh es)) → T (hasDecided standing commit)
+
+  -- a decision stays
+  pub track-next : (es : List (List ℕ)) (e : List ℕ) (x : Tracked es) → (y : Tracked (es ++ (e ∷ []))) × ((o : Outcome) → T (hasDecided (x .standing) o) → T (hasDecided (y .standing) o))
+  unfolding passed
+  track-next es e x =
+      let k = next-kept es e (x .standing) (x .inv) in
+      (record {
+        standing = k .standing;
+        inv = k .inv;
+        stable = λ d.
+            subst T (sym (committed-snoc t es e))
+            (⊎-elim (λ c. or-left before _ (x .stable c))
+            (λ r. or-right before (any (commitStable t) (passed (after fresh es) e)) (any-middle (commitStable t) (map leaves (happened (after fresh es) e)) (event (after fresh es) e .run) [] (subst T (now k) r))) (k .from .new d));
+        decides = λ r.
+            or-either before (any (commitStable t) (passed (after fresh es) e)) (λ c. k .from .keeps commit (x .decides c))
+            (λ p. record-decided (k .standing) (k .inv .mid) (subst T (sym (now k)) (commit-stays t (after fresh es) e p))) (subst T (committed-snoc t es e) r);
+      }, k .from .keeps)
+    where
+      before : Bool
+      before = any (commitStable t) (along fresh es)
+
+      now : (k : Kept t (x .standing) (seenAfter es) (seenAfter (es ++ (e ∷ [])))) → has 2 (stableAt (writesInit (cohortOf (seenAfter (es ++ (e ∷ []))))) (k .standing)) ≡ commitStable t (event (after fresh es) e .run)
+      now k = sym (record-stands (es ++ (e ∷ [])) (k .standing) (k .inv)) ∙ ap (commitStable t) (after-snoc fresh es e)
+
+  tracked-none : Tracked []
+  unfolding view history after along any fresh commitStable siteView select holds empty
+  tracked-none =
+      record {
+        standing = never true;
+        inv =
+            record {
+              mid =
+                  record {
+                    number = λ e. absurd (true≢false e);
+                    byte = omega arith;
+                    part = part-none;
+                    opened = refl;
+                    log = refl;
+                    fit = tt;
+                    proper = tt;
+                    sets = tt;
+                    entries = λ o k. k;
+                    places = λ n. subst (λ (b : Bool). Place b t Stage.fresh n (seenAfter [])) (sym (none-in-0 (suc n))) (record { stable = refl; unforced = refl; sent = λ m. refl; entered = λ o. refl });
+                  };
+              phase = refl;
+              whole = tt;
+            };
+        stable = λ k. absurd k;
+        decides = λ k. k;
+      }
+
+  pub tracked : (es : List (List ℕ)) → Tracked es
+  tracked = by-events Tracked tracked-none (λ es e x. track-next es e x .0)
+
+  -- whatever comes later
+  pub track-later : (es later : List (List ℕ)) (x : Tracked es) (o : Outcome) → T (hasDecided (x .standing) o) → (y : Tracked (es ++ later)) × T (hasDecided (y .standing) o)
+  track-later es [] x o d = rw append-nil (x, d)
+  track-later es (e ∷ later) x o d =
+      let y = track-next es e x in
+      rw append-assoc at (track-later (es ++ (e ∷ [])) later (y .0) o (y .1 o d))
