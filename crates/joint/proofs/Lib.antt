@@ -7,3 +7,4 @@ mod safety
 mod DownEmpty
 mod Moments
 mod EventMoments
+mod Demand3
