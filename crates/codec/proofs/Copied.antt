@@ -8,7 +8,7 @@ use Rattle.codec.specs.Records.{LogRecord}
 use Rattle.codec.specs.Image.{accepted, imageRefusals, readUnless, readImage, logRefusals, writeImage, copyReading, copyImage}
 use Rattle.codec.specs.Answers.{Values, logIn, values, imageValues, written}
 use Rattle.codec.specs.declared.reader.ImageAnswer.{ImageAnswer}
-use Rattle.codec.proofs.RoundTrip.{readable-writable}
+use Rattle.codec.specs.laws.RoundTrip.{readable-writable}
 
 module _ (bytes : List ℕ) (r : ImageAnswer) (e : imageValues r ≡ values (readImage bytes)) (at : ℕ) (buffer : List ℕ) where
   pub copy-refused : (r .answer ≡ 0 → ⊥) → copyImage bytes at buffer ≡ written (r .answer) buffer

@@ -17,9 +17,9 @@ use Rattle.codec.specs.Inside.{wordAt, Within, recordFrom, mayFollow, an
 use Rattle.codec.specs.declared.record.Record.{Record}
 use Rattle.codec.specs.declared.record.RecordAnswer.{RecordAnswer}
 use Rattle.codec.specs.declared.record.RecordAnswer.the-variants.{Accepted}
-use Rattle.codec.proofs.Fields.{from-bytes}
-use Rattle.codec.proofs.Tables.{named, exact-cons, exact-end}
-use Rattle.codec.proofs.Pairs.{pairs-length, records-length, pair-here}
+use Rattle.codec.specs.laws.Fields.{from-bytes}
+use Rattle.codec.specs.laws.Tables.{named, exact-cons, exact-end}
+use Rattle.codec.specs.laws.Pairs.{pairs-length, records-length, pair-here}
 use Rattle.codec.proofs.Lists.{getD-map-below, map-set}
 use Rattle.codec.proofs.Passed.{Passed, passed-none, passed-next, passed-all, stopped, taken, done-next}
 

@@ -10,9 +10,9 @@ use Rattle.codec.specs.Image.{headLength, image, overLimit, logRefusals}
 use Rattle.codec.specs.Answers.{recordIn, logIn}
 use Rattle.codec.specs.Inside.{bytesIn}
 use Rattle.codec.specs.declared.log.Log.{Log}
-use Rattle.codec.proofs.Refusals.{passed}
+use Rattle.codec.specs.laws.Refusals.{passed}
 use Rattle.codec.proofs.Opened.{few-records}
-use Rattle.codec.proofs.RoundTrip.{image-length}
+use Rattle.codec.specs.laws.RoundTrip.{image-length}
 
 -- it holds as many as it counts
 pub held-count : (l : Log) → length (l .records) ≡ 24 → length (logIn l) ≡ l .count

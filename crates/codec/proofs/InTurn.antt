@@ -15,9 +15,9 @@ use Rattle.codec.specs.Answers.{recordIn, noRecord, logIn}
 use Rattle.codec.specs.Inside.{bytesIn}
 use Rattle.codec.specs.declared.record.Record.{Record}
 use Rattle.codec.specs.declared.log.Log.{Log}
-use Rattle.codec.proofs.Fields.{bytes-length, length-most}
+use Rattle.codec.specs.laws.Fields.{bytes-length, length-most}
 use Rattle.codec.proofs.Held.{held-count, held-bytes}
-use Rattle.codec.proofs.Tables.{length-table}
+use Rattle.codec.specs.laws.Tables.{length-table}
 use Rattle.codec.proofs.Stored.{Next}
 
 -- the records of a log, as bytes, from one on

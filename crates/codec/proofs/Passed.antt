@@ -21,7 +21,7 @@ use denote.Enum.Declared.{tagOf}
 use types.Run.{OneOf}
 use Rattle.codec.proofs.record.RecordAnswer.{the-type}
 use Rattle.codec.specs.laws.Tests.{lt-or-le}
-use Rattle.codec.proofs.Fields.{no-kind-high}
+use Rattle.codec.specs.laws.Fields.{no-kind-high}
 use Rattle.codec.proofs.Kept.{Kept, kept-none, kept-next, in-sequence}
 
 -- the first i records have passed, and the newest of each transaction is kept

@@ -13,7 +13,7 @@ use Rattle.codec.specs.Records.{bytesOf, lengthOf}
 use Rattle.codec.specs.Image.{stored}
 use Rattle.codec.specs.Answers.{recordIn}
 use Rattle.codec.specs.declared.record.Record.{Record}
-use Rattle.codec.proofs.Fields.{bytes-length}
+use Rattle.codec.specs.laws.Fields.{bytes-length}
 
 -- ---- bytes stored in a buffer
 

@@ -8,3 +8,4 @@ mod DownEmpty
 mod Moments
 mod EventMoments
 mod Demand3
+mod Reachable

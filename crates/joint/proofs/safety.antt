@@ -20,3 +20,7 @@ pub mod Resumes
 pub mod Opens
 pub mod Kept
 pub mod Tracked
+pub mod Counts
+pub mod Orders
+pub mod Kinds
+pub mod Facts

@@ -20,7 +20,7 @@ use Rattle.joint.proofs.safety.Finite.{_⇒_, mp, allOf, allBool, at-bo
 use Rattle.joint.proofs.safety.Passes.{or-left, or-right}
 use Rattle.joint.proofs.safety.Sets.{empty-none}
 use Rattle.joint.proofs.safety.Invariant.{Log, l0, l1, kindsIn, classOf, resumed, waiting, resting, down, Pace, Standing, never, initial, collecting, decided, stageOf, hasDecided, logFits, standingFits, properKinds, properLog, awaitsCommit, SetsFit, writesInit, initLog, standingUp, stableAt, unforcedAt, coordinatorAt, between, entry, siteWith, Mid, Inv}
-use Rattle.joint.proofs.safety.Logs.{closed, commitLog, waiting-down, resting-down, closed-fits, closed-kinds, abort-unwritten, closed-has, closed-proper, initial-proper, commit-proper}
+use Rattle.joint.proofs.safety.Logs.{closed, commitLog, waiting-down, resting-down, closed-fits, closed-kinds, abort-unwritten, closed-has, closed-proper, may-close, initial-proper, commit-proper}
 use Rattle.joint.proofs.safety.Steps.{cohortOf, PassesAt, From, Shift, move, standsAs, stand, settle-mid}
 
 -- ---- a turn's result: the standing after it
@@ -230,12 +230,6 @@ module _ (t : ℕ) (v : View) where
         passing = λ n m. and-true2 (sameOutcome o o) _ (refl-outcome o) (waits-passes (resumed (classOf l)) i o (silence (presumptionOf (cohortOf v) (suc n))) _ _ (abort-unwritten i o l w f) (begun (cohortOf v) (suc n)));
       }
 
-  -- a record 3 that stands unforced
-  written : (o : Outcome) (l : Log) → SetsFit (cohortOf v) (decided o (resting true) l) → T (sameOutcome o abort || a)
-  unfolding sameOutcome
-  written commit l s = s
-  written abort l s = tt
-
   -- ---- the crash
 
   pub crash-next : (h : Standing) → Mid t h v → (k : ℕ) → Next t h (viewDown 0 k v)
@@ -254,7 +248,7 @@ module _ (t : ℕ) (v : View) where
   crash-next (decided o (resting true) l) mid zero =
       lost mid 0 (rests o true l l (resting-down i o l true (mid .fit)) (mid .proper) (λ x. x)) (stopped-lost (cohortOf v) t true (kindsIn l) (endRecord o ∷ [])) refl tt
   crash-next (decided o (resting true) l) mid (suc k) =
-      lost mid (suc k) (rests o true l (closed l) (resting-down i o (closed l) false (closed-fits i o l (mid .fit))) (closed-proper i a o l (mid .fit) (written o l (mid .sets)) (mid .proper)) (closed-has l))
+      lost mid (suc k) (rests o true l (closed l) (resting-down i o (closed l) false (closed-fits i o l (mid .fit))) (closed-proper i a o l (mid .fit) (may-close (cohortOf v) o l (mid .sets)) (mid .proper)) (closed-has l))
       (stopped-kept (cohortOf v) t true k (kindsIn l) (kindsIn (closed l)) (endRecord o) (closed-kinds i o l (mid .fit))) refl tt
   crash-next (decided o down l) mid k =
       lost {h′ = decided o down l} mid k (record { never = refl; fit = mid .fit; proper = mid .proper; sets = tt; from = λ h0 f. f; passing = λ n m. and-true2 (sameOutcome o o) _ (refl-outcome o) (stays-so (not (resumed (classOf l))) _ _) }) (stopped-none (cohortOf v) t false k (kindsIn l)) refl tt

@@ -14,7 +14,7 @@ use Rattle.joint.specs.State.{Site, appended, forced, stopped}
 use Rattle.joint.proofs.safety.Tables.{has}
 use Rattle.joint.proofs.safety.Finite.{_⇒_, mp, allOf, nth, look, allBool, at-bool, allOutcome, at-outcome}
 use Rattle.joint.proofs.safety.Passes.{or-left, or-right}
-use Rattle.joint.proofs.safety.Invariant.{Log, l0, l1, l12, l2, l123, l23, l3, l14, l4, kindsIn, Class, nothing, live, ended, classOf, resumed, Pace, waiting, resting, down, logFits, properKinds, initLog}
+use Rattle.joint.proofs.safety.Invariant.{Log, l0, l1, l12, l2, l123, l23, l3, l14, l4, kindsIn, Class, nothing, live, ended, classOf, resumed, Pace, waiting, resting, down, decided, logFits, properKinds, awaitsCommit, SetsFit, initLog}
 
 -- with the end record
 abbrev pub closed : Log → Log
@@ -194,3 +194,9 @@ module _ (i a : Bool) where
 
   pub commit-proper : T (properKinds i a (kindsIn (commitLog i)))
   commit-proper = law-of 18 0 a i commit l0
+
+-- a record 3 stands unforced where acks were owed
+pub may-close : (g : Cohort) (o : Outcome) (l : Log) → SetsFit g (decided o (resting true) l) → T (sameOutcome o abort || awaitsCommit g)
+unfolding sameOutcome
+may-close g commit l s = s
+may-close g abort l s = tt

@@ -24,7 +24,7 @@ use Rattle.joint.proofs.safety.Tables.{has, Stage, fresh, asking, done,
 use Rattle.joint.proofs.safety.Passes.{or-left, or-right}
 use Rattle.joint.proofs.safety.Sets.{member-owing, owing-member, empty-none, not-empty}
 use Rattle.joint.proofs.safety.Invariant.{Log, l0, l1, l12, l2, l123, l23, l3, l14, l4, kindsIn, classOf, resumed, waiting, resting, down, Pace, Standing, never, initial, collecting, decided, stageOf, hasDecided, logFits, SetsFit, writesInit, awaitsCommit, initLog, isNever, stableAt, coordinatorAt, between, entry, siteWith, sentIn, Member, Stranger, Place, Mid, Inv}
-use Rattle.joint.proofs.safety.Logs.{closed, older, unended, waiting-down, resting-down, commit-record, waiting-unended, ending-unended, closed-fits, closed-kinds, closed-proper, closed-has, older-fits, older-kinds, older-proper, resumed-waiting, down-resting, resumes-commit, resumes-abort}
+use Rattle.joint.proofs.safety.Logs.{closed, older, unended, waiting-down, resting-down, commit-record, waiting-unended, ending-unended, closed-fits, closed-kinds, closed-proper, may-close, older-fits, older-kinds, older-proper, resumed-waiting, down-resting, resumes-commit, resumes-abort}
 use Rattle.joint.proofs.safety.Local.{holds-kinds}
 use Rattle.joint.proofs.safety.Steps.{cohortOf, PassesAt, From, Move, Shift, move, standsAs, stand, settle-mid, same-outcome, both-ways}
 use Rattle.joint.proofs.safety.Crashes.{Next, refl-outcome, from-self, from-same, from-none, and-true2, not-true}
@@ -81,16 +81,12 @@ module _ (t : ℕ) (v : View) where
   forced-same : (u : Bool) (ks : List ℕ) → forced (siteWith (cohortOf v) t 0 u ks []) ≡ siteWith (cohortOf v) t 0 u ks []
   forced-same u ks = forced-kinds (cohortOf v) t u ks [] ks (sym (append-nil ks))
 
-  owed : (o : Outcome) (l : Log) → SetsFit (cohortOf v) (decided o (resting true) l) → T (sameOutcome o abort || awaitsCommit (cohortOf v))
-  owed commit l s = or-right (sameOutcome commit abort) (awaitsCommit (cohortOf v)) s
-  owed abort l s = or-left (sameOutcome abort abort) (awaitsCommit (cohortOf v)) (refl-outcome abort)
-
   ended : (o : Outcome) (l : Log) → Mid t (decided o (resting true) l) v → Move v (decided o (resting true) l) (decided o (resting false) (closed l))
   ended o l mid =
       record {
         never = refl;
         fit = closed-fits (writesInit (cohortOf v)) o l (mid .fit);
-        proper = closed-proper (writesInit (cohortOf v)) (awaitsCommit (cohortOf v)) o l (mid .fit) (owed o l (mid .sets)) (mid .proper);
+        proper = closed-proper (writesInit (cohortOf v)) (awaitsCommit (cohortOf v)) o l (mid .fit) (may-close (cohortOf v) o l (mid .sets)) (mid .proper);
         sets = tt;
         keeps = λ r k. k;
         passing = λ n m. pass-self v (done o true) n;

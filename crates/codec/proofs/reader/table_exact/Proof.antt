@@ -4,7 +4,7 @@ use native.Mathlib.Omega.{arith}
 use borrow.Author.Needs.{needs}
 use borrow.Author.Tests.{lt-leb}
 use Rattle.codec.specs.Image.{headLength, countIn, tableExact}
-use Rattle.codec.proofs.Pairs.{Exact, exact-start, exact-next, not-exact, exact-end}
+use Rattle.codec.specs.laws.Pairs.{Exact, exact-start, exact-next, not-exact, exact-end}
 use Rattle.codec.proofs.reader.table_exact.Statement.{statement}
 use Rattle.codec.proofs.reader.table_exact.Tie as tie
 

@@ -1,4 +1,4 @@
-use Rattle.codec.proofs.Refusals.{write-refused}
+use Rattle.codec.specs.laws.Refusals.{write-refused}
 use borrow.Author.Needs.{needs}
 use Rattle.codec.proofs.writer.write_image.Statement.{statement}
 use Rattle.codec.proofs.writer.write_image.Tie as tie

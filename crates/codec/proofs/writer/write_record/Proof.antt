@@ -4,7 +4,7 @@ use Prim.Native.Nat.{ℕ}
 use mathlib.Core.Logic.{⊎-elim}
 use native.Mathlib.Omega.{arith}
 use lib.ListN.{length, set, length-set}
-use Rattle.codec.proofs.Fields.{bytes-length, length-most}
+use Rattle.codec.specs.laws.Fields.{bytes-length, length-most}
 use Rattle.codec.proofs.Stored.{stored-record}
 use Rattle.codec.proofs.writer.write_record.Statement.{statement}
 use Rattle.codec.proofs.writer.write_record.Tie as tie

@@ -1,6 +1,6 @@
 use mathlib.Core.Path.{sym}
 use native.Mathlib.Omega.{arith}
-use Rattle.codec.proofs.Fields.{fields-init, fields-commit, fields-prepared, fields-other, fields-zero, fields-high}
+use Rattle.codec.specs.laws.Fields.{fields-init, fields-commit, fields-prepared, fields-other, fields-zero, fields-high}
 use borrow.Author.Needs.{needs}
 use Rattle.codec.proofs.record.Record.fields_in_range.Statement.{statement}
 use Rattle.codec.proofs.record.Record.fields_in_range.Tie as tie

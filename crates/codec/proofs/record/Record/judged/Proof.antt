@@ -1,7 +1,7 @@
 use mathlib.Core.Path.{sym, _∙_}
 use borrow.Author.Tests.{not-true, not-false}
 use Rattle.codec.specs.Inside.{answerTo}
-use Rattle.codec.proofs.Fields.{wrong-kind, wrong-transaction, wrong-fields, right-record}
+use Rattle.codec.specs.laws.Fields.{wrong-kind, wrong-transaction, wrong-fields, right-record}
 use Rattle.codec.proofs.record.Record.judged.Statement.{statement}
 use Rattle.codec.proofs.record.Record.judged.Tie as tie
 

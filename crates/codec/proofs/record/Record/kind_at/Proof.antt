@@ -1,6 +1,6 @@
 use mathlib.Core.Path.{sym}
 use native.Mathlib.Omega.{arith}
-use Rattle.codec.proofs.Fields.{at-coordinator, at-participant, no-kind-low, no-kind-high}
+use Rattle.codec.specs.laws.Fields.{at-coordinator, at-participant, no-kind-low, no-kind-high}
 use Rattle.codec.proofs.record.Record.kind_at.Statement.{statement}
 use Rattle.codec.proofs.record.Record.kind_at.Tie as tie
 

@@ -1,5 +1,5 @@
 use native.Mathlib.Omega.{arith}
-use Rattle.codec.proofs.Fields.{bytes-length}
+use Rattle.codec.specs.laws.Fields.{bytes-length}
 use borrow.Author.Needs.{needs}
 use Rattle.codec.proofs.record.Record.length.Statement.{statement}
 use Rattle.codec.proofs.record.Record.length.Tie as tie

@@ -2,7 +2,7 @@ use mathlib.Core.Path.{sym, refl}
 use native.Mathlib.Omega.{arith}
 use lib.ListN.{List·getD-eq-default}
 use Rattle.codec.specs.Records.{lengths, lengthOf}
-use Rattle.codec.proofs.Fields.{length-most}
+use Rattle.codec.specs.laws.Fields.{length-most}
 use borrow.Author.Needs.{needs}
 use Rattle.codec.proofs.record.Record.length_of.Statement.{statement}
 use Rattle.codec.proofs.record.Record.length_of.Tie as tie

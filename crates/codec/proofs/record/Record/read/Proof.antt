@@ -3,7 +3,7 @@ use mathlib.Core.Path.{sym, _∙_, ap}
 use Rattle.codec.specs.Records.{lengthOf}
 use Rattle.codec.specs.Inside.{answerTo, recordFrom}
 use Rattle.codec.specs.declared.record.Record.{Record}
-use Rattle.codec.proofs.Fields.{wrong-length, read-as}
+use Rattle.codec.specs.laws.Fields.{wrong-length, read-as}
 use Rattle.codec.proofs.record.Record.read.Statement.{statement}
 use Rattle.codec.proofs.record.Record.read.Tie as tie
 

@@ -10,7 +10,7 @@ use lib.ListN.{length, getD, take, drop, length-take, length-drop, length-map, d
 use lib.Seq.{getD-take, getD-drop, drop-drop}
 use Rattle.codec.specs.Image.{headLength, pairsOf, countIn, pairsIn, recordsIn, exact, tableExact}
 use Rattle.codec.specs.Inside.{wordAt}
-use Rattle.codec.proofs.Tables.{length-pairs}
+use Rattle.codec.specs.laws.Tables.{length-pairs}
 
 pairs-drop : (i : ℕ) (table : List ℕ) → drop i (pairsOf table) ≡ pairsOf (drop (4 * i) table)
 unfolding pairsOf

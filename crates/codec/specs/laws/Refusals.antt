@@ -11,7 +11,7 @@ use Rattle.codec.specs.Lists.{every, first}
 use Rattle.codec.specs.Records.{LogRecord, bytesOf, recordOf, lengthOf, isRecord, inSequence, recordTests, recordRefusals}
 use Rattle.codec.specs.Image.{image, overLimit, logRefusals, writeRefusals, stored, writeUnless, writeImage}
 use Rattle.codec.specs.Answers.{written}
-use Rattle.codec.proofs.Fields.{not-one, no-kind-low}
+use Rattle.codec.specs.laws.Fields.{not-one, no-kind-low}
 
 -- ---- lists of refusals
 

@@ -12,9 +12,9 @@ use Rattle.codec.specs.laws.Tests.{or-none, same-list}
 use Rattle.codec.specs.Lists.{same, first}
 use Rattle.codec.specs.Records.{LogRecord, bytesOf, recordOf, recordRefusals}
 use Rattle.codec.specs.Image.{magic, headLength, pairTable, image, pairsOf, siteIn, countIn, pairsIn, recordsIn, overLimit, exact, tableExact, imageRefusals, accepted, readingNumber, readUnless, readImage, logRefusals, stored, writeImage, copyReading, copyImage}
-use Rattle.codec.proofs.Pairs.{table-length, records-length}
-use Rattle.codec.proofs.Refusals.{passed, records-bytes, log-records, write-whole, write-passed}
-use Rattle.codec.proofs.Tables.{bytes-take, length-table, exact-records, exact-table, named-table, table-exact}
+use Rattle.codec.specs.laws.Pairs.{table-length, records-length}
+use Rattle.codec.specs.laws.Refusals.{passed, records-bytes, log-records, write-whole, write-passed}
+use Rattle.codec.specs.laws.Tables.{bytes-take, length-table, exact-records, exact-table, named-table, table-exact}
 
 -- ---- accepted images
 

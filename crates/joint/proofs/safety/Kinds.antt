@@ -1,0 +1,188 @@
+-- The kinds of one transaction's records at one site, as the invariant tells them: in order, and few.
+use Prim.Native.Nat.{ℕ, zero, suc, _≤_, _<_}
+use mathlib.Core.Path.{_≡_, refl, sym, ap, _∙_, subst}
+use mathlib.Core.Logic.{_⊎_, inl, inr}
+use mathlib.Core.Bool.{Bool, true, false, not, _&&_, _||_, false≢true}
+use mathlib.Core.List.{List, [], _∷_, _++_, map, append-nil}
+use lib.ListN.{length}
+use lib.Dec.{T, leb}
+use native.Mathlib.Omega.{arith}
+use borrow.Author.Tests.{eqb-false, not-true}
+use Rattle.codec.specs.Lists.{any, same}
+use Rattle.codec.specs.Sets.{member, empty}
+use Rattle.codec.specs.Records.{recordKindAt, sequences}
+use Rattle.codec.specs.laws.Tests.{of-true}
+use Rattle.site.specs.Presumption.{Outcome, abort, sameOutcome}
+use Rattle.site.specs.Cohort.{Cohort}
+use Rattle.site.specs.Participant.{outcomeRecord}
+use Rattle.site.specs.Coordinator.{endRecord}
+use Rattle.joint.specs.State.{Run, Site, opened, takesPart}
+use Rattle.joint.specs.Safety.{Moment}
+use Rattle.joint.proofs.view.View.{siteView, view}
+use Rattle.joint.proofs.safety.Tables.{Status, stableKinds, unforcedKinds, has}
+use Rattle.joint.proofs.safety.Finite.{_⇒_, mp, allBool, at-bool, at-status}
+use Rattle.joint.proofs.safety.Sets.{empty-none}
+use Rattle.joint.proofs.safety.Invariant.{Log, l0, l1, l12, l2, l123, l23, l3, l14, l4, kindsIn, classOf, resting, waiting, down, Standing, never, initial, collecting, decided, stageOf, logFits, standingFits, SetsFit, writesInit, awaitsCommit, properKinds, properLog, initLog, stableAt, kindIf, unforcedAt, isNever, entry, Place, Mid}
+use Rattle.joint.proofs.safety.Logs.{closed, closed-kinds}
+use Rattle.joint.proofs.safety.Logs.{closed-proper, may-close}
+use Rattle.joint.proofs.safety.Crashes.{and-true2}
+use Rattle.joint.proofs.safety.Counts.{own}
+use Rattle.joint.proofs.safety.Orders.{inOrder, Ranged}
+
+-- ---- the kinds of one transaction's records
+
+-- the most records of one transaction
+abbrev pub share : ℕ → ℕ
+share zero = 3
+share (suc n) = 2
+
+abbrev pub fine : ℕ → Bool → Bool → List ℕ → Bool
+fine s i a ks = inOrder s i a [] ks && leb (length ks) (share s)
+
+-- ks: of the stable records, js: of the unforced ones
+abbrev pub tidy : ℕ → Bool → Bool → List ℕ → List ℕ → Bool
+tidy s i a ks js = fine s i a (ks ++ js) && leb (length js) 1
+
+status-tidy : (n : ℕ) (i a : Bool) (x : Status) → T (tidy (suc n) i a (stableKinds x) (unforcedKinds x))
+unfolding recordKindAt any same sequences outcomeRecord
+status-tidy n i a x = at-status (λ x. tidy (suc n) i a (stableKinds x) (unforcedKinds x)) tt x
+
+abbrev logTest : Log → Bool
+logTest l = allBool (λ i. allBool (λ a. properKinds i a (kindsIn l) ⇒ fine 0 i a (kindsIn l)))
+
+log-tests : (l : Log) → T (logTest l)
+unfolding recordKindAt any same sequences has
+log-tests l0 = tt
+log-tests l1 = tt
+log-tests l12 = tt
+log-tests l2 = tt
+log-tests l123 = tt
+log-tests l23 = tt
+log-tests l3 = tt
+log-tests l14 = tt
+log-tests l4 = tt
+
+module _ (i a : Bool) where
+  log-fine : (l : Log) → T (properKinds i a (kindsIn l)) → T (fine 0 i a (kindsIn l))
+  log-fine l =
+      mp (properKinds i a (kindsIn l)) (fine 0 i a (kindsIn l))
+      (at-bool (λ a. properKinds i a (kindsIn l) ⇒ fine 0 i a (kindsIn l)) (at-bool (λ i. allBool (λ a. properKinds i a (kindsIn l) ⇒ fine 0 i a (kindsIn l))) (log-tests l) i) a)
+
+  to-tidy : (ks js ms : List ℕ) → ms ≡ ks ++ js → T (leb (length js) 1) → T (fine 0 i a ms) → T (tidy 0 i a ks js)
+  to-tidy ks js ms e u t = and-true2 (fine 0 i a (ks ++ js)) (leb (length js) 1) (subst (λ (l : List ℕ). T (fine 0 i a l)) e t) u
+
+  log-tidy : (l : Log) → T (properKinds i a (kindsIn l)) → T (tidy 0 i a (kindsIn l) [])
+  log-tidy l p = to-tidy (kindsIn l) [] (kindsIn l) (sym (append-nil (kindsIn l))) tt (log-fine l p)
+
+initial-tidy : (i a b : Bool) → T (not b || i) → T (tidy 0 i a [] (kindIf b 1))
+unfolding recordKindAt any same sequences
+initial-tidy i a false t = tt
+initial-tidy true a true t = tt
+initial-tidy false a true t = absurd t
+
+collecting-tidy : (i a b : Bool) → T (tidy 0 i a (kindsIn (initLog i)) (kindIf b 2))
+unfolding recordKindAt any same sequences
+collecting-tidy true a true = tt
+collecting-tidy true a false = tt
+collecting-tidy false a true = tt
+collecting-tidy false a false = tt
+
+-- with an unforced end record
+closing-tidy : (i a : Bool) (o : Outcome) (l : Log) → T (logFits i o (resting true) (classOf l)) → T (sameOutcome o abort || a) → T (properKinds i a (kindsIn l))
+    → T (tidy 0 i a (kindsIn l) (endRecord o ∷ []))
+closing-tidy i a o l f k p = to-tidy i a (kindsIn l) (endRecord o ∷ []) (kindsIn (closed l)) (closed-kinds i o l f) tt (log-fine i a (closed l) (closed-proper i a o l f k p))
+
+standing-tidy : (g : Cohort) (h : Standing) → T (standingFits (writesInit g) h) → SetsFit g h → T (properLog (writesInit g) (awaitsCommit g) h)
+    → T (tidy 0 (writesInit g) (awaitsCommit g) (stableAt (writesInit g) h) (unforcedAt h))
+standing-tidy g (never u) f e p = tt
+standing-tidy g (initial b) f e p = initial-tidy (writesInit g) (awaitsCommit g) b f
+standing-tidy g (collecting w b) f e p = collecting-tidy (writesInit g) (awaitsCommit g) b
+standing-tidy g (decided o (waiting w) l) f e p = log-tidy (writesInit g) (awaitsCommit g) l p
+standing-tidy g (decided o (resting true) l) f e p = closing-tidy (writesInit g) (awaitsCommit g) o l f (may-close g o l e) p
+standing-tidy g (decided o (resting false) l) f e p = log-tidy (writesInit g) (awaitsCommit g) l p
+standing-tidy g (decided o down l) f e p = log-tidy (writesInit g) (awaitsCommit g) l p
+
+-- ---- the records of transaction t at site s
+
+abbrev pub cohortIn : Run → ℕ → Cohort
+cohortIn r t = r .transaction t .cohort
+
+-- t has records at s only if it is opened and s takes part in it
+pub record Known (r : Run) (t s : ℕ) : Type 0 where
+  pub number : t < 8
+  pub opens : opened r t ≡ true
+  pub takes : takesPart r t s ≡ true
+
+pub record Kinds (r : Run) (t s : ℕ) : Type 0 where
+  pub stable : List ℕ
+  pub unforced : List ℕ
+  pub is-stable : own t (r .site s .stable) ≡ map (entry (cohortIn r t) t s) stable
+  pub is-unforced : own t (r .site s .unforced) ≡ map (entry (cohortIn r t) t s) unforced
+  pub tidies : T (tidy s (writesInit (cohortIn r t)) (awaitsCommit (cohortIn r t)) stable unforced)
+  pub known : (stable ++ unforced ≡ []) ⊎ Known r t s
+
+never-none : (i : Bool) (h : Standing) → isNever h ≡ true → stableAt i h ++ unforcedAt h ≡ []
+never-none i (never u) e = refl
+never-none i (initial b) e = absurd (false≢true e)
+never-none i (collecting w b) e = absurd (false≢true e)
+never-none i (decided o pace l) e = absurd (false≢true e)
+
+not-empty : (m p : ℕ) → member p m ≡ true → empty m ≡ false
+not-empty m p e = go (empty m) refl
+  where
+    go : (b : Bool) → empty m ≡ b → empty m ≡ false
+    go true f = absurd (empty-none m p (of-true f) (of-true e))
+    go false f = f
+
+module _ (t : ℕ) (ms : List Moment) (r : Run) (h : Standing) (mid : Mid t h (view t ms r)) where
+  known-as : (s : ℕ) → empty (cohortIn r t .members) ≡ false → takesPart r t s ≡ true → Known r t s
+  unfolding view opened
+  known-as s e k = record { number = mid .number e; opens = ap not e; takes = k }
+
+  kinds-0 : Kinds r t 0
+  unfolding view siteView
+  kinds-0 =
+      record {
+        stable = stableAt (writesInit (cohortIn r t)) h;
+        unforced = unforcedAt h;
+        is-stable = ap (λ (x : Site). x .stable) (mid .log);
+        is-unforced = ap (λ (x : Site). x .unforced) (mid .log);
+        tidies = standing-tidy (cohortIn r t) h (mid .fit) (mid .sets) (mid .proper);
+        known = go (empty (cohortIn r t .members)) refl;
+      }
+    where
+      go : (b : Bool) → empty (cohortIn r t .members) ≡ b → (stableAt (writesInit (cohortIn r t)) h ++ unforcedAt h ≡ []) ⊎ Known r t 0
+      go true e = inl (never-none (writesInit (cohortIn r t)) h (mid .opened ∙ e))
+      go false e = inr (known-as 0 e (unfold takesPart in refl))
+
+  kinds-n : (n : ℕ) → Kinds r t (suc n)
+  unfolding view siteView
+  kinds-n n = go (member (suc n) (cohortIn r t .members)) refl (mid .places n)
+    where
+      go : (b : Bool) → member (suc n) (cohortIn r t .members) ≡ b → Place b t (stageOf h (suc n)) n (view t ms r) → Kinds r t (suc n)
+      go true e x =
+          record {
+            stable = stableKinds (x .status);
+            unforced = unforcedKinds (x .status);
+            is-stable = ap (λ (y : Site). y .stable) (x .site);
+            is-unforced = ap (λ (y : Site). y .unforced) (x .site);
+            tidies = status-tidy n (writesInit (cohortIn r t)) (awaitsCommit (cohortIn r t)) (x .status);
+            known = inr (known-as (suc n) (not-empty (cohortIn r t .members) (suc n) e) (unfold takesPart in e));
+          }
+      go false e x =
+          record { stable = []; unforced = []; is-stable = x .stable; is-unforced = x .unforced; tidies = tt; known = inl refl }
+
+  pub kinds-at : (s : ℕ) → Kinds r t s
+  kinds-at zero = kinds-0
+  kinds-at (suc n) = kinds-n n
+
+  -- an opened transaction's cohort is in range
+  pub opened-ranged : opened r t ≡ true → (t < 8) × Ranged (cohortIn r t)
+  unfolding view opened empty
+  opened-ranged e =
+      let some : empty (cohortIn r t .members) ≡ false = not-true _ e in
+      (mid .number some, record { some = positive (cohortIn r t .members) (eqb-false (cohortIn r t .members) 0 some); byte = mid .byte; part = mid .part })
+    where
+      positive : (m : ℕ) → (m ≡ 0 → ⊥) → 1 ≤ m
+      positive zero k = absurd (k refl)
+      positive (suc m) k = omega arith

@@ -1,0 +1,232 @@
+-- Logs whose records of each transaction are its entries, in order: no refusal strikes them.
+use Prim.Native.Nat.{ℕ, zero, suc, _≤_, _<_}
+use mathlib.Core.Path.{_≡_, refl, sym, ap, ap₂, _∙_, subst}
+use mathlib.Core.Logic.{_⊎_, inl, inr, ⊎-elim}
+use mathlib.Core.Bool.{Bool, true, false, cond, not, _&&_, _||_}
+use mathlib.Core.List.{List, [], _∷_, _++_, map, append-nil, map-append}
+use lib.ListN.{length}
+use lib.Dec.{T, eqb, leb}
+use native.Mathlib.Omega.{arith}
+use borrow.Author.Tests.{eq-eqb, le-leb, le-ltb, eqb-true}
+use Rattle.codec.specs.Lists.{select, any, all, every, same, first}
+use Rattle.codec.specs.Sets.{member, empty, minus, part}
+use Rattle.codec.specs.Records.{LogRecord, bytesOf, recordOf, lengths, lengthOf, membersIn, presumeCommitIn, awaitsAcks, recordKindAt, masksInRange, fieldsInRange, isRecord, sequences, agrees, ofTransaction, inSequence, recordTests, recordRefusals}
+use Rattle.codec.specs.Image.{most, overLimit, logRefusals}
+use Rattle.codec.specs.laws.Tests.{and-left, and-right, true-of, lt-or-le}
+use Rattle.codec.specs.laws.Masks.{those-alike}
+use Rattle.codec.specs.laws.Fields.{no-kind-high}
+use Rattle.site.specs.Presumption.{commit, presumptionNumber, presumedAbort, presumedCommit, acks}
+use Rattle.site.specs.Cohort.{Cohort, masksOf, presumptionOf, owing}
+use Rattle.joint.proofs.view.Updates.{select-append}
+use Rattle.joint.proofs.safety.Invariant.{writesInit, awaitsCommit, fieldsAt, entry}
+use Rattle.joint.proofs.safety.Crashes.{and-true2}
+use Rattle.joint.proofs.safety.Counts.{own, own-head}
+
+-- ---- kinds
+
+-- kind k may stand behind the kinds ks of its transaction at site s; i: record 1 is written at begin, a: acks are owed for a commit
+abbrev pub mayStand : ℕ → Bool → Bool → List ℕ → ℕ → Bool
+mayStand s i a ks k = recordKindAt s k && ((not (eqb k 1) || i) && ((not (eqb k 3) || a) && any (same (ks ++ (k ∷ []))) sequences))
+
+abbrev pub inOrder : ℕ → Bool → Bool → List ℕ → List ℕ → Bool
+inOrder s i a ks [] = true
+inOrder s i a ks (j ∷ js) = mayStand s i a ks j && inOrder s i a (ks ++ (j ∷ [])) js
+
+pub order-front : (s : ℕ) (i a : Bool) (ks js ms : List ℕ) → T (inOrder s i a ks (js ++ ms)) → T (inOrder s i a ks js)
+order-front s i a ks [] ms t = tt
+order-front s i a ks (j ∷ js) ms t =
+    and-true2 (mayStand s i a ks j) _ (and-left (mayStand s i a ks j) _ t) (order-front s i a (ks ++ (j ∷ [])) js ms (and-right (mayStand s i a ks j) _ t))
+
+-- ---- a cohort in range, and its entries
+
+pub record Ranged (g : Cohort) : Type 0 where
+  pub some : 1 ≤ g .members
+  pub byte : g .members < 256
+  pub part : part (g .presumeCommit) (g .members) ≡ true
+
+presumption-small : (g : Cohort) (s : ℕ) → leb (presumptionNumber (presumptionOf g s)) 1 ≡ true
+unfolding presumptionOf presumptionNumber
+presumption-small g s = go (member s (g .presumeCommit))
+  where
+    go : (b : Bool) → leb (presumptionNumber (cond b presumedCommit presumedAbort)) 1 ≡ true
+    go true = refl
+    go false = refl
+
+kind-below : (s k : ℕ) → T (recordKindAt s k) → k < 8
+kind-below s k a = ⊎-elim (λ h. h) (λ h. absurd (subst T (no-kind-high s k h) a)) (lt-or-le k 8)
+
+module _ (g : Cohort) (t : ℕ) (h : t < 8) (m : Ranged g) where
+  in-range : leb t 7 ≡ true
+  in-range = le-leb t 7 (omega arith)
+
+  -- members and PC of the records 1 and 2
+  masks : (k : ℕ) → masksInRange (record { kind = k; transaction = t; fields = masksOf g }) ≡ true
+  unfolding masksInRange membersIn presumeCommitIn masksOf every
+  masks k = rw (le-leb 1 (g .members) (m .some), le-leb (g .members) 255 (omega (arith, m .byte)), m .part)
+
+  entry-fields : (s k : ℕ) → k < 8 → T (recordKindAt s k) → T (not (eqb k 1) || writesInit g) → isRecord s (bytesOf (entry g t s k)) ≡ true
+  unfolding recordKindAt isRecord recordOf bytesOf every lengthOf lengths fieldsInRange masksOf presumeCommitIn
+  entry-fields zero zero l a b = absurd a
+  entry-fields zero (suc zero) l a b = rw (in-range, masks 1, true-of (not (empty (g .presumeCommit))) b)
+  entry-fields zero (suc (suc zero)) l a b = rw (in-range, masks 2)
+  entry-fields zero (suc (suc (suc zero))) l a b = rw in-range
+  entry-fields zero (suc (suc (suc (suc zero)))) l a b = rw in-range
+  entry-fields zero (suc (suc (suc (suc (suc zero))))) l a b = absurd a
+  entry-fields zero (suc (suc (suc (suc (suc (suc zero)))))) l a b = absurd a
+  entry-fields zero (suc (suc (suc (suc (suc (suc (suc zero))))))) l a b = absurd a
+  entry-fields (suc s) zero l a b = absurd a
+  entry-fields (suc s) (suc zero) l a b = absurd a
+  entry-fields (suc s) (suc (suc zero)) l a b = absurd a
+  entry-fields (suc s) (suc (suc (suc zero))) l a b = absurd a
+  entry-fields (suc s) (suc (suc (suc (suc zero)))) l a b = absurd a
+  entry-fields (suc s) (suc (suc (suc (suc (suc zero))))) l a b = rw (in-range, presumption-small g (suc s))
+  entry-fields (suc s) (suc (suc (suc (suc (suc (suc zero)))))) l a b = rw in-range
+  entry-fields (suc s) (suc (suc (suc (suc (suc (suc (suc zero))))))) l a b = rw in-range
+  entry-fields s (suc (suc (suc (suc (suc (suc (suc (suc k)))))))) l a b = absurd (omega (arith, l))
+
+  entry-record : (s k : ℕ) → T (recordKindAt s k) → T (not (eqb k 1) || writesInit g) → isRecord s (bytesOf (entry g t s k)) ≡ true
+  entry-record s k a b = entry-fields s k (kind-below s k a) a b
+
+-- ---- the order of a transaction's entries
+
+owing-minus : (g : Cohort) → owing g commit ≡ minus (g .members) (g .presumeCommit)
+unfolding owing minus presumptionOf acks
+owing-minus g =
+    those-alike (λ p. member p (g .members) && acks (presumptionOf g p) commit) (λ p. member p (g .members) && not (member p (g .presumeCommit)))
+    (λ i h. ap (λ (b : Bool). member (suc i) (g .members) && b) (go (member (suc i) (g .presumeCommit))))
+  where
+    go : (b : Bool) → acks (cond b presumedCommit presumedAbort) commit ≡ not b
+    go true = refl
+    go false = refl
+
+same-self : (l : List ℕ) → same l l ≡ true
+unfolding same
+same-self [] = refl
+same-self (n ∷ l) = rw (eq-eqb n n refl, same-self l)
+
+module _ (g : Cohort) (t s : ℕ) where
+  awaits : awaitsAcks (entry g t s 2) ≡ awaitsCommit g
+  unfolding awaitsAcks membersIn presumeCommitIn masksOf
+  awaits = rw (owing-minus g)
+
+  entries-agree : (j k : ℕ) → T (not (eqb k 3) || awaitsCommit g) → agrees (entry g t s j) (entry g t s k) ≡ true
+  unfolding agrees
+  entries-agree j k a = ap₂ _&&_ (one (eqb j 1) (eqb k 2) refl refl) (two (eqb j 2) (eqb k 3) refl refl a)
+    where
+      one : (b c : Bool) → eqb j 1 ≡ b → eqb k 2 ≡ c → (not (b && c) || same (fieldsAt g s j) (fieldsAt g s k)) ≡ true
+      one true true e f = rw (eqb-true j 1 e, eqb-true k 2 f) (same-self (masksOf g))
+      one true false e f = refl
+      one false c e f = refl
+
+      two : (b c : Bool) → eqb j 2 ≡ b → eqb k 3 ≡ c → T (not c || awaitsCommit g) → (not (b && c) || awaitsAcks (entry g t s j)) ≡ true
+      two true true e f a = rw (eqb-true j 2 e, awaits) (true-of (awaitsCommit g) a)
+      two true false e f a = refl
+      two false c e f a = refl
+
+  kinds-of : (ks : List ℕ) → map (λ (y : LogRecord). y .kind) (map (entry g t s) ks) ≡ ks
+  kinds-of [] = refl
+  kinds-of (k ∷ ks) = ap (k ∷_) (kinds-of ks)
+
+  all-agree : (k : ℕ) → T (not (eqb k 3) || awaitsCommit g) → (ks : List ℕ) → all (λ y. agrees y (entry g t s k)) (map (entry g t s) ks) ≡ true
+  unfolding all
+  all-agree k a [] = refl
+  all-agree k a (j ∷ ks) = rw (entries-agree j k a, all-agree k a ks)
+
+  entry-follows : (before : List LogRecord) (ks : List ℕ) (k : ℕ) → own t before ≡ map (entry g t s) ks → T (not (eqb k 3) || awaitsCommit g)
+      → T (any (same (ks ++ (k ∷ []))) sequences) → inSequence before (entry g t s k) ≡ true
+  unfolding inSequence
+  entry-follows before ks k e a b = rw (e, kinds-of ks, all-agree k a ks, true-of (any (same (ks ++ (k ∷ []))) sequences) b)
+
+-- ---- logs
+
+module _ (g : ℕ → Cohort) (s : ℕ) where
+  -- of transaction t: the kinds of the records before, and of those that follow
+  pub record Follows (t : ℕ) (before log : List LogRecord) : Type 0 where
+    pub earlier : List ℕ
+    pub later : List ℕ
+    pub is-earlier : own t before ≡ map (entry (g t) t s) earlier
+    pub is-later : own t log ≡ map (entry (g t) t s) later
+    pub orderly : T (inOrder s (writesInit (g t)) (awaitsCommit (g t)) earlier later)
+    pub ranged : (later ≡ []) ⊎ ((t < 8) × Ranged (g t))
+
+  own-one : (x : LogRecord) → own (x .transaction) (x ∷ []) ≡ x ∷ []
+  own-one x = own-head x [] ∙ unfold select in refl
+
+  record Head (x : LogRecord) (before log : List LogRecord) : Type 0 where
+    fits : isRecord s (bytesOf x) ≡ true
+    follows : inSequence before x ≡ true
+    rest : Follows (x .transaction) (before ++ (x ∷ [])) log
+
+  head-of : (x : LogRecord) (before log : List LogRecord) → Follows (x .transaction) before (x ∷ log) → Head x before log
+  head-of x before log f = go (f .later) (sym (own-head x log) ∙ f .is-later) (f .orderly) (f .ranged)
+    where
+      u : ℕ
+      u = x .transaction
+
+      put : ℕ → LogRecord
+      put = entry (g u) u s
+
+      i : Bool
+      i = writesInit (g u)
+
+      a : Bool
+      a = awaitsCommit (g u)
+
+      seen : (k : ℕ) → x ≡ put k → own u (before ++ (x ∷ [])) ≡ map put (f .earlier ++ (k ∷ []))
+      seen k e =
+          select-append (ofTransaction u) before (x ∷ []) ∙ ap₂ _++_ (f .is-earlier) (own-one x ∙ ap (λ (y : LogRecord). y ∷ []) e) ∙ sym (map-append put (f .earlier) (k ∷ []))
+
+      go : (ks : List ℕ) → x ∷ own u log ≡ map put ks → T (inOrder s i a (f .earlier) ks) → (ks ≡ []) ⊎ ((u < 8) × Ranged (g u)) → Head x before log
+      go [] e o r = absurd (omega (arith, ap length e))
+      go (k ∷ ks) e o (inl q) = absurd (omega (arith, ap length q))
+      go (k ∷ ks) e o (inr r) =
+          let here : x ≡ put k = cc in
+          let stands = and-left (mayStand s i a (f .earlier) k) _ o in
+          let kind = and-left (recordKindAt s k) _ stands in
+          let others = and-right (recordKindAt s k) _ stands in
+          let first = and-left (not (eqb k 1) || i) _ others in
+          let last = and-right (not (eqb k 1) || i) _ others in
+          record {
+            fits = subst (λ (y : LogRecord). isRecord s (bytesOf y) ≡ true) (sym here) (entry-record (g u) u (r .0) (r .1) s k kind first);
+            follows = subst (λ (y : LogRecord). inSequence before y ≡ true) (sym here) (entry-follows (g u) u s before (f .earlier) k (f .is-earlier) (and-left (not (eqb k 3) || a) _ last) (and-right (not (eqb k 3) || a) _ last));
+            rest =
+                record {
+                  earlier = f .earlier ++ (k ∷ []);
+                  later = ks;
+                  is-earlier = seen k here;
+                  is-later = cc;
+                  orderly = and-right (mayStand s i a (f .earlier) k) _ o;
+                  ranged = inr r;
+                };
+          }
+
+  -- a record of another transaction
+  passed-by : (t : ℕ) (x : LogRecord) (before log : List LogRecord) → ofTransaction t x ≡ false → Follows t before (x ∷ log) → Follows t (before ++ (x ∷ [])) log
+  unfolding select
+  passed-by t x before log e f =
+      record {
+        earlier = f .earlier;
+        later = f .later;
+        is-earlier = rw (select-append, e, append-nil) (f .is-earlier);
+        is-later = rw e at (f .is-later);
+        orderly = f .orderly;
+        ranged = f .ranged;
+      }
+
+  next : (x : LogRecord) (before log : List LogRecord) → ((t : ℕ) → Follows t before (x ∷ log)) → (t : ℕ) → Follows t (before ++ (x ∷ [])) log
+  next x before log f t = go (ofTransaction t x) refl
+    where
+      go : (b : Bool) → ofTransaction t x ≡ b → Follows t (before ++ (x ∷ [])) log
+      go true e = subst (λ (u : ℕ). Follows u (before ++ (x ∷ [])) log) (eqb-true (x .transaction) t (unfold ofTransaction in e)) (head-of x before log (f (x .transaction)) .rest)
+      go false e = passed-by t x before log e (f t)
+
+  records-pass : (before log : List LogRecord) → ((t : ℕ) → Follows t before log) → first (recordRefusals s before (map bytesOf log)) ≡ 0
+  unfolding recordOf bytesOf recordRefusals recordTests first
+  records-pass before [] f = refl
+  records-pass before (x ∷ log) f =
+      let here = head-of x before log (f (x .transaction)) in
+      rw (here .fits, here .follows) (records-pass (before ++ (x ∷ [])) log (next x before log f))
+
+  pub log-passes : (log : List LogRecord) → s ≤ 8 → length log ≤ most s → ((t : ℕ) → Follows t [] log) → first (logRefusals s log) ≡ 0
+  unfolding logRefusals overLimit first
+  log-passes log small few f = rw (le-ltb 8 s small, le-ltb (most s) (length log) few) (records-pass [] log f)
