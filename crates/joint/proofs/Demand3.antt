@@ -3,29 +3,28 @@ use Prim.Native.Nat.{ℕ, zero, suc}
 use mathlib.Core.Path.{_≡_, refl, sym, ap, _∙_, subst}
 use mathlib.Core.Bool.{Bool, true, false, cond, not, _&&_, _||_, true≢false}
 use mathlib.Core.List.{List, [], _∷_, _++_, append-assoc}
-use lib.Dec.{T, eqb}
+use lib.Dec.{T}
 use borrow.Author.Tests.{eq-eqb}
 use Rattle.codec.specs.Lists.{any, every}
-use Rattle.codec.specs.Sets.{member, empty}
-use Rattle.codec.specs.laws.Tests.{and-left, and-right, true-of, of-true, every-at}
-use Rattle.site.specs.Presumption.{Outcome, commit, abort, sameOutcome, Presumption, silence}
+use Rattle.codec.specs.Sets.{member}
+use Rattle.codec.specs.laws.Tests.{true-of, of-true}
+use Rattle.site.specs.Presumption.{Outcome, commit, abort, sameOutcome, silence}
 use Rattle.site.specs.Cohort.{Cohort, presumptionOf}
 use Rattle.site.specs.Step.{prepare}
 use Rattle.site.specs.Coordinator.{Coordinator}
 use Rattle.joint.specs.State.{Run, Site, fresh, holds}
 use Rattle.joint.specs.Run.{event, after}
 use Rattle.joint.specs.Safety.{Moment, happened, history, along, isEntry, isVote, isReply, inDoubt, commitStable, outcome, Happens, Safe, Demand3}
-use Rattle.joint.proofs.History.{history-snoc, any-append}
-use Rattle.joint.proofs.Moments.{any-found, any-more, any-middle, Placed, placed, moment-start, moment-cohort}
+use Rattle.joint.proofs.History.{history-snoc}
+use Rattle.joint.proofs.Moments.{any-found, any-more, any-middle, placed, moment-start, moment-cohort}
 use Rattle.joint.proofs.EventMoments.{reply-silence}
 use Rattle.joint.proofs.view.View.{View, siteView, isEntryAt, view}
 use Rattle.joint.proofs.view.Acts.{holds-select}
-use Rattle.joint.proofs.safety.Tables.{Status, stableKinds, has, doubtful, agrees, isWorking, Stage, asking, done, fits, mayEnter}
-use Rattle.joint.proofs.safety.Passes.{or-left, or-right}
+use Rattle.joint.proofs.safety.Tables.{Status, stableKinds, has, doubtful, agrees, isWorking, Stage, done, mayEnter}
 use Rattle.joint.proofs.safety.Sets.{empty-none, no-zero}
 use Rattle.joint.proofs.safety.Local.{holds-kinds}
 use Rattle.joint.proofs.safety.Invariant.{Log, waiting, resting, down, Standing, never, initial, collecting, decided, stageOf, hasDecided, sentIn, Member, Place, Mid, Inv}
-use Rattle.joint.proofs.safety.Steps.{cohortOf, both-ways, same-outcome}
+use Rattle.joint.proofs.safety.Steps.{cohortOf, same-outcome}
 use Rattle.joint.proofs.safety.Crashes.{refl-outcome}
 use Rattle.joint.proofs.safety.Tracked.{seenAfter, next-kept, Tracked, tracked, track-later}
 

@@ -1,25 +1,24 @@
 -- The coordinator's rows that begin, count votes and commit.
 use Prim.Native.Nat.{ℕ, zero, suc, _<_}
-use mathlib.Core.Path.{_≡_, refl, sym, ap, _∙_, subst}
-use mathlib.Core.Bool.{Bool, true, false, cond, not, _&&_, _||_, true≢false}
+use mathlib.Core.Path.{_≡_, refl, sym, subst}
+use mathlib.Core.Bool.{Bool, true, false, not, _&&_, _||_, true≢false}
 use mathlib.Core.List.{List, [], _∷_, _++_, map, append-nil, map-append}
 use lib.Dec.{T, eqb}
 use borrow.Author.Tests.{eqb-true}
-use Rattle.codec.specs.Sets.{member, empty, without, those}
-use Rattle.codec.specs.laws.Tests.{and-left, and-right, true-of}
+use Rattle.codec.specs.Sets.{member, empty, without}
+use Rattle.codec.specs.laws.Tests.{and-left, true-of}
 use Rattle.codec.specs.laws.Masks.{those-below}
 use Rattle.site.specs.Presumption.{Outcome, commit, abort, sameOutcome, Presumption, presumedAbort, presumedCommit, acks, silence}
 use Rattle.site.specs.Cohort.{Cohort, masksOf, presumptionOf, owing}
 use Rattle.site.specs.Step.{prepare, voteYes, tell, Effect, append, force, enter, send, given}
-use Rattle.site.specs.Coordinator.{Coordinator, inTurn, inOrder, tellAll, untilAcked}
-use Rattle.joint.specs.State.{Site, appended, forced}
+use Rattle.site.specs.Coordinator.{inTurn, inOrder, tellAll, untilAcked}
+use Rattle.joint.specs.State.{appended, forced}
 use Rattle.joint.proofs.view.View.{View, viewAt, viewPerform}
-use Rattle.joint.proofs.safety.Finite.{_⇒_}
-use Rattle.joint.proofs.safety.Passes.{or-left, or-right}
+use Rattle.joint.proofs.safety.Passes.{or-left}
 use Rattle.joint.proofs.safety.Sets.{of-those, member-those, member-owing, empty-none, no-zero}
-use Rattle.joint.proofs.safety.Invariant.{Log, kindsIn, classOf, waiting, resting, down, Pace, Standing, initial, collecting, decided, stageOf, hasDecided, logFits, SetsFit, writesInit, awaitsCommit, initLog, sentIn, siteWith, coordinatorAt, between, Mid}
+use Rattle.joint.proofs.safety.Invariant.{Log, kindsIn, classOf, waiting, resting, Pace, Standing, initial, collecting, decided, hasDecided, logFits, writesInit, awaitsCommit, initLog, sentIn, siteWith, coordinatorAt, between, Mid}
 use Rattle.joint.proofs.safety.Logs.{commitLog, end-unwritten, commit-proper}
-use Rattle.joint.proofs.safety.Steps.{cohortOf, PassesAt, From, Shift, standsAs, stay, stand}
+use Rattle.joint.proofs.safety.Steps.{cohortOf, From, Shift}
 use Rattle.joint.proofs.safety.Crashes.{refl-outcome, from-same, from-none, commit-has, commit-kinds, and-true2, not-true}
 use Rattle.joint.proofs.safety.Runs.{Each, Addressee, Node, Runs, node-stay, append-run, force-run, enter-run, sends-run, each-in-turn, each-ordered}
 

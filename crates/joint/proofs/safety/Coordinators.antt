@@ -1,28 +1,27 @@
 -- Each row of the coordinator, whole or cut, keeps the invariant.
-use Prim.Native.Nat.{ℕ, zero, suc, _<_}
+use Prim.Native.Nat.{ℕ, zero, suc}
 use mathlib.Core.Path.{_≡_, refl, sym, ap, _∙_, subst}
 use mathlib.Core.Bool.{Bool, true, false, not, _&&_, _||_, true≢false}
-use mathlib.Core.List.{List, [], _∷_, _++_}
-use mathlib.Core.Option.{Option, none, some, Option·none-ne-some, Option·some-injective}
+use mathlib.Core.Option.{none, some, Option·none-ne-some, Option·some-injective}
 use lib.Dec.{T, eqb}
 use borrow.Author.Tests.{eqb-true}
-use Rattle.codec.specs.Sets.{member, empty, without, both}
-use Rattle.codec.specs.laws.Tests.{and-left, and-right, true-of, of-true}
+use Rattle.codec.specs.Sets.{member, empty, without}
+use Rattle.codec.specs.laws.Tests.{true-of, of-true}
 use Rattle.site.specs.Presumption.{Outcome, commit, abort, sameOutcome, silence}
 use Rattle.site.specs.Cohort.{Cohort, presumptionOf, owing}
-use Rattle.site.specs.Step.{Message, prepare, voteYes, voteNo, tell, ack, Input, begin, timer, received, Effect, Row, given}
-use Rattle.site.specs.Coordinator.{Coordinator, preparing, onBegin, committing, voted, onYes, telling, aborting, onNo, coordinatorTimer, acked, ackedIf, onAck, coordinatorStep, untilAcked, tellAll}
+use Rattle.site.specs.Step.{prepare, voteYes, voteNo, tell, ack, Input, begin, timer, received, Row}
+use Rattle.site.specs.Coordinator.{Coordinator, preparing, onBegin, committing, voted, onYes, telling, aborting, onNo, coordinatorTimer, acked, ackedIf, onAck, coordinatorStep, tellAll}
 use Rattle.joint.specs.State.{Site, withCoordinator}
 use Rattle.joint.proofs.view.View.{View, viewSettle}
 use Rattle.joint.proofs.view.Turn.{Carried, Given, Up, Opened}
 use Rattle.joint.proofs.safety.Passes.{or-left, or-right}
 use Rattle.joint.proofs.safety.Sets.{member-those, owing-member, no-zero, not-empty, owes-abort}
-use Rattle.joint.proofs.safety.Invariant.{Log, waiting, resting, down, Pace, Standing, never, initial, collecting, decided, SetsFit, writesInit, awaitsCommit, initLog, coordinatorAt, between, sentIn, Mid, Inv}
+use Rattle.joint.proofs.safety.Invariant.{Log, waiting, resting, down, Standing, never, initial, collecting, decided, SetsFit, writesInit, initLog, coordinatorAt, between, sentIn, Mid, Inv}
 use Rattle.joint.proofs.safety.Logs.{commitLog}
 use Rattle.joint.proofs.safety.Steps.{cohortOf, same-outcome, both-ways}
 use Rattle.joint.proofs.safety.Crashes.{Next}
 use Rattle.joint.proofs.safety.Runs.{Node, Runs, node-stay, row-next}
-use Rattle.joint.proofs.safety.Commits.{begin-run, counts, commit-run, untilAckedAs, until-acked, until-phase, until-between, without-part}
+use Rattle.joint.proofs.safety.Commits.{begin-run, counts, commit-run, untilAckedAs, until-phase, until-between, without-part}
 use Rattle.joint.proofs.safety.Ends.{abort-run, awaited, abortedAs, aborted-phase, aborted-between, end-run, hears, tell-run, tell-all-run, reply-run}
 
 -- ---- the row that a step gives

@@ -80,7 +80,7 @@ counted n (x ∷ xs) a =
       arith,
       counted n xs (a .1),
       sum-more n (x .transaction) (λ t. length (own t xs)) (λ t. length (own t (x ∷ xs))) (λ t. more-own (ofTransaction t x) x (own t xs))
-      (rw (own-head x xs) (omega arith)) (a .0),
+          (rw (own-head x xs) (omega arith)) (a .0),
     )
 
 -- with at most k of each transaction

@@ -1,27 +1,24 @@
 -- The coordinator loses power: from each standing, in the middle of a row too, with each keep.
 use Prim.Native.Nat.{ℕ, zero, suc}
-use mathlib.Core.Path.{_≡_, refl, sym, ap, _∙_, subst}
+use mathlib.Core.Path.{_≡_, refl, sym, subst}
 use mathlib.Core.Logic.{_⊎_, inl, inr, ⊎-elim}
 use mathlib.Core.Bool.{Bool, true, false, cond, not, _&&_, _||_}
-use mathlib.Core.List.{List, [], _∷_, _++_, map, append-nil, map-append}
+use mathlib.Core.List.{List, [], _∷_, _++_, append-nil, map-append}
 use lib.ListN.{take}
 use lib.Dec.{T}
 use Rattle.codec.specs.Lists.{any}
-use Rattle.codec.specs.Records.{LogRecord}
 use Rattle.codec.specs.Sets.{member, empty}
-use Rattle.codec.specs.laws.Tests.{same-list, true-of}
 use Rattle.site.specs.Presumption.{Outcome, commit, abort, sameOutcome, presumedAbort, presumedCommit, silence}
 use Rattle.site.specs.Cohort.{Cohort, presumptionOf}
 use Rattle.site.specs.Coordinator.{Coordinator, endRecord}
-use Rattle.joint.specs.State.{Site, stopped, withCoordinator, forgotten}
+use Rattle.joint.specs.State.{stopped, withCoordinator, forgotten}
 use Rattle.joint.proofs.view.View.{View, viewAt, viewSettle, viewDown}
 use Rattle.joint.proofs.safety.Tables.{has}
-use Rattle.joint.proofs.safety.Finite.{_⇒_, mp, allOf, allBool, at-bool, allOutcome, at-outcome}
-use Rattle.joint.proofs.safety.Passes.{or-left, or-right}
+use Rattle.joint.proofs.safety.Finite.{_⇒_}
 use Rattle.joint.proofs.safety.Sets.{empty-none}
-use Rattle.joint.proofs.safety.Invariant.{Log, l0, l1, kindsIn, classOf, resumed, waiting, resting, down, Pace, Standing, never, initial, collecting, decided, stageOf, hasDecided, logFits, standingFits, properKinds, properLog, awaitsCommit, SetsFit, writesInit, initLog, standingUp, stableAt, unforcedAt, coordinatorAt, between, entry, siteWith, Mid, Inv}
+use Rattle.joint.proofs.safety.Invariant.{Log, l0, l1, kindsIn, classOf, resumed, waiting, resting, down, Pace, Standing, never, initial, collecting, decided, hasDecided, logFits, properKinds, properLog, awaitsCommit, SetsFit, writesInit, initLog, stableAt, coordinatorAt, between, siteWith, Mid, Inv}
 use Rattle.joint.proofs.safety.Logs.{closed, commitLog, waiting-down, resting-down, closed-fits, closed-kinds, abort-unwritten, closed-has, closed-proper, may-close, initial-proper, commit-proper}
-use Rattle.joint.proofs.safety.Steps.{cohortOf, PassesAt, From, Shift, move, standsAs, stand, settle-mid}
+use Rattle.joint.proofs.safety.Steps.{cohortOf, From, Shift, move, standsAs, stand, settle-mid}
 
 -- ---- a turn's result: the standing after it
 

@@ -1,27 +1,27 @@
 -- The coordinator's rows that abort, tell the outcome again, and hear acks.
-use Prim.Native.Nat.{ℕ, zero, suc, _<_}
+use Prim.Native.Nat.{ℕ, zero, suc}
 use mathlib.Core.Path.{_≡_, refl, sym, ap, _∙_, subst}
-use mathlib.Core.Bool.{Bool, true, false, cond, not, _&&_, _||_}
-use mathlib.Core.List.{List, [], _∷_, _++_, map, append-nil}
+use mathlib.Core.Bool.{Bool, true, false, not, _&&_, _||_}
+use mathlib.Core.List.{List, [], _∷_, _++_, append-nil}
 use lib.Dec.{T, eqb}
 use borrow.Author.Tests.{eqb-true}
 use Rattle.codec.specs.Sets.{member, empty, without, both}
-use Rattle.codec.specs.laws.Tests.{and-left, and-right, true-of}
+use Rattle.codec.specs.laws.Tests.{and-right, true-of}
 use Rattle.codec.specs.laws.Masks.{those-below}
-use Rattle.site.specs.Presumption.{Outcome, commit, abort, sameOutcome, Presumption, presumedAbort, presumedCommit, acks, silence}
+use Rattle.site.specs.Presumption.{Outcome, commit, abort, sameOutcome, acks, silence}
 use Rattle.site.specs.Cohort.{Cohort, presumptionOf, owing}
-use Rattle.site.specs.Step.{Message, voteYes, voteNo, tell, ack, Effect, append, force, enter, send, given}
-use Rattle.site.specs.Coordinator.{Coordinator, endRecord, inOrder, tellAll, untilAcked}
+use Rattle.site.specs.Step.{voteYes, voteNo, tell, ack, Effect, append, enter, send, given}
+use Rattle.site.specs.Coordinator.{endRecord, inOrder, tellAll, untilAcked}
 use Rattle.joint.specs.State.{appended}
-use Rattle.joint.proofs.view.View.{View, viewAt, viewPerform}
+use Rattle.joint.proofs.view.View.{View}
 use Rattle.joint.proofs.safety.Passes.{or-left, or-right}
-use Rattle.joint.proofs.safety.Sets.{of-those, member-those, member-owing, owing-member, empty-none, none-empty, no-zero}
-use Rattle.joint.proofs.safety.Invariant.{Log, kindsIn, classOf, waiting, resting, down, Pace, Standing, initial, collecting, decided, stageOf, hasDecided, logFits, SetsFit, writesInit, awaitsCommit, initLog, sentIn, siteWith, coordinatorAt, between, Mid}
-use Rattle.joint.proofs.safety.Logs.{end-written, end-unwritten, initial-proper}
-use Rattle.joint.proofs.safety.Steps.{cohortOf, PassesAt, From, Shift, standsAs, stay, stand}
-use Rattle.joint.proofs.safety.Crashes.{begun, refl-outcome, from-same, from-none, and-true2, not-true}
-use Rattle.joint.proofs.safety.Runs.{Each, Addressee, Node, Runs, node-stay, append-run, enter-run, send-run, sends-run, each-ordered}
-use Rattle.joint.proofs.safety.Commits.{owes, was-done, without-part, told, untilAckedAs, until-acked, enter-tell}
+use Rattle.joint.proofs.safety.Sets.{of-those, member-those, member-owing, empty-none, no-zero}
+use Rattle.joint.proofs.safety.Invariant.{Log, kindsIn, classOf, waiting, resting, Pace, Standing, collecting, decided, logFits, SetsFit, writesInit, awaitsCommit, initLog, sentIn, siteWith, coordinatorAt, between, Mid}
+use Rattle.joint.proofs.safety.Logs.{end-written, initial-proper}
+use Rattle.joint.proofs.safety.Steps.{cohortOf, Shift}
+use Rattle.joint.proofs.safety.Crashes.{refl-outcome, from-same, from-none, and-true2, not-true}
+use Rattle.joint.proofs.safety.Runs.{Node, Runs, node-stay, append-run, send-run, sends-run}
+use Rattle.joint.proofs.safety.Commits.{owes, was-done, without-part, told, until-acked, enter-tell}
 
 -- ---- abort, told to the set `to`
 

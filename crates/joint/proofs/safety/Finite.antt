@@ -1,5 +1,5 @@
 -- Boolean tests over all values of the finite types, and what a passed test says of each value.
-use mathlib.Core.Bool.{Bool, true, false, _&&_, _||_}
+use mathlib.Core.Bool.{Bool, true, false, _&&_}
 use mathlib.Core.List.{List, [], _∷_}
 use Prim.Native.Nat.{ℕ, zero, suc}
 use lib.Dec.{T}
@@ -11,8 +11,8 @@ use Rattle.joint.proofs.safety.Tables.{Status, working, prepared, gone,
 abbrev pub _⇒_ : Bool → Bool → Bool
 true ⇒ b = b
 false ⇒ b = true
-infixr 20 _⇒_
 
+infixr 20 _⇒_
 pub mp : (a b : Bool) → T (a ⇒ b) → T a → T b
 mp true b t u = t
 mp false b t u = absurd u

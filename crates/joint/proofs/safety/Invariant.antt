@@ -7,7 +7,7 @@ use lib.ListN.{getD}
 use lib.Dec.{T}
 use Rattle.codec.specs.Sets.{member, empty, part}
 use Rattle.codec.specs.Records.{LogRecord}
-use Rattle.site.specs.Presumption.{Outcome, commit, abort, sameOutcome, Presumption, presumptionNumber}
+use Rattle.site.specs.Presumption.{Outcome, commit, abort, sameOutcome, presumptionNumber}
 use Rattle.site.specs.Cohort.{Cohort, masksOf, presumptionOf, owing}
 use Rattle.site.specs.Step.{Message, messageKind}
 use Rattle.site.specs.Coordinator.{Coordinator, endRecord}

@@ -1,25 +1,24 @@
 -- Each event keeps the invariant of each transaction; a decision stays; commit is decided only behind a stable record 2 and all Yes votes.
 use Prim.Native.Nat.{ℕ, zero, suc}
-use mathlib.Core.Path.{_≡_, refl, sym, ap, _∙_, subst}
+use mathlib.Core.Path.{_≡_, refl, sym, _∙_, subst}
 use mathlib.Core.Logic.{_⊎_, inl, inr, ⊎-elim}
-use mathlib.Core.Bool.{Bool, true, false, _&&_, _||_}
+use mathlib.Core.Bool.{Bool, true, false, _&&_}
 use mathlib.Core.List.{List, [], _∷_}
 use lib.ListN.{take}
 use lib.Dec.{T, eqb}
 use Rattle.codec.specs.Sets.{member}
 use Rattle.codec.specs.laws.Tests.{and-left, of-true}
 use Rattle.site.specs.Coordinator.{Coordinator}
-use Rattle.site.specs.Presumption.{Outcome, commit, abort, sameOutcome}
+use Rattle.site.specs.Presumption.{Outcome, commit}
 use Rattle.site.specs.Cohort.{Cohort}
 use Rattle.site.specs.Step.{voteYes, Effect, append, force, enter, send}
-use Rattle.joint.specs.State.{Site, forced, started, holds, withCoordinator, forgotten}
+use Rattle.joint.specs.State.{forced, holds, withCoordinator, forgotten}
 use Rattle.joint.specs.Safety.{sends}
 use Rattle.joint.proofs.view.View.{View, viewAt, viewSettle, viewPerform, viewEffects, viewDown}
 use Rattle.joint.proofs.view.Turn.{Carried, whole, cutAfter, viewStart, viewDiscard, viewForget, Turn, crashes, opens, coordinates, participates, discards, starts, fails, resumes, returns, Turns, still, turn, forces}
-use Rattle.joint.proofs.safety.Tables.{has}
 use Rattle.joint.proofs.safety.Passes.{or-either}
 use Rattle.joint.proofs.safety.Sets.{empty-none}
-use Rattle.joint.proofs.safety.Invariant.{Standing, never, initial, collecting, decided, stageOf, hasDecided, writesInit, stableAt, sentIn, Member, Place, Mid, Inv}
+use Rattle.joint.proofs.safety.Invariant.{Standing, never, initial, collecting, decided, stageOf, hasDecided, writesInit, Member, Place, Mid, Inv}
 use Rattle.joint.proofs.safety.Steps.{cohortOf, From, own-number}
 use Rattle.joint.proofs.safety.Crashes.{from-self, crash-next}
 use Rattle.joint.proofs.safety.Participants.{force-kept, crash-kept, start-kept, row-kept, discard-kept, return-kept}

@@ -1,16 +1,15 @@
 -- The coordinator's log: what a crash, a force, a discard and a restart make of it. Closed tests over the nine logs.
-use Prim.Native.Nat.{ℕ, suc}
-use mathlib.Core.Path.{_≡_, refl, ap, ap₂, _∙_, sym}
+use Prim.Native.Nat.{ℕ}
+use mathlib.Core.Path.{_≡_}
 use mathlib.Core.Bool.{Bool, true, false, not, _&&_, _||_}
-use mathlib.Core.List.{List, [], _∷_, _++_, map, append-nil}
-use lib.ListN.{take, drop}
-use lib.Dec.{T, eqb}
+use mathlib.Core.List.{List, [], _∷_, _++_}
+use lib.ListN.{drop}
+use lib.Dec.{T}
 use Rattle.codec.specs.Lists.{any, same}
 use Rattle.codec.specs.laws.Tests.{true-of, alike, alike-eq, same-list}
 use Rattle.site.specs.Presumption.{Outcome, commit, abort, sameOutcome}
 use Rattle.site.specs.Cohort.{Cohort}
 use Rattle.site.specs.Coordinator.{endRecord}
-use Rattle.joint.specs.State.{Site, appended, forced, stopped}
 use Rattle.joint.proofs.safety.Tables.{has}
 use Rattle.joint.proofs.safety.Finite.{_⇒_, mp, allOf, nth, look, allBool, at-bool, allOutcome, at-outcome}
 use Rattle.joint.proofs.safety.Passes.{or-left, or-right}

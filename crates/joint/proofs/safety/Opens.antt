@@ -1,22 +1,22 @@
 -- The opening of a transaction: nothing has happened before it, and nothing is decided.
 use Prim.Native.Nat.{ℕ, suc, _<_}
 use mathlib.Core.Path.{_≡_, refl, sym, ap, _∙_, subst}
-use mathlib.Core.Bool.{Bool, true, false, cond, not, true≢false}
-use mathlib.Core.List.{List, []}
+use mathlib.Core.Bool.{Bool, true, false, not, true≢false}
+use mathlib.Core.List.{[]}
 use lib.Dec.{T}
 use Rattle.codec.specs.Lists.{any}
 use Rattle.codec.specs.Sets.{member, empty, part}
-use Rattle.codec.specs.laws.Tests.{true-of, of-true}
-use Rattle.site.specs.Cohort.{Cohort, presumptionOf}
+use Rattle.codec.specs.laws.Tests.{of-true}
+use Rattle.site.specs.Cohort.{Cohort}
 use Rattle.site.specs.Step.{prepare, voteYes}
 use Rattle.joint.specs.State.{Site, started}
 use Rattle.joint.specs.Plan.{openedAs}
 use Rattle.joint.proofs.view.View.{View, viewAt, viewSettle}
 use Rattle.joint.proofs.view.Turn.{Up}
-use Rattle.joint.proofs.safety.Tables.{has, fresh, Fine, working}
+use Rattle.joint.proofs.safety.Tables.{has, fresh, working}
 use Rattle.joint.proofs.safety.Sets.{empty-none}
-use Rattle.joint.proofs.safety.Invariant.{Standing, never, initial, collecting, decided, stageOf, isNever, writesInit, siteWith, sentIn, Member, Stranger, Place, Mid, Inv}
-use Rattle.joint.proofs.safety.Steps.{cohortOf, From, Move, stand}
+use Rattle.joint.proofs.safety.Invariant.{Standing, never, initial, collecting, decided, stageOf, siteWith, Member, Stranger, Place, Inv}
+use Rattle.joint.proofs.safety.Steps.{cohortOf, stand}
 use Rattle.joint.proofs.safety.Wakes.{After}
 
 -- ---- a transaction that is not opened stands as never

@@ -4,7 +4,7 @@ use lib.Dec.{T, eqb}
 use Rattle.codec.specs.Lists.{any}
 use Rattle.codec.specs.laws.Tests.{and-left, and-right}
 use Rattle.site.specs.Presumption.{Outcome, sameOutcome, Presumption, acks, silence}
-use Rattle.site.specs.Step.{Message, prepare, voteYes, voteNo, tell, ack, messageKind}
+use Rattle.site.specs.Step.{Message, prepare, voteYes, voteNo, ack, messageKind}
 use Rattle.site.specs.Participant.{outcomeRecord}
 use Rattle.joint.proofs.safety.Tables.{Status, has, Stage, fresh, asking, done, fits, may, mayEnter, needsYes, Fine, passes, acked, maySend}
 use Rattle.joint.proofs.safety.Finite.{_⇒_, mp, allBool, at-bool, allOutcome, at-outcome, allPresumption, at-presumption, allStatus, at-status, allStage, at-stage, allMessage, at-message}
@@ -71,21 +71,28 @@ module _ {c : Presumption} {m : Stage} {s : Status} {sent : Message → Bool} {e
     where
       p : Bool
       p = sent prepare
+
       y : Bool
       y = sent voteYes
+
       n : Bool
       n = sent voteNo
+
       a : Bool
       a = acked sent m
+
       test : T ((needsYes m′ ⇒ (needsYes m || y)) && allStatus (λ s. allBool (passKeeps c y n a m m′ s)))
       test = mp (passes c y n a m m′) _ (pass-test c m m′ y n a) t
+
       here : T (passKeeps c y n a m m′ s p)
       here = at-bool (passKeeps c y n a m m′ s) (at-status (λ s. allBool (passKeeps c y n a m m′ s)) (and-right (needsYes m′ ⇒ (needsYes m || y)) _ test) s) p
+
       kept : T (keepsAll c m m′ s p)
       kept =
           mp (a ⇒ acked (may m s p) m) _
           (mp (n ⇒ may m s p voteNo) _ (mp (y ⇒ may m s p voteYes) _ (mp (fits c m s p) _ here (ok .shape)) (to-⇒ y _ (ok .messages voteYes))) (to-⇒ n _ (ok .messages voteNo)))
           (to-⇒ a _ (ack-may m sent (may m s p) (ok .messages)))
+
       flags : T (allMessage (λ g. may m s p g ⇒ may m′ s p g) && allOutcome (λ o. mayEnter m s o ⇒ mayEnter m′ s o))
       flags = and-right (fits c m′ s p) _ kept
 
@@ -136,10 +143,13 @@ module _ {c : Presumption} {m : Stage} {s : Status} {sent : Message → Bool} {e
     where
       p : Bool
       p = sent prepare
+
       p′ : Bool
       p′ = eqb 0 (messageKind g) || p
+
       test : T (not (eqb 1 (messageKind g)) && allStatus (λ s. allBool (sendKeeps c m y g s)))
       test = mp (maySend c m y g) _ (send-test c m y g) t
+
       kept : T (fits c m s p′ && allMessage (λ k. (eqb (messageKind k) (messageKind g) || may m s p k) ⇒ may m s p′ k))
       kept =
           mp (y ⇒ may m s p voteYes) _

@@ -1,32 +1,27 @@
 -- The coordinator's restart, and the opening of a transaction, keep the invariant.
-use Prim.Native.Nat.{ℕ, suc, _<_}
-use mathlib.Core.Path.{_≡_, refl, sym, ap, _∙_, subst, fun-ext}
-use mathlib.Core.Logic.{inl}
-use mathlib.Core.Bool.{Bool, true, false, cond, not, _&&_, _||_, true≢false}
-use mathlib.Core.List.{List, [], _∷_, _++_, map, append-nil}
+use Prim.Native.Nat.{ℕ, suc}
+use mathlib.Core.Path.{_≡_, refl, sym, ap, _∙_, subst}
+use mathlib.Core.Bool.{Bool, true, false, not, _&&_, _||_, true≢false}
+use mathlib.Core.List.{List, [], _∷_, append-nil}
 use lib.ListN.{take}
-use lib.Dec.{T, eqb}
-use Rattle.codec.specs.Lists.{any}
-use Rattle.codec.specs.Sets.{member, empty, part}
-use Rattle.codec.specs.laws.Tests.{true-of, of-true}
+use lib.Dec.{T}
+use Rattle.codec.specs.Sets.{member, empty}
+use Rattle.codec.specs.laws.Tests.{of-true}
 use Rattle.codec.specs.laws.Masks.{those-below}
-use Rattle.site.specs.Presumption.{Outcome, commit, abort, sameOutcome, acks, silence}
+use Rattle.site.specs.Presumption.{Outcome, commit, abort, sameOutcome, acks}
 use Rattle.site.specs.Cohort.{Cohort, presumptionOf, owing}
-use Rattle.site.specs.Step.{Message, prepare, messageKind, Effect, append, force, enter, send, Row, given}
+use Rattle.site.specs.Step.{Effect, append, force, enter, send, Row, given}
 use Rattle.site.specs.Coordinator.{Coordinator, tellAll, untilAcked, restartFrom, coordinatorRestart}
-use Rattle.site.specs.Participant.{Participant}
 use Rattle.joint.specs.State.{Site, holds, started, withCoordinator, withSent}
-use Rattle.joint.specs.Plan.{openedAs}
-use Rattle.joint.proofs.view.View.{View, viewAt, viewSettle, viewPerform, viewEffects, viewDown}
-use Rattle.joint.proofs.view.Turn.{Carried, whole, cutAfter, Up, Opened, viewStart}
-use Rattle.joint.proofs.safety.Tables.{has, Stage, fresh, done, Fine, working}
-use Rattle.joint.proofs.safety.Passes.{or-left, or-right}
-use Rattle.joint.proofs.safety.Sets.{member-owing, owing-member, empty-none}
-use Rattle.joint.proofs.safety.Invariant.{Log, kindsIn, classOf, resumed, waiting, resting, down, Pace, Standing, never, initial, collecting, decided, stageOf, hasDecided, logFits, SetsFit, writesInit, isNever, coordinatorAt, between, entry, siteWith, sentIn, Member, Stranger, Place, Mid, Inv}
+use Rattle.joint.proofs.view.View.{View, viewAt, viewSettle, viewPerform, viewEffects}
+use Rattle.joint.proofs.view.Turn.{Carried, whole, cutAfter, Opened, viewStart}
+use Rattle.joint.proofs.safety.Tables.{has}
+use Rattle.joint.proofs.safety.Sets.{member-owing, empty-none}
+use Rattle.joint.proofs.safety.Invariant.{Log, kindsIn, classOf, resumed, waiting, resting, down, Standing, never, initial, collecting, decided, writesInit, coordinatorAt, between, Mid, Inv}
 use Rattle.joint.proofs.safety.Logs.{resumed-waiting, down-resting, resumes-commit, resumes-abort}
 use Rattle.joint.proofs.safety.Local.{holds-kinds}
-use Rattle.joint.proofs.safety.Steps.{cohortOf, From, Shift, move, standsAs, stand, settle-mid}
-use Rattle.joint.proofs.safety.Crashes.{Next, refl-outcome, from-self, from-same, from-none, and-true2, not-true}
+use Rattle.joint.proofs.safety.Steps.{cohortOf, Shift, move, standsAs, stand, settle-mid}
+use Rattle.joint.proofs.safety.Crashes.{Next, refl-outcome, from-same, and-true2}
 use Rattle.joint.proofs.safety.Runs.{Node, Runs, enter-run, runs-at, runs-end, cut-next}
 use Rattle.joint.proofs.safety.Commits.{owes, untilAckedAs, until-phase, until-between, enter-tell}
 use Rattle.joint.proofs.safety.Wakes.{After, after}

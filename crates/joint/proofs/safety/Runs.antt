@@ -1,22 +1,22 @@
 -- The coordinator's rows, effect by effect: in front of each effect the invariant holds with some standing, so that a power cut there is a crash from it.
 use Prim.Native.Nat.{ℕ, zero, suc}
-use mathlib.Core.Path.{_≡_, refl, sym, ap, _∙_, subst}
-use mathlib.Core.Bool.{Bool, true, false, cond, not, _||_}
+use mathlib.Core.Path.{_≡_, refl}
+use mathlib.Core.Bool.{Bool, true, false, cond, not}
 use mathlib.Core.List.{List, [], _∷_, _++_, map}
 use lib.ListN.{take}
-use lib.Dec.{T, eqb}
+use lib.Dec.{T}
 use Rattle.codec.specs.Lists.{select}
 use Rattle.codec.specs.Sets.{participants, member, listed}
 use Rattle.site.specs.Presumption.{Outcome}
 use Rattle.site.specs.Cohort.{Cohort, presumptionOf}
-use Rattle.site.specs.Step.{Message, voteYes, messageKind, Effect, append, force, enter, send}
+use Rattle.site.specs.Step.{Message, voteYes, Effect, append, force, enter, send}
 use Rattle.site.specs.Coordinator.{Coordinator, inTurn, ordered}
 use Rattle.joint.specs.State.{Site, appended, forced, withCoordinator, withSent, forgotten}
 use Rattle.joint.proofs.view.View.{View, viewAt, viewSettle, viewPerform, viewEffects, viewDown}
 use Rattle.joint.proofs.view.Turn.{Carried, whole, cutAfter}
 use Rattle.joint.proofs.safety.Tables.{maySend}
 use Rattle.joint.proofs.safety.Sets.{no-zero}
-use Rattle.joint.proofs.safety.Invariant.{Standing, stageOf, hasDecided, writesInit, coordinatorAt, between, sentIn, Mid, Inv}
+use Rattle.joint.proofs.safety.Invariant.{Standing, stageOf, hasDecided, writesInit, coordinatorAt, between, sentIn, Mid}
 use Rattle.joint.proofs.safety.Steps.{cohortOf, From, Shift, move, standsAs, stay, stand, settle-mid, enter-mid, send-mid}
 use Rattle.joint.proofs.safety.Crashes.{Next, crash-next}
 

@@ -7,11 +7,11 @@ use lib.ListN.{getD}
 use lib.Dec.{T, eqb}
 use native.Mathlib.Omega.{arith}
 use borrow.Author.Tests.{eq-eqb, eqb-true}
-use Rattle.codec.specs.Sets.{participants, member, empty, bits, those, without, both, minus}
+use Rattle.codec.specs.Sets.{participants, member, empty, bits, those, both}
 use Rattle.codec.specs.laws.Tests.{and-left, and-right, true-of, of-true, alike, alike-eq, below, below-at, bools, bools-at}
 use Rattle.codec.specs.laws.Masks.{those-alike, those-below, those-members}
-use Rattle.codec.specs.laws.Members.{noParticipant, numbered, high-bits, member-participant}
-use Rattle.site.specs.Presumption.{Outcome, commit, abort, presumedAbort, presumedCommit, acks}
+use Rattle.codec.specs.laws.Members.{numbered, high-bits, member-participant}
+use Rattle.site.specs.Presumption.{Outcome, abort, presumedAbort, presumedCommit, acks}
 use Rattle.site.specs.Cohort.{Cohort, presumptionOf, owing}
 
 -- ---- the set of those that pass a test

@@ -1,25 +1,22 @@
 -- The coordinator's small steps keep the invariant: a change of standing with its log, an entry, a message, a crash.
-use Prim.Native.Nat.{ℕ, zero, suc}
+use Prim.Native.Nat.{ℕ, suc}
 use mathlib.Core.Path.{_≡_, refl, sym, ap, _∙_, subst}
-use mathlib.Core.Logic.{_⊎_, inl, inr}
-use mathlib.Core.Bool.{Bool, true, false, cond, not, _&&_, _||_}
-use mathlib.Core.List.{List, [], _∷_, _++_, map}
-use lib.ListN.{take}
+use mathlib.Core.Logic.{_⊎_, inl}
+use mathlib.Core.Bool.{Bool, true, false, not, _&&_, _||_}
 use lib.Dec.{T, eqb}
 use native.Mathlib.Omega.{arith}
-use borrow.Author.Tests.{eq-eqb, ne-eqb, eqb-true}
-use Rattle.codec.specs.Sets.{member, empty}
-use Rattle.codec.specs.Records.{LogRecord}
-use Rattle.site.specs.Presumption.{Outcome, commit, abort, sameOutcome, Presumption, silence}
-use Rattle.site.specs.Cohort.{Cohort, presumptionOf, owing}
-use Rattle.site.specs.Step.{Message, voteYes, voteNo, messageKind, Effect, append, force, enter, send}
-use Rattle.site.specs.Coordinator.{Coordinator, endRecord}
-use Rattle.joint.specs.State.{Site, update, appended, forced, stopped, withCoordinator, withSent, forgotten}
+use borrow.Author.Tests.{ne-eqb, eqb-true}
+use Rattle.codec.specs.Sets.{member}
+use Rattle.site.specs.Presumption.{Outcome, commit, abort, sameOutcome}
+use Rattle.site.specs.Cohort.{Cohort, presumptionOf}
+use Rattle.site.specs.Step.{Message, voteYes, voteNo, messageKind, enter, send}
+use Rattle.site.specs.Coordinator.{Coordinator}
+use Rattle.joint.specs.State.{Site, update, withCoordinator, withSent}
 use Rattle.joint.proofs.view.Updates.{update-other}
-use Rattle.joint.proofs.view.View.{View, viewAt, viewSettle, viewPerform, viewEffects, viewDown}
-use Rattle.joint.proofs.safety.Tables.{Status, has, Stage, fresh, asking, done, Fine, passes, acked, maySend}
-use Rattle.joint.proofs.safety.Passes.{or-left, or-right, or-either, pass-fine, send-fine, also}
-use Rattle.joint.proofs.safety.Invariant.{Standing, never, initial, collecting, decided, stageOf, hasDecided, standingFits, properLog, awaitsCommit, SetsFit, writesInit, standingUp, stableAt, unforcedAt, coordinatorAt, between, isNever, siteWith, sentIn, Member, Stranger, Place, Mid, Inv}
+use Rattle.joint.proofs.view.View.{View, viewAt, viewSettle, viewPerform}
+use Rattle.joint.proofs.safety.Tables.{Status, has, Stage, Fine, passes, acked, maySend}
+use Rattle.joint.proofs.safety.Passes.{or-left, or-either, pass-fine, send-fine}
+use Rattle.joint.proofs.safety.Invariant.{Standing, never, stageOf, hasDecided, standingFits, properLog, awaitsCommit, SetsFit, writesInit, standingUp, stableAt, unforcedAt, isNever, siteWith, sentIn, Member, Stranger, Place, Mid}
 
 -- ---- what changes of the standing are allowed
 
@@ -279,7 +276,7 @@ module _ {t : ℕ} {v : View} {h : Standing} (mid : Mid t h v) where
           log = mid .log;
           fit = mid .fit;
           proper = mid .proper;
-        sets = mid .sets;
+          sets = mid .sets;
           entries = mid .entries;
           places = λ k. place-map t k (stageOf h (suc k)) (stageOf h (suc k)) v (viewPerform 0 t (send g (suc n)) v) (isMember k) (λ b. member-sent k) (stranger-sent k) (mid .places k);
         }

@@ -1,32 +1,30 @@
 -- Along every list of events the invariant of every transaction holds; commit is decided exactly if record 2 was stable at some moment.
-use Prim.Native.Nat.{ℕ, zero, suc, _<_}
+use Prim.Native.Nat.{ℕ, suc, _<_}
 use mathlib.Core.Path.{_≡_, refl, sym, ap, _∙_, subst}
-use mathlib.Core.Logic.{_⊎_, inl, inr, ⊎-elim}
-use mathlib.Core.Bool.{Bool, true, false, not, _&&_, _||_, true≢false}
+use mathlib.Core.Logic.{_⊎_, ⊎-elim}
+use mathlib.Core.Bool.{Bool, true, false, not, true≢false}
 use mathlib.Core.List.{List, [], _∷_, _++_, map, append-assoc, append-nil}
-use lib.Dec.{T, eqb}
+use lib.Dec.{T}
 use native.Mathlib.Omega.{arith}
 use Rattle.codec.specs.Lists.{any, select}
 use Rattle.codec.specs.Sets.{participants, member, empty, bits, those, both, part}
-use Rattle.codec.specs.laws.Tests.{true-of, of-true}
-use Rattle.site.specs.Presumption.{Outcome, commit, abort, sameOutcome}
-use Rattle.joint.specs.State.{Run, Site, fresh, opened, holds}
+use Rattle.site.specs.Presumption.{Outcome, commit}
+use Rattle.joint.specs.State.{Site, fresh, opened, holds}
 use Rattle.joint.specs.Run.{event, after}
-use Rattle.joint.specs.Safety.{Moment, happened, history, along, leaves, commitStable}
-use Rattle.joint.proofs.History.{by-events, after-snoc, history-snoc, passed, committed-snoc, any-cases, any-append}
+use Rattle.joint.specs.Safety.{happened, history, along, leaves, commitStable}
+use Rattle.joint.proofs.History.{by-events, after-snoc, history-snoc, passed, committed-snoc}
 use Rattle.joint.proofs.Moments.{any-middle}
 use Rattle.joint.proofs.EventMoments.{commit-stays}
 use Rattle.joint.proofs.view.View.{View, siteView, view}
 use Rattle.joint.proofs.view.Acts.{holds-select}
-use Rattle.joint.proofs.view.Turn.{Turns}
 use Rattle.joint.proofs.view.Events.{event-turns}
 use Rattle.joint.proofs.safety.Tables.{has, Stage}
 use Rattle.joint.proofs.safety.Passes.{or-left, or-right, or-either}
 use Rattle.joint.proofs.safety.Sets.{none-in-0}
 use Rattle.joint.proofs.safety.Local.{holds-kinds}
-use Rattle.joint.proofs.safety.Invariant.{Log, kindsIn, classOf, Pace, waiting, resting, down, Standing, never, initial, collecting, decided, hasDecided, logFits, initLog, writesInit, stableAt, Place, Mid, Inv}
+use Rattle.joint.proofs.safety.Invariant.{kindsIn, waiting, resting, down, Standing, never, initial, collecting, decided, hasDecided, initLog, writesInit, stableAt, Place, Mid, Inv}
 use Rattle.joint.proofs.safety.Logs.{waiting-down, resting-down, commit-record}
-use Rattle.joint.proofs.safety.Steps.{cohortOf, From}
+use Rattle.joint.proofs.safety.Steps.{cohortOf}
 use Rattle.joint.proofs.safety.Kept.{Kept, turns-kept}
 
 part-none : part 0 0 ≡ true
@@ -86,18 +84,20 @@ module _ (t : ℕ) where
   pub track-next : (es : List (List ℕ)) (e : List ℕ) (x : Tracked es) → (y : Tracked (es ++ (e ∷ []))) × ((o : Outcome) → T (hasDecided (x .standing) o) → T (hasDecided (y .standing) o))
   unfolding passed
   track-next es e x =
-      let k = next-kept es e (x .standing) (x .inv) in
-      (record {
-        standing = k .standing;
-        inv = k .inv;
-        stable = λ d.
-            subst T (sym (committed-snoc t es e))
-            (⊎-elim (λ c. or-left before _ (x .stable c))
-            (λ r. or-right before (any (commitStable t) (passed (after fresh es) e)) (any-middle (commitStable t) (map leaves (happened (after fresh es) e)) (event (after fresh es) e .run) [] (subst T (now k) r))) (k .from .new d));
-        decides = λ r.
-            or-either before (any (commitStable t) (passed (after fresh es) e)) (λ c. k .from .keeps commit (x .decides c))
-            (λ p. record-decided (k .standing) (k .inv .mid) (subst T (sym (now k)) (commit-stays t (after fresh es) e p))) (subst T (committed-snoc t es e) r);
-      }, k .from .keeps)
+      let k = next-kept es e (x .standing) (x .inv) in (
+        record {
+          standing = k .standing;
+          inv = k .inv;
+          stable = λ d.
+              subst T (sym (committed-snoc t es e))
+              (⊎-elim (λ c. or-left before _ (x .stable c))
+              (λ r. or-right before (any (commitStable t) (passed (after fresh es) e)) (any-middle (commitStable t) (map leaves (happened (after fresh es) e)) (event (after fresh es) e .run) [] (subst T (now k) r))) (k .from .new d));
+          decides = λ r.
+              or-either before (any (commitStable t) (passed (after fresh es) e)) (λ c. k .from .keeps commit (x .decides c))
+              (λ p. record-decided (k .standing) (k .inv .mid) (subst T (sym (now k)) (commit-stays t (after fresh es) e p))) (subst T (committed-snoc t es e) r);
+        },
+        k .from .keeps,
+      )
     where
       before : Bool
       before = any (commitStable t) (along fresh es)

@@ -1,35 +1,31 @@
 -- Restart, force and discard at the coordinator, and the opening, keep the invariant.
-use Prim.Native.Nat.{ℕ, zero, suc, _<_}
+use Prim.Native.Nat.{ℕ, suc}
 use mathlib.Core.Path.{_≡_, refl, sym, ap, _∙_, subst}
 use mathlib.Core.Logic.{inl}
-use mathlib.Core.Bool.{Bool, true, false, cond, not, _&&_, _||_, true≢false}
-use mathlib.Core.List.{List, [], _∷_, _++_, map, append-nil}
+use mathlib.Core.Bool.{Bool, true, false, cond, not, _&&_, true≢false}
+use mathlib.Core.List.{List, [], _∷_, map, append-nil}
 use lib.ListN.{drop}
-use lib.Dec.{T, eqb}
+use lib.Dec.{T}
 use Rattle.codec.specs.Lists.{any}
-use Rattle.codec.specs.Sets.{member, empty, minus, part}
+use Rattle.codec.specs.Sets.{member, empty, minus}
 use Rattle.codec.specs.Records.{LogRecord, awaitsAcks, membersIn, presumeCommitIn}
-use Rattle.codec.specs.laws.Tests.{true-of, of-true}
-use Rattle.codec.specs.laws.Masks.{those-alike, those-below}
-use Rattle.site.specs.Presumption.{Outcome, commit, abort, sameOutcome, Presumption, presumedAbort, presumedCommit, acks, silence}
+use Rattle.codec.specs.laws.Tests.{of-true}
+use Rattle.codec.specs.laws.Masks.{those-alike}
+use Rattle.site.specs.Presumption.{Outcome, commit, abort, sameOutcome, Presumption, presumedAbort, presumedCommit, acks}
 use Rattle.site.specs.Cohort.{Cohort, masksOf, presumptionOf, owing}
-use Rattle.site.specs.Step.{Message, prepare, voteYes, voteNo, Effect, enter, Row, given}
-use Rattle.site.specs.Coordinator.{Coordinator, endRecord, tellAll, untilAcked, restartFrom, coordinatorRestart}
-use Rattle.site.specs.Participant.{Participant}
-use Rattle.joint.specs.State.{Site, holds, forced, started, withCoordinator}
-use Rattle.joint.specs.Plan.{openedAs, closes, newest}
-use Rattle.joint.proofs.view.View.{View, viewAt, viewSettle, viewEffects, viewDown}
-use Rattle.joint.proofs.view.Turn.{Carried, whole, cutAfter, Up, Opened, trimmedView, viewForget, viewDiscard, viewStart}
-use Rattle.joint.proofs.safety.Tables.{has, Stage, fresh, asking, done, passes, acked, working}
-use Rattle.joint.proofs.safety.Passes.{or-left, or-right}
-use Rattle.joint.proofs.safety.Sets.{member-owing, owing-member, empty-none, not-empty}
-use Rattle.joint.proofs.safety.Invariant.{Log, l0, l1, l12, l2, l123, l23, l3, l14, l4, kindsIn, classOf, resumed, waiting, resting, down, Pace, Standing, never, initial, collecting, decided, stageOf, hasDecided, logFits, SetsFit, writesInit, awaitsCommit, initLog, isNever, stableAt, coordinatorAt, between, entry, siteWith, sentIn, Member, Stranger, Place, Mid, Inv}
-use Rattle.joint.proofs.safety.Logs.{closed, older, unended, waiting-down, resting-down, commit-record, waiting-unended, ending-unended, closed-fits, closed-kinds, closed-proper, may-close, older-fits, older-kinds, older-proper, resumed-waiting, down-resting, resumes-commit, resumes-abort}
-use Rattle.joint.proofs.safety.Local.{holds-kinds}
-use Rattle.joint.proofs.safety.Steps.{cohortOf, PassesAt, From, Move, Shift, move, standsAs, stand, settle-mid, same-outcome, both-ways}
-use Rattle.joint.proofs.safety.Crashes.{Next, refl-outcome, from-self, from-same, from-none, and-true2, not-true}
-use Rattle.joint.proofs.safety.Runs.{Node, Runs, runs-at, runs-end, cut-next}
-use Rattle.joint.proofs.safety.Commits.{owes, enter-tell, forced-kinds}
+use Rattle.site.specs.Step.{voteYes, voteNo}
+use Rattle.site.specs.Coordinator.{endRecord}
+use Rattle.joint.specs.State.{Site, forced}
+use Rattle.joint.specs.Plan.{closes, newest}
+use Rattle.joint.proofs.view.View.{View, viewAt}
+use Rattle.joint.proofs.view.Turn.{whole, Up, Opened, trimmedView, viewForget, viewDiscard}
+use Rattle.joint.proofs.safety.Tables.{has, Stage, fresh, asking, done, passes, acked}
+use Rattle.joint.proofs.safety.Sets.{not-empty}
+use Rattle.joint.proofs.safety.Invariant.{Log, l0, l1, l12, l2, l123, l23, l3, l14, l4, kindsIn, classOf, waiting, resting, down, Standing, never, initial, collecting, decided, stageOf, hasDecided, SetsFit, writesInit, awaitsCommit, initLog, stableAt, coordinatorAt, between, entry, siteWith, sentIn, Mid, Inv}
+use Rattle.joint.proofs.safety.Logs.{closed, older, unended, waiting-down, resting-down, commit-record, waiting-unended, ending-unended, closed-fits, closed-kinds, closed-proper, may-close, older-fits, older-kinds, older-proper}
+use Rattle.joint.proofs.safety.Steps.{cohortOf, PassesAt, From, Move, standsAs, stand, same-outcome, both-ways}
+use Rattle.joint.proofs.safety.Crashes.{Next, refl-outcome, from-self, and-true2}
+use Rattle.joint.proofs.safety.Commits.{forced-kinds}
 
 -- ---- after a turn
 

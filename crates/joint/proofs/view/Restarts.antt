@@ -18,7 +18,7 @@ use Rattle.joint.specs.Run.{isForce}
 use Rattle.joint.specs.Safety.{Moment}
 use Rattle.joint.proofs.DownEmpty.{AllLogless, restarting-logless}
 use Rattle.joint.proofs.view.View.{View, siteView, view, viewAt, viewSettle, viewEffects}
-use Rattle.joint.proofs.view.Turn.{Opened, Carried, whole, cutAfter, viewStart, starts, fails, resumes, returns, Turns, still, turn}
+use Rattle.joint.proofs.view.Turn.{Opened, Carried, whole, cutAfter, viewStart, starts, fails, resumes, returns, Turns, turn}
 use Rattle.joint.proofs.view.Acts.{holds-select, effectsOf, seenEffects}
 use Rattle.joint.proofs.view.Carries.{seen-append, seen-own, seen-other, Shown}
 use Rattle.joint.proofs.view.Once.{absent, once, absent-head, select-absent, once-select, once-transaction}

@@ -19,7 +19,7 @@ use Rattle.joint.specs.Plan.{settling, rowPlan, planned, step}
 use Rattle.joint.specs.Safety.{Moment}
 use Rattle.joint.proofs.DownEmpty.{All}
 use Rattle.joint.proofs.view.View.{View, view, viewEffects, viewSettle}
-use Rattle.joint.proofs.view.Turn.{Carried, whole, cutAfter, Given, Own, Up, crashes, coordinates, participates, Turns, still, turn}
+use Rattle.joint.proofs.view.Turn.{Carried, whole, cutAfter, Given, Own, Up, crashes, coordinates, participates, Turns, turn}
 use Rattle.joint.proofs.view.Acts.{effectsOf, seenEffects}
 use Rattle.joint.proofs.view.Carries.{seen-own, seen-other, other-turns, Shown}
 use Rattle.joint.proofs.view.Settles.{coordinator-bare, participant-bare, settle-own, settle-other}
