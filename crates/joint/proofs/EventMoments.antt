@@ -24,7 +24,8 @@ use Rattle.joint.specs.Refusals.{stranger, refusals}
 use Rattle.joint.specs.Plan.{Plan, acting, rowPlan, planned, step, orNothing, restarting, joined, restartAll, plan}
 use Rattle.joint.specs.Run.{Result, refuse, partly, cutShort, carry, event}
 use Rattle.joint.specs.Safety.{Moment, moments, happened, leaves, sends, isReply, commitStable}
-use Rattle.joint.proofs.History.{Accepted, EventCase, refused, whole, cut, event-case, passed, or-cases, any-cases}
+use Rattle.joint.proofs.Booleans.{or-cases}
+use Rattle.joint.proofs.History.{Accepted, EventCase, refused, whole, cut, event-case, passed, any-cases}
 use Rattle.joint.proofs.DownEmpty.{All, passes, is-up}
 use Rattle.joint.proofs.Moments.{not-empty, any-more, Within, moment-within}
 

@@ -14,6 +14,7 @@ use Rattle.joint.specs.Refusals.{refusals}
 use Rattle.joint.specs.Plan.{Plan, plan}
 use Rattle.joint.specs.Run.{Result, refuse, canCut, cutShort, carry, carryPlan, carryUnless, eventParsed, event, after}
 use Rattle.joint.specs.Safety.{Moment, happened, history, leaves, along, commitStable, Happens}
+use Rattle.joint.proofs.Booleans.{or-cases}
 
 -- ---- one event: refused, carried out whole, or cut
 
@@ -108,10 +109,6 @@ pub any-append {ℓ} : {A : Type ℓ} (f : A → Bool) (xs ys : List A) → any 
 unfolding any
 any-append f [] ys = refl
 any-append f (x ∷ xs) ys = rw (any-append f xs ys, or-assoc)
-
-pub or-cases : (a b : Bool) → T (a || b) → T a ⊎ T b
-or-cases true b h = inl tt
-or-cases false b h = inr h
 
 pub any-cases {ℓ} : {A : Type ℓ} (f : A → Bool) (xs ys : List A) → T (any f (xs ++ ys)) → T (any f xs) ⊎ T (any f ys)
 any-cases f xs ys h = or-cases (any f xs) (any f ys) (rw any-append at h)

@@ -1,4 +1,5 @@
 mod Open
+mod Booleans
 mod Cases
 mod Examples
 mod History

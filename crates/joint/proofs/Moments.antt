@@ -11,18 +11,11 @@ use Rattle.site.specs.Step.{Effect, append, force, enter, send}
 use Rattle.joint.specs.State.{Run, Act, fresh, atSite, atTransaction, withSent, withEntered, perform, performAll}
 use Rattle.joint.specs.Run.{event, after}
 use Rattle.joint.specs.Safety.{Moment, moments, happened, history, Happens}
+use Rattle.joint.proofs.Booleans.{or-left, or-right, or-cases}
 use Rattle.joint.proofs.view.Updates.{update-keeps}
-use Rattle.joint.proofs.History.{by-events, history-snoc, any-append, or-cases}
+use Rattle.joint.proofs.History.{by-events, history-snoc, any-append}
 
 -- ---- lists
-
-pub or-left : (a b : Bool) → T a → T (a || b)
-or-left true b h = tt
-or-left false b h = absurd h
-
-pub or-right : (a b : Bool) → T b → T (a || b)
-or-right true b h = tt
-or-right false b h = h
 
 module _ {ℓ} {A : Type ℓ} where
   pub not-empty : (a : List A) (m : A) (b : List A) → [] ≡ a ++ (m ∷ b) → ⊥

@@ -13,13 +13,13 @@ use Rattle.site.specs.Cohort.{Cohort, masksOf, presumptionOf, owing}
 use Rattle.site.specs.Step.{prepare, voteYes, tell, Effect, append, force, enter, send, given}
 use Rattle.site.specs.Coordinator.{inTurn, inOrder, tellAll, untilAcked}
 use Rattle.joint.specs.State.{appended, forced}
+use Rattle.joint.proofs.Booleans.{and-both, or-left, not-true}
 use Rattle.joint.proofs.view.View.{View, viewAt, viewPerform}
-use Rattle.joint.proofs.safety.Passes.{or-left}
 use Rattle.joint.proofs.safety.Sets.{of-those, member-those, member-owing, empty-none, no-zero}
 use Rattle.joint.proofs.safety.Invariant.{Log, kindsIn, classOf, waiting, resting, Pace, Standing, initial, collecting, decided, hasDecided, logFits, writesInit, awaitsCommit, initLog, sentIn, siteWith, coordinatorAt, between, Mid}
 use Rattle.joint.proofs.safety.Logs.{commitLog, end-unwritten, commit-proper}
 use Rattle.joint.proofs.safety.Steps.{cohortOf, From, Shift}
-use Rattle.joint.proofs.safety.Crashes.{refl-outcome, from-same, from-none, commit-has, commit-kinds, and-true2, not-true}
+use Rattle.joint.proofs.safety.Crashes.{refl-outcome, from-same, from-none, commit-has, commit-kinds}
 use Rattle.joint.proofs.safety.Runs.{Each, Addressee, Node, Runs, node-stay, append-run, force-run, enter-run, sends-run, each-in-turn, each-ordered}
 
 module _ (t : ℕ) (h0 : Standing) (v : View) where
@@ -162,7 +162,7 @@ module _ (t : ℕ) (h0 : Standing) where
         proper = mid .proper;
         sets = tt;
         from = λ x. from-same (writesInit (cohortOf v)) o (waiting w) (resting false) l l x (λ k. k);
-        passing = λ n m. and-true2 (sameOutcome o o) _ (refl-outcome o) (was-done (member (suc n) w) _ _ (not-true (member (suc n) w) (empty-none w (suc n) e)));
+        passing = λ n m. and-both (sameOutcome o o) _ (refl-outcome o) (was-done (member (suc n) w) _ _ (not-true (member (suc n) w) (empty-none w (suc n) e)));
       }
 
   -- the standing in which acks of w are awaited, if any

@@ -12,13 +12,13 @@ use Rattle.site.specs.Cohort.{Cohort, presumptionOf, owing}
 use Rattle.site.specs.Step.{prepare, voteYes, voteNo, tell, ack, Input, begin, timer, received, Row}
 use Rattle.site.specs.Coordinator.{Coordinator, preparing, onBegin, committing, voted, onYes, telling, aborting, onNo, coordinatorTimer, acked, ackedIf, onAck, coordinatorStep, tellAll}
 use Rattle.joint.specs.State.{Site, withCoordinator}
+use Rattle.joint.proofs.Booleans.{or-left, or-right, both-ways}
 use Rattle.joint.proofs.view.View.{View, viewSettle}
 use Rattle.joint.proofs.view.Turn.{Carried, Given, Up, Opened}
-use Rattle.joint.proofs.safety.Passes.{or-left, or-right}
 use Rattle.joint.proofs.safety.Sets.{member-those, owing-member, no-zero, not-empty, owes-abort}
 use Rattle.joint.proofs.safety.Invariant.{Log, waiting, resting, down, Standing, never, initial, collecting, decided, SetsFit, writesInit, initLog, coordinatorAt, between, sentIn, Mid, Inv}
 use Rattle.joint.proofs.safety.Logs.{commitLog}
-use Rattle.joint.proofs.safety.Steps.{cohortOf, same-outcome, both-ways}
+use Rattle.joint.proofs.safety.Steps.{cohortOf, same-outcome}
 use Rattle.joint.proofs.safety.Crashes.{Next}
 use Rattle.joint.proofs.safety.Runs.{Node, Runs, node-stay, row-next}
 use Rattle.joint.proofs.safety.Commits.{begin-run, counts, commit-run, untilAckedAs, until-phase, until-between, without-part}

@@ -12,9 +12,9 @@ use Rattle.site.specs.Presumption.{Outcome, commit, abort, sameOutcome, presume
 use Rattle.site.specs.Cohort.{Cohort, presumptionOf}
 use Rattle.site.specs.Coordinator.{Coordinator, endRecord}
 use Rattle.joint.specs.State.{stopped, withCoordinator, forgotten}
+use Rattle.joint.proofs.Booleans.{_⇒_, and-both, not-true}
 use Rattle.joint.proofs.view.View.{View, viewAt, viewSettle, viewDown}
 use Rattle.joint.proofs.safety.Tables.{has}
-use Rattle.joint.proofs.safety.Finite.{_⇒_}
 use Rattle.joint.proofs.safety.Sets.{empty-none}
 use Rattle.joint.proofs.safety.Invariant.{Log, l0, l1, kindsIn, classOf, resumed, waiting, resting, down, Pace, Standing, never, initial, collecting, decided, hasDecided, logFits, properKinds, properLog, awaitsCommit, SetsFit, writesInit, initLog, stableAt, coordinatorAt, between, siteWith, Mid, Inv}
 use Rattle.joint.proofs.safety.Logs.{closed, commitLog, waiting-down, resting-down, closed-fits, closed-kinds, abort-unwritten, closed-has, closed-proper, may-close, initial-proper, commit-proper}
@@ -52,14 +52,6 @@ module _ (g : Cohort) (t : ℕ) (u : Bool) where
 and-true : (a : Bool) → T a → T (a && true)
 and-true true k = tt
 and-true false k = absurd k
-
-pub and-true2 : (a b : Bool) → T a → T b → T (a && b)
-and-true2 true b k j = j
-and-true2 false b k j = absurd k
-
-pub not-true : (b : Bool) → (T b → ⊥) → T (not b)
-not-true true f = absurd (f tt)
-not-true false f = tt
 
 done-before : (a b c : Bool) → T (a || true || b || c)
 done-before true b c = tt
@@ -213,7 +205,7 @@ module _ (t : ℕ) (v : View) where
         proper = p;
         sets = tt;
         from = λ h0. from-same i o (resting b) down l l′ h0 grows;
-        passing = λ n m. and-true2 (sameOutcome o o) _ (refl-outcome o) (done-before (not (not (resumed (classOf l′)))) _ _);
+        passing = λ n m. and-both (sameOutcome o o) _ (refl-outcome o) (done-before (not (not (resumed (classOf l′)))) _ _);
       }
 
   waits : (o : Outcome) (w : ℕ) (l : Log) → T (logFits i o (waiting w) (classOf l)) → T (properLog i a (decided o down l)) → Shift v (decided o (waiting w) l) (decided o down l)
@@ -224,7 +216,7 @@ module _ (t : ℕ) (v : View) where
         proper = p;
         sets = tt;
         from = λ h0. from-same i o (waiting w) down l l h0 (λ k. k);
-        passing = λ n m. and-true2 (sameOutcome o o) _ (refl-outcome o) (waits-passes (resumed (classOf l)) i o (silence (presumptionOf (cohortOf v) (suc n))) _ _ (abort-unwritten i o l w f) (begun (cohortOf v) (suc n)));
+        passing = λ n m. and-both (sameOutcome o o) _ (refl-outcome o) (waits-passes (resumed (classOf l)) i o (silence (presumptionOf (cohortOf v) (suc n))) _ _ (abort-unwritten i o l w f) (begun (cohortOf v) (suc n)));
       }
 
   -- ---- the crash
@@ -248,4 +240,4 @@ module _ (t : ℕ) (v : View) where
       lost mid (suc k) (rests o true l (closed l) (resting-down i o (closed l) false (closed-fits i o l (mid .fit))) (closed-proper i a o l (mid .fit) (may-close (cohortOf v) o l (mid .sets)) (mid .proper)) (closed-has l))
       (stopped-kept (cohortOf v) t true k (kindsIn l) (kindsIn (closed l)) (endRecord o) (closed-kinds i o l (mid .fit))) refl tt
   crash-next (decided o down l) mid k =
-      lost {h′ = decided o down l} mid k (record { never = refl; fit = mid .fit; proper = mid .proper; sets = tt; from = λ h0 f. f; passing = λ n m. and-true2 (sameOutcome o o) _ (refl-outcome o) (stays-so (not (resumed (classOf l))) _ _) }) (stopped-none (cohortOf v) t false k (kindsIn l)) refl tt
+      lost {h′ = decided o down l} mid k (record { never = refl; fit = mid .fit; proper = mid .proper; sets = tt; from = λ h0 f. f; passing = λ n m. and-both (sameOutcome o o) _ (refl-outcome o) (stays-so (not (resumed (classOf l))) _ _) }) (stopped-none (cohortOf v) t false k (kindsIn l)) refl tt

@@ -13,13 +13,13 @@ use Rattle.site.specs.Cohort.{Cohort, presumptionOf, owing}
 use Rattle.site.specs.Step.{voteYes, voteNo, tell, ack, Effect, append, enter, send, given}
 use Rattle.site.specs.Coordinator.{endRecord, inOrder, tellAll, untilAcked}
 use Rattle.joint.specs.State.{appended}
+use Rattle.joint.proofs.Booleans.{and-both, or-left, or-right, not-true}
 use Rattle.joint.proofs.view.View.{View}
-use Rattle.joint.proofs.safety.Passes.{or-left, or-right}
 use Rattle.joint.proofs.safety.Sets.{of-those, member-those, member-owing, empty-none, no-zero}
 use Rattle.joint.proofs.safety.Invariant.{Log, kindsIn, classOf, waiting, resting, Pace, Standing, collecting, decided, logFits, SetsFit, writesInit, awaitsCommit, initLog, sentIn, siteWith, coordinatorAt, between, Mid}
 use Rattle.joint.proofs.safety.Logs.{end-written, initial-proper}
 use Rattle.joint.proofs.safety.Steps.{cohortOf, Shift}
-use Rattle.joint.proofs.safety.Crashes.{refl-outcome, from-same, from-none, and-true2, not-true}
+use Rattle.joint.proofs.safety.Crashes.{refl-outcome, from-same, from-none}
 use Rattle.joint.proofs.safety.Runs.{Node, Runs, node-stay, append-run, send-run, sends-run}
 use Rattle.joint.proofs.safety.Commits.{owes, was-done, without-part, told, until-acked, enter-tell}
 
@@ -81,7 +81,7 @@ module _ (t : ℕ) (h0 : Standing) where
         proper = mid .proper;
         sets = s;
         from = λ x. from-same (writesInit (cohortOf v)) o (waiting w) (resting true) l l x (λ k. k);
-        passing = λ n m. and-true2 (sameOutcome o o) _ (refl-outcome o) (was-done (member (suc n) w) _ _ (not-true (member (suc n) w) (empty-none w (suc n) e)));
+        passing = λ n m. and-both (sameOutcome o o) _ (refl-outcome o) (was-done (member (suc n) w) _ _ (not-true (member (suc n) w) (empty-none w (suc n) e)));
       }
 
   end-appended : (g : Cohort) (o : Outcome) (ks : List ℕ)
@@ -147,7 +147,7 @@ module _ (t : ℕ) (h0 : Standing) where
         proper = mid .proper;
         sets = (those-below (λ q. member q w && not (eqb q p)), without-part t h0 v p w (owing (cohortOf v) o) (mid .sets .1));
         from = λ x. from-same (writesInit (cohortOf v)) o (waiting w) (waiting (without p w)) l l x (λ k. k);
-        passing = λ n m. and-true2 (sameOutcome o o) _ (refl-outcome o)
+        passing = λ n m. and-both (sameOutcome o o) _ (refl-outcome o)
             (rw (member-those (λ q. member q w && not (eqb q p)) n (cohortOf v .members) (mid .byte) m)
             (hears-law (member (suc n) w) (eqb (suc n) p) _ (sentIn v (suc n) (ack o)) (λ e. subst (λ (q : ℕ). T (sentIn v q (ack o))) (sym (eqb-true (suc n) p (true-of _ e))) a)));
       }

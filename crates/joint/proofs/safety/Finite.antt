@@ -8,15 +8,6 @@ use Rattle.site.specs.Presumption.{Outcome, commit, abort, Presumption, presume
 use Rattle.site.specs.Step.{Message, prepare, voteYes, voteNo, tell, ack}
 use Rattle.joint.proofs.safety.Tables.{Status, working, prepared, gone, half, lone, shut, off, offVoted, offShut, Stage, fresh, asking, done}
 
-abbrev pub _⇒_ : Bool → Bool → Bool
-true ⇒ b = b
-false ⇒ b = true
-
-infixr 20 _⇒_
-pub mp : (a b : Bool) → T (a ⇒ b) → T a → T b
-mp true b t u = t
-mp false b t u = absurd u
-
 -- ---- the n-th of tests that all hold
 
 abbrev pub allOf : List Bool → Bool

@@ -14,9 +14,9 @@ use Rattle.site.specs.Cohort.{Cohort}
 use Rattle.site.specs.Step.{voteYes, Effect, append, force, enter, send}
 use Rattle.joint.specs.State.{forced, holds, withCoordinator, forgotten}
 use Rattle.joint.specs.Safety.{sends}
+use Rattle.joint.proofs.Booleans.{or-either}
 use Rattle.joint.proofs.view.View.{View, viewAt, viewSettle, viewPerform, viewEffects, viewDown}
 use Rattle.joint.proofs.view.Turn.{Carried, whole, cutAfter, viewStart, viewDiscard, viewForget, Turn, crashes, opens, coordinates, participates, discards, starts, fails, resumes, returns, Turns, still, turn, forces}
-use Rattle.joint.proofs.safety.Passes.{or-either}
 use Rattle.joint.proofs.safety.Sets.{empty-none}
 use Rattle.joint.proofs.safety.Invariant.{Standing, never, initial, collecting, decided, stageOf, hasDecided, writesInit, Member, Place, Mid, Inv}
 use Rattle.joint.proofs.safety.Steps.{cohortOf, From, own-number}

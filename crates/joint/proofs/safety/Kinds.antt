@@ -18,14 +18,14 @@ use Rattle.site.specs.Participant.{outcomeRecord}
 use Rattle.site.specs.Coordinator.{endRecord}
 use Rattle.joint.specs.State.{Run, Site, opened, takesPart}
 use Rattle.joint.specs.Safety.{Moment}
+use Rattle.joint.proofs.Booleans.{_⇒_, mp, and-both}
 use Rattle.joint.proofs.view.View.{siteView, view}
 use Rattle.joint.proofs.safety.Tables.{Status, stableKinds, unforcedKinds, has}
-use Rattle.joint.proofs.safety.Finite.{_⇒_, mp, allBool, at-bool, at-status}
+use Rattle.joint.proofs.safety.Finite.{allBool, at-bool, at-status}
 use Rattle.joint.proofs.safety.Sets.{empty-none}
 use Rattle.joint.proofs.safety.Invariant.{Log, l0, l1, l12, l2, l123, l23, l3, l14, l4, kindsIn, classOf, resting, waiting, down, Standing, never, initial, collecting, decided, stageOf, logFits, standingFits, SetsFit, writesInit, awaitsCommit, properKinds, properLog, initLog, stableAt, kindIf, unforcedAt, isNever, entry, Place, Mid}
 use Rattle.joint.proofs.safety.Logs.{closed, closed-kinds}
 use Rattle.joint.proofs.safety.Logs.{closed-proper, may-close}
-use Rattle.joint.proofs.safety.Crashes.{and-true2}
 use Rattle.joint.proofs.safety.Counts.{own}
 use Rattle.joint.proofs.safety.Orders.{inOrder, Ranged}
 
@@ -69,7 +69,7 @@ module _ (i a : Bool) where
       (at-bool (λ a. properKinds i a (kindsIn l) ⇒ fine 0 i a (kindsIn l)) (at-bool (λ i. allBool (λ a. properKinds i a (kindsIn l) ⇒ fine 0 i a (kindsIn l))) (log-tests l) i) a)
 
   to-tidy : (ks js ms : List ℕ) → ms ≡ ks ++ js → T (leb (length js) 1) → T (fine 0 i a ms) → T (tidy 0 i a ks js)
-  to-tidy ks js ms e u t = and-true2 (fine 0 i a (ks ++ js)) (leb (length js) 1) (subst (λ (l : List ℕ). T (fine 0 i a l)) e t) u
+  to-tidy ks js ms e u t = and-both (fine 0 i a (ks ++ js)) (leb (length js) 1) (subst (λ (l : List ℕ). T (fine 0 i a l)) e t) u
 
   log-tidy : (l : Log) → T (properKinds i a (kindsIn l)) → T (tidy 0 i a (kindsIn l) [])
   log-tidy l p = to-tidy (kindsIn l) [] (kindsIn l) (sym (append-nil (kindsIn l))) tt (log-fine l p)

@@ -17,9 +17,9 @@ use Rattle.codec.specs.laws.Masks.{those-alike}
 use Rattle.codec.specs.laws.Fields.{no-kind-high}
 use Rattle.site.specs.Presumption.{commit, presumptionNumber, presumedAbort, presumedCommit, acks}
 use Rattle.site.specs.Cohort.{Cohort, masksOf, presumptionOf, owing}
+use Rattle.joint.proofs.Booleans.{and-both}
 use Rattle.joint.proofs.view.Updates.{select-append}
 use Rattle.joint.proofs.safety.Invariant.{writesInit, awaitsCommit, fieldsAt, entry}
-use Rattle.joint.proofs.safety.Crashes.{and-true2}
 use Rattle.joint.proofs.safety.Counts.{own, own-head}
 
 -- ---- kinds
@@ -35,7 +35,7 @@ inOrder s i a ks (j ∷ js) = mayStand s i a ks j && inOrder s i a (ks ++ (j ∷
 pub order-front : (s : ℕ) (i a : Bool) (ks js ms : List ℕ) → T (inOrder s i a ks (js ++ ms)) → T (inOrder s i a ks js)
 order-front s i a ks [] ms t = tt
 order-front s i a ks (j ∷ js) ms t =
-    and-true2 (mayStand s i a ks j) _ (and-left (mayStand s i a ks j) _ t) (order-front s i a (ks ++ (j ∷ [])) js ms (and-right (mayStand s i a ks j) _ t))
+    and-both (mayStand s i a ks j) _ (and-left (mayStand s i a ks j) _ t) (order-front s i a (ks ++ (j ∷ [])) js ms (and-right (mayStand s i a ks j) _ t))
 
 -- ---- a cohort in range, and its entries
 

@@ -18,10 +18,10 @@ use Rattle.site.specs.Step.{prepare, voteYes, voteNo, tell, ack, Input, begin, 
 use Rattle.site.specs.Participant.{Participant, outcomeRecord, voting, promising, onPrepare, acking, finish, acknowledging, ackingIf, onTell, participantTimer, participantStep, restartWith, participantRestart}
 use Rattle.joint.specs.State.{Site, holds, forced, started, withParticipant}
 use Rattle.joint.specs.Plan.{closes, newest}
+use Rattle.joint.proofs.Booleans.{mp}
 use Rattle.joint.proofs.view.View.{View, viewAt, viewSettle, viewDown}
 use Rattle.joint.proofs.view.Turn.{Carried, Given, Own, Up, Opened, viewDiscard, viewStart}
 use Rattle.joint.proofs.safety.Tables.{Stage, isUp, stableKinds, has}
-use Rattle.joint.proofs.safety.Finite.{mp}
 use Rattle.joint.proofs.safety.Invariant.{Standing, entry, stageOf, sentIn, Member, Place, Inv}
 use Rattle.joint.proofs.safety.Rows.{ofStatus, effects, settled, woken, dropped, heard, lands, rowTest, onRow, step-at, restart-at, force-at, crash-at, discard-at}
 use Rattle.joint.proofs.safety.Local.{holds-kinds, Elsewhere, AllProper, reach-phase, reach-force, reach-down, reach-started, reach-woken, reach-dropped}

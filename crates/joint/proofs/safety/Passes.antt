@@ -6,24 +6,9 @@ use Rattle.codec.specs.laws.Tests.{and-left, and-right}
 use Rattle.site.specs.Presumption.{Outcome, sameOutcome, Presumption, acks, silence}
 use Rattle.site.specs.Step.{Message, prepare, voteYes, voteNo, ack, messageKind}
 use Rattle.site.specs.Participant.{outcomeRecord}
+use Rattle.joint.proofs.Booleans.{_⇒_, mp, to-⇒, or-right, or-either, or-map, or-not}
 use Rattle.joint.proofs.safety.Tables.{Status, has, Stage, fresh, asking, done, fits, may, mayEnter, needsYes, Fine, passes, acked, maySend}
-use Rattle.joint.proofs.safety.Finite.{_⇒_, mp, allBool, at-bool, allOutcome, at-outcome, allPresumption, at-presumption, allStatus, at-status, allStage, at-stage, allMessage, at-message}
-
-pub or-left : (a b : Bool) → T a → T (a || b)
-or-left true b t = tt
-or-left false b t = absurd t
-
-pub or-right : (a b : Bool) → T b → T (a || b)
-or-right true b t = tt
-or-right false b t = t
-
-pub or-either {ℓ} : {A : Type ℓ} (a b : Bool) → (T a → A) → (T b → A) → T (a || b) → A
-or-either true b f g t = f tt
-or-either false b f g t = g t
-
-to-⇒ : (a b : Bool) → (T a → T b) → T (a ⇒ b)
-to-⇒ true b f = f tt
-to-⇒ false b f = tt
+use Rattle.joint.proofs.safety.Finite.{allBool, at-bool, allOutcome, at-outcome, allPresumption, at-presumption, allStatus, at-status, allStage, at-stage, allMessage, at-message}
 
 -- ---- a change of stage
 
@@ -119,14 +104,6 @@ send-test c m y =
     (at-bool (λ y. allMessage (sendTest c m y))
     (at-stage (λ m. allBool (λ y. allMessage (sendTest c m y)))
     (at-presumption (λ c. allStage (λ m. allBool (λ y. allMessage (sendTest c m y)))) send-tests c) m) y)
-
-or-map : (a b c : Bool) → (T b → T c) → T (a || b) → T (a || c)
-or-map true b c f t = tt
-or-map false b c f t = f t
-
-or-not : (a b : Bool) → T (not a) → T (a || b) → T b
-or-not true b n t = absurd n
-or-not false b n t = t
 
 module _ {c : Presumption} {m : Stage} {s : Status} {sent : Message → Bool} {entered : Outcome → Bool} {voted : Bool} (ok : Fine c m s sent entered voted) where
   -- y: whether it answers a Yes

@@ -15,10 +15,11 @@ use Rattle.site.specs.Cohort.{Cohort, presumptionOf}
 use Rattle.site.specs.Step.{Message, prepare, voteYes, messageKind, Input, begin, timer, received, Row}
 use Rattle.site.specs.Participant.{Participant}
 use Rattle.joint.specs.State.{Site, withParticipant}
+use Rattle.joint.proofs.Booleans.{_⇒_, mp, or-right, or-both, or-map}
 use Rattle.joint.proofs.view.View.{View, viewEffects}
 use Rattle.joint.proofs.view.Turn.{Carried, whole, cutAfter, viewStart}
 use Rattle.joint.proofs.safety.Tables.{Status, isUp, stableKinds, unforcedKinds, Stage, fits, may, mayEnter, Fine}
-use Rattle.joint.proofs.safety.Finite.{_⇒_, mp, allMessage, at-message, allOutcome, at-outcome}
+use Rattle.joint.proofs.safety.Finite.{allMessage, at-message, allOutcome, at-outcome}
 use Rattle.joint.proofs.safety.Invariant.{Standing, stageOf, siteWith, sentIn, Member, Stranger, Place, Inv}
 use Rattle.joint.proofs.safety.Rows.{Part, still, ofStatus, effects, heard, lands, rowTest, Landed, landed, row-whole, row-cut}
 use Rattle.joint.proofs.safety.Local.{Local, local, Elsewhere, Reached, AllProper, take-proper, reach-effects, reach-down, reach-woken}
@@ -81,19 +82,6 @@ module _ {t : ℕ} {h : Standing} {v w : View} (inv : Inv t h v) (n : ℕ) where
       go j false q = place-same t v w (e .cohort) (isMember v j) (stageOf h (suc j)) j (e .rest (suc j) (there j q)) (inv .mid .places j)
 
 -- ---- a member
-
-or-map : (a b d : Bool) → (T b → T d) → T (a || b) → T (a || d)
-or-map true b d f h = tt
-or-map false b d f h = f h
-
-or-right : (a b : Bool) → T b → T (a || b)
-or-right true b h = tt
-or-right false b h = h
-
-or-both : (a b d e : Bool) → (T a → T d) → (T b → T e) → T (a || b) → T (d || e)
-or-both true b true e f g h = tt
-or-both true b false e f g h = absurd (f tt)
-or-both false b d e f g h = or-right d e (g h)
 
 heard-map : (i : Input) (f g : Message → Bool) → ((m : Message) → T (f m) → T (g m)) → T (heard i f) → T (heard i g)
 heard-map begin f g k h = tt

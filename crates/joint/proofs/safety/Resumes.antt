@@ -13,6 +13,7 @@ use Rattle.site.specs.Cohort.{Cohort, presumptionOf, owing}
 use Rattle.site.specs.Step.{Effect, append, force, enter, send, Row, given}
 use Rattle.site.specs.Coordinator.{Coordinator, tellAll, untilAcked, restartFrom, coordinatorRestart}
 use Rattle.joint.specs.State.{Site, holds, started, withCoordinator, withSent}
+use Rattle.joint.proofs.Booleans.{and-both}
 use Rattle.joint.proofs.view.View.{View, viewAt, viewSettle, viewPerform, viewEffects}
 use Rattle.joint.proofs.view.Turn.{Carried, whole, cutAfter, Opened, viewStart}
 use Rattle.joint.proofs.safety.Tables.{has}
@@ -21,7 +22,7 @@ use Rattle.joint.proofs.safety.Invariant.{Log, kindsIn, classOf, resume
 use Rattle.joint.proofs.safety.Logs.{resumed-waiting, down-resting, resumes-commit, resumes-abort}
 use Rattle.joint.proofs.safety.Local.{holds-kinds}
 use Rattle.joint.proofs.safety.Steps.{cohortOf, Shift, move, standsAs, stand, settle-mid}
-use Rattle.joint.proofs.safety.Crashes.{Next, refl-outcome, from-same, and-true2}
+use Rattle.joint.proofs.safety.Crashes.{Next, refl-outcome, from-same}
 use Rattle.joint.proofs.safety.Runs.{Node, Runs, enter-run, runs-at, runs-end, cut-next}
 use Rattle.joint.proofs.safety.Commits.{owes, untilAckedAs, until-phase, until-between, enter-tell}
 use Rattle.joint.proofs.safety.Wakes.{After, after}
@@ -47,7 +48,7 @@ module _ (t : ℕ) (h0 : Standing) where
         proper = mid .proper;
         sets = (those-below _, λ p k. k);
         from = λ x. from-same (writesInit (cohortOf v)) o down (waiting (owing (cohortOf v) o)) l l x (λ k. k);
-        passing = λ n m. and-true2 (sameOutcome o o) _ (refl-outcome o)
+        passing = λ n m. and-both (sameOutcome o o) _ (refl-outcome o)
             (resume-law (not (resumed (classOf l))) (member (suc n) (owing (cohortOf v) o)) (acks (presumptionOf (cohortOf v) (suc n)) o) _ _
             (member-owing (cohortOf v) o n (mid .byte) m) (owes (presumptionOf (cohortOf v) (suc n)) o));
       }
@@ -60,7 +61,7 @@ module _ (t : ℕ) (h0 : Standing) where
         proper = mid .proper;
         sets = tt;
         from = λ x. from-same (writesInit (cohortOf v)) o down (resting false) l l x (λ k. k);
-        passing = λ n m. and-true2 (sameOutcome o o) _ (refl-outcome o)
+        passing = λ n m. and-both (sameOutcome o o) _ (refl-outcome o)
             (resting-law (not (resumed (classOf l))) (acks (presumptionOf (cohortOf v) (suc n)) o) _ _
             (λ a. empty-none (owing (cohortOf v) o) (suc n) e (subst T (sym (member-owing (cohortOf v) o n (mid .byte) m)) a)) (owes (presumptionOf (cohortOf v) (suc n)) o));
       }
@@ -79,7 +80,7 @@ module _ (t : ℕ) (h0 : Standing) where
         proper = mid .proper;
         sets = tt;
         from = λ x. from-same (writesInit (cohortOf v)) o down (resting false) l l x (λ k. k);
-        passing = λ n m. and-true2 (sameOutcome o o) _ (refl-outcome o) (rw e tt);
+        passing = λ n m. and-both (sameOutcome o o) _ (refl-outcome o) (rw e tt);
       }
 
   -- ---- whole or cut

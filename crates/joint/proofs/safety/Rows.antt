@@ -17,8 +17,9 @@ use Rattle.site.specs.Step.{Message, prepare, voteYes, messageKind, Input, begi
 use Rattle.site.specs.Participant.{Participant, participantStep, participantRestart}
 use Rattle.site.specs.Numbers.{participantPhase, participantOf}
 use Rattle.joint.specs.Plan.{closes, newest}
+use Rattle.joint.proofs.Booleans.{_⇒_, mp}
 use Rattle.joint.proofs.safety.Tables.{Status, working, prepared, gone, half, lone, shut, off, offVoted, offShut, isUp, phaseOf, stableKinds, unforcedKinds, has, Stage, fits, may, mayEnter}
-use Rattle.joint.proofs.safety.Finite.{_⇒_, mp, allBool, at-bool, allOutcome, allPresumption, at-presumption, allStatus, at-status, allStage, at-stage, allMessage, at-message}
+use Rattle.joint.proofs.safety.Finite.{allBool, at-bool, allOutcome, allPresumption, at-presumption, allStatus, at-status, allStage, at-stage, allMessage, at-message}
 use Rattle.joint.proofs.safety.Invariant.{entry}
 
 -- ---- a participant, by kinds

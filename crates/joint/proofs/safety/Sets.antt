@@ -13,6 +13,7 @@ use Rattle.codec.specs.laws.Masks.{those-alike, those-below, those-members}
 use Rattle.codec.specs.laws.Members.{numbered, high-bits, member-participant}
 use Rattle.site.specs.Presumption.{Outcome, abort, presumedAbort, presumedCommit, acks}
 use Rattle.site.specs.Cohort.{Cohort, presumptionOf, owing}
+use Rattle.joint.proofs.Booleans.{both-ways}
 
 -- ---- the set of those that pass a test
 
@@ -68,11 +69,11 @@ empty-none w p e t = subst T (ap (member p) (eqb-true w 0 (true-of (eqb w 0) e))
 pub none-empty : (w : ℕ) → w < 256 → ((n : ℕ) → T (member (suc n) w) → ⊥) → T (empty w)
 unfolding empty those bits participants
 none-empty w h none =
-    of-true (eq-eqb w 0 (sym (those-members w h) ∙ those-alike (λ p. member p w) (λ p. false) (λ i k. not-true (member (suc i) w) (none i))))
+    of-true (eq-eqb w 0 (sym (those-members w h) ∙ those-alike (λ p. member p w) (λ p. false) (λ i k. is-false (member (suc i) w) (none i))))
   where
-    not-true : (b : Bool) → (T b → ⊥) → b ≡ false
-    not-true true f = absurd (f tt)
-    not-true false f = refl
+    is-false : (b : Bool) → (T b → ⊥) → b ≡ false
+    is-false true f = absurd (f tt)
+    is-false false f = refl
 
 -- nobody has the number 0
 pub no-zero : (w : ℕ) → T (member 0 w) → ⊥
@@ -98,10 +99,6 @@ module _ (g : Cohort) (o : Outcome) where
 -- a set that is not empty has a member
 pub not-none : (w : ℕ) → w < 256 → T (not (empty w)) → ((n : ℕ) → T (member (suc n) w) → ⊥) → ⊥
 not-none w h e none = both-ways (empty w) (none-empty w h none) e
-  where
-    both-ways : (b : Bool) → T b → T (not b) → ⊥
-    both-ways true t u = u
-    both-ways false t u = t
 
 -- if all of its members are members of m, then m is not empty
 pub not-empty : (w m : ℕ) → w < 256 → T (not (empty w)) → ((n : ℕ) → T (member (suc n) w) → T (member (suc n) m)) → T (not (empty m))

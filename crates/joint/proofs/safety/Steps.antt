@@ -12,10 +12,11 @@ use Rattle.site.specs.Cohort.{Cohort, presumptionOf}
 use Rattle.site.specs.Step.{Message, voteYes, voteNo, messageKind, enter, send}
 use Rattle.site.specs.Coordinator.{Coordinator}
 use Rattle.joint.specs.State.{Site, update, withCoordinator, withSent}
+use Rattle.joint.proofs.Booleans.{or-left, or-either, both-ways}
 use Rattle.joint.proofs.view.Updates.{update-other}
 use Rattle.joint.proofs.view.View.{View, viewAt, viewSettle, viewPerform}
 use Rattle.joint.proofs.safety.Tables.{Status, has, Stage, Fine, passes, acked, maySend}
-use Rattle.joint.proofs.safety.Passes.{or-left, or-either, pass-fine, send-fine}
+use Rattle.joint.proofs.safety.Passes.{pass-fine, send-fine}
 use Rattle.joint.proofs.safety.Invariant.{Standing, never, stageOf, hasDecided, standingFits, properLog, awaitsCommit, SetsFit, writesInit, standingUp, stableAt, unforcedAt, isNever, siteWith, sentIn, Member, Stranger, Place, Mid}
 
 -- ---- what changes of the standing are allowed
@@ -126,10 +127,6 @@ stranger-entered : (t : ℕ) {v : View} {n : ℕ} (o : Outcome) → Stranger n v
 unfolding viewPerform
 stranger-entered t {v} {n} o x =
     record { stable = x .stable; unforced = x .unforced; sent = x .sent; entered = λ d. rw (x .entered d, own-number n) refl }
-
-pub both-ways : (b : Bool) → T b → T (not b) → ⊥
-both-ways true t u = u
-both-ways false t u = t
 
 pub same-outcome : (r o : Outcome) → T (sameOutcome r o) → r ≡ o
 unfolding sameOutcome

@@ -12,6 +12,7 @@ use Rattle.site.specs.Presumption.{Outcome, commit}
 use Rattle.joint.specs.State.{Site, fresh, opened, holds}
 use Rattle.joint.specs.Run.{event, after}
 use Rattle.joint.specs.Safety.{happened, history, along, leaves, commitStable}
+use Rattle.joint.proofs.Booleans.{or-left, or-right, or-either}
 use Rattle.joint.proofs.History.{by-events, after-snoc, history-snoc, passed, committed-snoc}
 use Rattle.joint.proofs.Moments.{any-middle}
 use Rattle.joint.proofs.EventMoments.{commit-stays}
@@ -19,7 +20,6 @@ use Rattle.joint.proofs.view.View.{View, siteView, view}
 use Rattle.joint.proofs.view.Acts.{holds-select}
 use Rattle.joint.proofs.view.Events.{event-turns}
 use Rattle.joint.proofs.safety.Tables.{has, Stage}
-use Rattle.joint.proofs.safety.Passes.{or-left, or-right, or-either}
 use Rattle.joint.proofs.safety.Sets.{none-in-0}
 use Rattle.joint.proofs.safety.Local.{holds-kinds}
 use Rattle.joint.proofs.safety.Invariant.{kindsIn, waiting, resting, down, Standing, never, initial, collecting, decided, hasDecided, initLog, writesInit, stableAt, Place, Mid, Inv}
@@ -40,11 +40,11 @@ module _ (t : ℕ) where
 
   small : (es : List (List ℕ)) (h : Standing) → Inv t h (seenAfter es) → opened (after fresh es) t ≡ true → t < 8
   unfolding view opened
-  small es h inv e = inv .mid .number (not-true (empty (after fresh es .transaction t .cohort .members)) e)
+  small es h inv e = inv .mid .number (is-false (empty (after fresh es .transaction t .cohort .members)) e)
     where
-      not-true : (b : Bool) → not b ≡ true → b ≡ false
-      not-true true q = absurd (true≢false (sym q))
-      not-true false q = refl
+      is-false : (b : Bool) → not b ≡ true → b ≡ false
+      is-false true q = absurd (true≢false (sym q))
+      is-false false q = refl
 
   pub next-kept : (es : List (List ℕ)) (e : List ℕ) (h : Standing) → Inv t h (seenAfter es) → Kept t h (seenAfter es) (seenAfter (es ++ (e ∷ [])))
   next-kept es e h inv = rw (history-snoc, after-snoc) (turns-kept h inv (event-turns t (history fresh es) (after fresh es) e (small es h inv)))

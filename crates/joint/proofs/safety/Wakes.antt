@@ -17,14 +17,15 @@ use Rattle.site.specs.Step.{voteYes, voteNo}
 use Rattle.site.specs.Coordinator.{endRecord}
 use Rattle.joint.specs.State.{Site, forced}
 use Rattle.joint.specs.Plan.{closes, newest}
+use Rattle.joint.proofs.Booleans.{and-both, both-ways}
 use Rattle.joint.proofs.view.View.{View, viewAt}
 use Rattle.joint.proofs.view.Turn.{whole, Up, Opened, trimmedView, viewForget, viewDiscard}
 use Rattle.joint.proofs.safety.Tables.{has, Stage, fresh, asking, done, passes, acked}
 use Rattle.joint.proofs.safety.Sets.{not-empty}
 use Rattle.joint.proofs.safety.Invariant.{Log, l0, l1, l12, l2, l123, l23, l3, l14, l4, kindsIn, classOf, waiting, resting, down, Standing, never, initial, collecting, decided, stageOf, hasDecided, SetsFit, writesInit, awaitsCommit, initLog, stableAt, coordinatorAt, between, entry, siteWith, sentIn, Mid, Inv}
 use Rattle.joint.proofs.safety.Logs.{closed, older, unended, waiting-down, resting-down, commit-record, waiting-unended, ending-unended, closed-fits, closed-kinds, closed-proper, may-close, older-fits, older-kinds, older-proper}
-use Rattle.joint.proofs.safety.Steps.{cohortOf, PassesAt, From, Move, standsAs, stand, same-outcome, both-ways}
-use Rattle.joint.proofs.safety.Crashes.{Next, refl-outcome, from-self, and-true2}
+use Rattle.joint.proofs.safety.Steps.{cohortOf, PassesAt, From, Move, standsAs, stand, same-outcome}
+use Rattle.joint.proofs.safety.Crashes.{Next, refl-outcome, from-self}
 use Rattle.joint.proofs.safety.Commits.{forced-kinds}
 
 -- ---- after a turn
@@ -43,8 +44,8 @@ passes-self : (c : Presumption) (y n a : Bool) (m : Stage) → T (passes c y n a
 passes-self c y n a fresh = tt
 passes-self c y n a (asking true) = tt
 passes-self c y n a (asking false) = tt
-passes-self c y n a (done o true) = and-true2 (sameOutcome o o) _ (refl-outcome o) tt
-passes-self c y n a (done o false) = and-true2 (sameOutcome o o) _ (refl-outcome o) tt
+passes-self c y n a (done o true) = and-both (sameOutcome o o) _ (refl-outcome o) tt
+passes-self c y n a (done o false) = and-both (sameOutcome o o) _ (refl-outcome o) tt
 
 pass-self : (v : View) (m : Stage) (n : ℕ) → PassesAt v m m n
 pass-self v m n = passes-self (presumptionOf (cohortOf v) (suc n)) (sentIn v (suc n) voteYes) (sentIn v (suc n) voteNo) (acked (sentIn v (suc n)) m) m

@@ -1,0 +1,55 @@
+-- Laws of Booleans, by cases.
+use mathlib.Core.Logic.{_⊎_, inl, inr}
+use mathlib.Core.Bool.{Bool, true, false, not, _&&_, _||_}
+use lib.Dec.{T}
+
+-- a test that is asked for only where another holds
+abbrev pub _⇒_ : Bool → Bool → Bool
+true ⇒ b = b
+false ⇒ b = true
+infixr 20 _⇒_
+
+pub mp : (a b : Bool) → T (a ⇒ b) → T a → T b
+mp true b t u = t
+mp false b t u = absurd u
+
+pub to-⇒ : (a b : Bool) → (T a → T b) → T (a ⇒ b)
+to-⇒ true b f = f tt
+to-⇒ false b f = tt
+
+pub and-both : (a b : Bool) → T a → T b → T (a && b)
+and-both true b t u = u
+and-both false b t u = absurd t
+
+pub or-left : (a b : Bool) → T a → T (a || b)
+or-left true b t = tt
+or-left false b t = absurd t
+
+pub or-right : (a b : Bool) → T b → T (a || b)
+or-right true b t = tt
+or-right false b t = t
+
+pub or-either {ℓ} : {A : Type ℓ} (a b : Bool) → (T a → A) → (T b → A) → T (a || b) → A
+or-either true b f g t = f tt
+or-either false b f g t = g t
+
+pub or-cases : (a b : Bool) → T (a || b) → T a ⊎ T b
+or-cases a b = or-either a b inl inr
+
+pub or-both : (a b c d : Bool) → (T a → T c) → (T b → T d) → T (a || b) → T (c || d)
+or-both a b c d f g = or-either a b (λ t. or-left c d (f t)) (λ t. or-right c d (g t))
+
+pub or-map : (a b c : Bool) → (T b → T c) → T (a || b) → T (a || c)
+or-map a b c f = or-both a b a c (λ t. t) f
+
+pub or-not : (a b : Bool) → T (not a) → T (a || b) → T b
+or-not true b n t = absurd n
+or-not false b n t = t
+
+pub not-true : (b : Bool) → (T b → ⊥) → T (not b)
+not-true true f = absurd (f tt)
+not-true false f = tt
+
+pub both-ways : (b : Bool) → T b → T (not b) → ⊥
+both-ways true t u = u
+both-ways false t u = t
