@@ -1,4 +1,5 @@
 -- Laws of Booleans, by cases.
+use mathlib.Core.Path.{_≡_, refl}
 use mathlib.Core.Logic.{_⊎_, inl, inr}
 use mathlib.Core.Bool.{Bool, true, false, not, _&&_, _||_}
 use lib.Dec.{T}
@@ -7,8 +8,8 @@ use lib.Dec.{T}
 abbrev pub _⇒_ : Bool → Bool → Bool
 true ⇒ b = b
 false ⇒ b = true
-infixr 20 _⇒_
 
+infixr 20 _⇒_
 pub mp : (a b : Bool) → T (a ⇒ b) → T a → T b
 mp true b t u = t
 mp false b t u = absurd u
@@ -46,9 +47,17 @@ pub or-not : (a b : Bool) → T (not a) → T (a || b) → T b
 or-not true b n t = absurd n
 or-not false b n t = t
 
+pub or-first : (a b : Bool) → T (a || b) → (T b → ⊥) → T a
+or-first true b t f = tt
+or-first false b t f = absurd (f t)
+
 pub not-true : (b : Bool) → (T b → ⊥) → T (not b)
 not-true true f = absurd (f tt)
 not-true false f = tt
+
+pub is-false : (b : Bool) → (T b → ⊥) → b ≡ false
+is-false true f = absurd (f tt)
+is-false false f = refl
 
 pub both-ways : (b : Bool) → T b → T (not b) → ⊥
 both-ways true t u = u

@@ -25,8 +25,8 @@ use Rattle.joint.proofs.safety.Sets.{empty-none, no-zero}
 use Rattle.joint.proofs.safety.Local.{holds-kinds}
 use Rattle.joint.proofs.safety.Invariant.{Log, waiting, resting, down, Standing, never, initial, collecting, decided, stageOf, hasDecided, sentIn, Member, Place, Mid, Inv}
 use Rattle.joint.proofs.safety.Steps.{cohortOf, same-outcome}
-use Rattle.joint.proofs.safety.Crashes.{refl-outcome}
 use Rattle.joint.proofs.safety.Tracked.{seenAfter, next-kept, Tracked, tracked, track-later}
+use Rattle.joint.proofs.safety.Ways.{refl-outcome}
 
 -- ---- an entry is of what is decided
 

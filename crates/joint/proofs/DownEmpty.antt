@@ -2,25 +2,24 @@
 use Prim.Native.Nat.{ℕ, zero, suc}
 use mathlib.Core.Path.{_≡_, refl, sym, _∙_}
 use mathlib.Core.Logic.{_⊎_, inl, inr}
-use mathlib.Core.Bool.{Bool, true, false, cond, true≢false}
+use mathlib.Core.Bool.{Bool, true, false, true≢false}
 use mathlib.Core.List.{List, [], _∷_, _++_, map}
 use mathlib.Core.Option.{Option, none, some}
 use lib.ListN.{take}
-use lib.Dec.{eqb}
 use native.Mathlib.Omega.{arith}
-use borrow.Author.Tests.{eqb-true, not-false}
+use borrow.Author.Tests.{not-false}
 use Rattle.codec.specs.Lists.{first, onlyIf}
 use Rattle.site.specs.Presumption.{Outcome, commit, abort, Presumption}
 use Rattle.site.specs.Step.{Message, receiver, tell, Input, begin, timer, received, Effect, append, force, enter, send, Row, given}
 use Rattle.site.specs.Cohort.{Cohort}
 use Rattle.site.specs.Coordinator.{inOrder, tellAll, restartFrom, coordinatorRestart}
 use Rattle.site.specs.Participant.{voting, restartWith, participantRestart}
-use Rattle.joint.specs.State.{Run, Site, Transaction, Act, fresh, update, atSite, atTransaction, appended, forced, stopped, started, down, perform, performAll}
+use Rattle.joint.specs.State.{Run, Site, Transaction, Act, fresh, atSite, atTransaction, appended, forced, stopped, started, down, perform, performAll}
 use Rattle.joint.specs.Event.{Event, opening, beginning, delivery, timeout, forcing, discarding, crash, restart}
 use Rattle.joint.specs.Refusals.{isDown, refusals}
 use Rattle.joint.specs.Plan.{Plan, acting, rowPlan, planned, step, orNothing, trimmed, forgottenUnless, discard, restarting, joined, restartAll, plan}
 use Rattle.joint.specs.Run.{Result, refuse, partly, cutShort, carry, event, after}
-use Rattle.joint.proofs.view.Updates.{update-keeps}
+use Rattle.joint.proofs.view.Updates.{update-keeps, update-all}
 use Rattle.joint.proofs.History.{EventCase, refused, whole, cut, event-case, by-events, after-snoc}
 
 abbrev DownEmpty : Site → Type 0
@@ -28,15 +27,6 @@ DownEmpty x = x .up ≡ false → x .unforced ≡ []
 
 abbrev AllDownEmpty : Run → Type 0
 AllDownEmpty r = (s : ℕ) → DownEmpty (r .site s)
-
-update-all {ℓ κ} : {A : Type ℓ} (P : A → Type κ) (g : A → A) (i : ℕ) (f : ℕ → A)
-    → ((j : ℕ) → P (f j)) → (P (f i) → P (g (f i))) → (j : ℕ) → P (update i g f j)
-unfolding update
-update-all P g i f all new j = go (eqb j i) refl
-  where
-    go : (b : Bool) → eqb j i ≡ b → P (cond b (g (f j)) (f j))
-    go true e = rw (eqb-true j i e) (new (all i))
-    go false e = all j
 
 -- ---- acts keep it at a site that is up; those that write no log keep it anywhere
 

@@ -2,13 +2,13 @@
 use Prim.Native.Nat.{ℕ, zero, suc, _≤_, _<_}
 use mathlib.Core.Path.{_≡_, refl, sym, ap, _∙_}
 use mathlib.Core.Logic.{_⊎_, inl, inr, ⊎-elim}
-use mathlib.Core.Bool.{Bool, true, false, cond}
+use mathlib.Core.Bool.{Bool, true, false}
 use mathlib.Core.List.{List, [], _∷_, _++_, map}
 use mathlib.Core.Option.{Option, none, some}
 use native.Mathlib.Omega.{arith}
 use lib.ListN.{length, getD, take}
 use lib.Seq.{take-length, getD-take}
-use lib.Dec.{T, eqb}
+use lib.Dec.{T}
 use borrow.Author.Tests.{leb-true, not-false}
 use Rattle.codec.specs.Lists.{any, onlyIf, first}
 use Rattle.codec.specs.Sets.{member}
@@ -18,7 +18,7 @@ use Rattle.site.specs.Presumption.{Outcome, commit, abort, silence}
 use Rattle.site.specs.Step.{messages, voteYes, tell, messageKind, receiver, Input, begin, timer, received, Effect, append, force, enter, send, Row}
 use Rattle.site.specs.Cohort.{presumptionOf}
 use Rattle.site.specs.Coordinator.{Coordinator, telling, onYes, coordinatorStep}
-use Rattle.joint.specs.State.{Run, Site, Transaction, Act, update, atSite, atTransaction, takesPart, holds, appended, forced, stopped, started, down, perform, performAll}
+use Rattle.joint.specs.State.{Run, Site, Transaction, Act, atSite, atTransaction, takesPart, holds, appended, forced, stopped, started, down, perform, performAll}
 use Rattle.joint.specs.Event.{Event, opening, beginning, delivery, timeout, forcing, discarding, crash, restart, eventOf, ranges, bytesInRange, Parsed, parse}
 use Rattle.joint.specs.Refusals.{stranger, refusals}
 use Rattle.joint.specs.Plan.{Plan, acting, rowPlan, planned, step, orNothing, restarting, joined, restartAll, plan}
@@ -28,6 +28,7 @@ use Rattle.joint.proofs.Booleans.{or-cases}
 use Rattle.joint.proofs.History.{Accepted, EventCase, refused, whole, cut, event-case, passed, any-cases}
 use Rattle.joint.proofs.DownEmpty.{All, passes, is-up}
 use Rattle.joint.proofs.Moments.{not-empty, any-more, Within, moment-within}
+use Rattle.joint.proofs.view.Updates.{update-point}
 
 -- ---- the bytes of a delivered Yes
 
@@ -111,14 +112,6 @@ pub reply-silence : (r : Run) (e : List ℕ) (seen : List Moment) (m : Moment) (
 reply-silence r e seen m rest h t p o reply u = reply-case r e m t p o reply u (event-case r e) (moment-within r e seen m rest h)
 
 -- ---- a stable commit record
-
-update-point {ℓ κ} : {A : Type ℓ} (P : A → Type κ) (g : A → A) → ((x : A) → P x → P (g x)) → (i : ℕ) (f : ℕ → A) (j : ℕ) → P (f j) → P (update i g f j)
-unfolding update
-update-point P g k i f j h = go (eqb j i)
-  where
-    go : (b : Bool) → P (cond b (g (f j)) (f j))
-    go true = k (f j) h
-    go false = h
 
 module _ (t : ℕ) where
   -- record 2 is stable at a site

@@ -10,6 +10,7 @@ pub mod Places
 pub mod Participants
 pub mod Logs
 pub mod Steps
+pub mod Ways
 pub mod Crashes
 pub mod Runs
 pub mod Commits

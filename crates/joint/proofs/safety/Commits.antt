@@ -1,26 +1,28 @@
 -- The coordinator's rows that begin, count votes and commit.
 use Prim.Native.Nat.{ℕ, zero, suc, _<_}
 use mathlib.Core.Path.{_≡_, refl, sym, subst}
-use mathlib.Core.Bool.{Bool, true, false, not, _&&_, _||_, true≢false}
+use mathlib.Core.Bool.{Bool, true, false, not, _&&_}
 use mathlib.Core.List.{List, [], _∷_, _++_, map, append-nil, map-append}
 use lib.Dec.{T, eqb}
 use borrow.Author.Tests.{eqb-true}
 use Rattle.codec.specs.Sets.{member, empty, without}
 use Rattle.codec.specs.laws.Tests.{and-left, true-of}
 use Rattle.codec.specs.laws.Masks.{those-below}
-use Rattle.site.specs.Presumption.{Outcome, commit, abort, sameOutcome, Presumption, presumedAbort, presumedCommit, acks, silence}
-use Rattle.site.specs.Cohort.{Cohort, masksOf, presumptionOf, owing}
+use Rattle.site.specs.Presumption.{Outcome, commit, sameOutcome}
+use Rattle.site.specs.Cohort.{Cohort, masksOf, owing}
 use Rattle.site.specs.Step.{prepare, voteYes, tell, Effect, append, force, enter, send, given}
 use Rattle.site.specs.Coordinator.{inTurn, inOrder, tellAll, untilAcked}
 use Rattle.joint.specs.State.{appended, forced}
-use Rattle.joint.proofs.Booleans.{and-both, or-left, not-true}
+use Rattle.joint.proofs.Booleans.{or-left, not-true, is-false}
 use Rattle.joint.proofs.view.View.{View, viewAt, viewPerform}
 use Rattle.joint.proofs.safety.Sets.{of-those, member-those, member-owing, empty-none, no-zero}
-use Rattle.joint.proofs.safety.Invariant.{Log, kindsIn, classOf, waiting, resting, Pace, Standing, initial, collecting, decided, hasDecided, logFits, writesInit, awaitsCommit, initLog, sentIn, siteWith, coordinatorAt, between, Mid}
-use Rattle.joint.proofs.safety.Logs.{commitLog, end-unwritten, commit-proper}
+use Rattle.joint.proofs.safety.Invariant.{Log, kindsIn, waiting, resting, Pace, Standing, initial, collecting, decided, hasDecided, writesInit, awaitsCommit, initLog, sentIn, siteWith, coordinatorAt, between, Mid}
+use Rattle.joint.proofs.safety.Logs.{commitLog, end-unwritten, commit-waits, commit-has, commit-kinds, commit-proper}
 use Rattle.joint.proofs.safety.Steps.{cohortOf, From, Shift}
-use Rattle.joint.proofs.safety.Crashes.{refl-outcome, from-same, from-none, commit-has, commit-kinds}
+use Rattle.joint.proofs.safety.Crashes.{from-same, from-none}
 use Rattle.joint.proofs.safety.Runs.{Each, Addressee, Node, Runs, node-stay, append-run, force-run, enter-run, sends-run, each-in-turn, each-ordered}
+use Rattle.joint.proofs.safety.Ways.{refl-outcome, way-count, way-commit, way-done, way-self}
+use Rattle.joint.proofs.safety.Tables.{asking}
 
 module _ (t : ℕ) (h0 : Standing) (v : View) where
   abbrev g : Cohort
@@ -66,33 +68,6 @@ module _ (t : ℕ) (h0 : Standing) (v : View) where
 
 -- ---- a Yes of p is counted
 
-count-law : (w e y : Bool) → (T e → T y) → T ((w && not e) || not w || y)
-count-law false e y f = tt
-count-law true false y f = tt
-count-law true true y f = f tt
-
--- the acks that a member owes are those that silence would not mean
-pub owes : (c : Presumption) (o : Outcome) → T (sameOutcome (silence c) o || acks c o)
-unfolding sameOutcome silence acks
-owes presumedAbort commit = tt
-owes presumedAbort abort = tt
-owes presumedCommit commit = tt
-owes presumedCommit abort = tt
-
-pub was-done : (b s a : Bool) → T (not b) → T (not true || not b || s || a)
-was-done true s a k = absurd k
-was-done false s a k = tt
-
-commit-law : (w u a s : Bool) → T (not w) → u ≡ a → T (s || a) → T (not w && (not (not u) || s))
-commit-law true u a s n e o = absurd n
-commit-law false true a s n e o = tt
-commit-law false false true s n e o = absurd (true≢false (sym e))
-commit-law false false false s n e o = or-false s o
-  where
-    or-false : (s : Bool) → T (s || false) → T s
-    or-false true k = k
-    or-false false k = k
-
 module _ (t : ℕ) (h0 : Standing) (v : View) where
   abbrev members : ℕ
   members = cohortOf v .members
@@ -113,22 +88,13 @@ module _ (t : ℕ) (h0 : Standing) (v : View) where
         sets = (those-below (λ q. member q w && not (eqb q p)), without-part p w members (mid .sets .1));
         from = undecided t h0 v (λ o k. k) (λ k. k);
         passing = λ n m. rw (member-those (λ q. member q w && not (eqb q p)) n members (mid .byte) m)
-            (count-law (member (suc n) w) (eqb (suc n) p) (sentIn v (suc n) voteYes) (λ e. subst (λ (q : ℕ). T (sentIn v q voteYes)) (sym (eqb-true (suc n) p (true-of _ e))) y));
+            (way-count v n (member (suc n) w) (eqb (suc n) p) (λ e. subst (λ (q : ℕ). T (sentIn v q voteYes)) (sym (eqb-true (suc n) p (true-of _ e))) y));
       }
 
   -- ---- all have voted: commit
 
   marks : (w : ℕ) → T (empty w) → Shift v (collecting w false) (collecting w true)
-  marks w e = record { never = refl; fit = tt; proper = tt; sets = λ p m. empty-none w p e m; from = undecided t h0 v (λ o k. k) (λ k. k); passing = λ n m. stays-asked (member (suc n) w) _ }
-    where
-      stays-asked : (b y : Bool) → T (b || not b || y)
-      stays-asked true y = tt
-      stays-asked false y = tt
-
-  commit-waits : (j : Bool) (w : ℕ) → T (logFits j commit (waiting w) (classOf (commitLog j)))
-  unfolding sameOutcome
-  commit-waits true w = tt
-  commit-waits false w = tt
+  marks w e = record { never = refl; fit = tt; proper = tt; sets = λ p m. empty-none w p e m; from = undecided t h0 v (λ o k. k) (λ k. k); passing = λ n m. way-self v n (asking (member (suc n) w)) }
 
   commits : (w : ℕ) → Mid t (collecting w true) v → Shift v (collecting w true) (decided commit (waiting (owing (cohortOf v) commit)) (commitLog (writesInit (cohortOf v))))
   unfolding owing
@@ -140,8 +106,8 @@ module _ (t : ℕ) (h0 : Standing) (v : View) where
         sets = (those-below _, λ p m. m);
         from = λ x. from-none x (λ o k. k) (λ k. commit-has (writesInit (cohortOf v)));
         passing = λ n m.
-            commit-law (member (suc n) w) (member (suc n) (owing (cohortOf v) commit)) (acks (presumptionOf (cohortOf v) (suc n)) commit) _
-            (not-true (member (suc n) w) (mid .sets (suc n))) (member-owing (cohortOf v) commit n (mid .byte) m) (owes (presumptionOf (cohortOf v) (suc n)) commit);
+            way-commit v n (member (suc n) w) (member (suc n) (owing (cohortOf v) commit)) (not-true (member (suc n) w) (mid .sets (suc n)))
+            (subst T (sym (member-owing (cohortOf v) commit n (mid .byte) m)));
       }
 
 -- ---- the outcome is told, and what follows where nobody is waited for
@@ -162,7 +128,7 @@ module _ (t : ℕ) (h0 : Standing) where
         proper = mid .proper;
         sets = tt;
         from = λ x. from-same (writesInit (cohortOf v)) o (waiting w) (resting false) l l x (λ k. k);
-        passing = λ n m. and-both (sameOutcome o o) _ (refl-outcome o) (was-done (member (suc n) w) _ _ (not-true (member (suc n) w) (empty-none w (suc n) e)));
+        passing = λ n m. rw (is-false (member (suc n) w) (empty-none w (suc n) e)) (way-done v n o true);
       }
 
   -- the standing in which acks of w are awaited, if any

@@ -1,24 +1,24 @@
 -- The coordinator loses power: from each standing, in the middle of a row too, with each keep.
 use Prim.Native.Nat.{ℕ, zero, suc}
-use mathlib.Core.Path.{_≡_, refl, sym, subst}
+use mathlib.Core.Path.{_≡_, refl}
 use mathlib.Core.Logic.{_⊎_, inl, inr, ⊎-elim}
-use mathlib.Core.Bool.{Bool, true, false, cond, not, _&&_, _||_}
+use mathlib.Core.Bool.{Bool, true, false, not, _&&_}
 use mathlib.Core.List.{List, [], _∷_, _++_, append-nil, map-append}
 use lib.ListN.{take}
 use lib.Dec.{T}
-use Rattle.codec.specs.Lists.{any}
-use Rattle.codec.specs.Sets.{member, empty}
-use Rattle.site.specs.Presumption.{Outcome, commit, abort, sameOutcome, presumedAbort, presumedCommit, silence}
-use Rattle.site.specs.Cohort.{Cohort, presumptionOf}
+use Rattle.codec.specs.Sets.{member}
+use Rattle.site.specs.Presumption.{Outcome, commit, abort, sameOutcome}
+use Rattle.site.specs.Cohort.{Cohort}
 use Rattle.site.specs.Coordinator.{Coordinator, endRecord}
 use Rattle.joint.specs.State.{stopped, withCoordinator, forgotten}
-use Rattle.joint.proofs.Booleans.{_⇒_, and-both, not-true}
+use Rattle.joint.proofs.Booleans.{not-true, mp}
 use Rattle.joint.proofs.view.View.{View, viewAt, viewSettle, viewDown}
-use Rattle.joint.proofs.safety.Tables.{has}
-use Rattle.joint.proofs.safety.Sets.{empty-none}
-use Rattle.joint.proofs.safety.Invariant.{Log, l0, l1, kindsIn, classOf, resumed, waiting, resting, down, Pace, Standing, never, initial, collecting, decided, hasDecided, logFits, properKinds, properLog, awaitsCommit, SetsFit, writesInit, initLog, stableAt, coordinatorAt, between, siteWith, Mid, Inv}
-use Rattle.joint.proofs.safety.Logs.{closed, commitLog, waiting-down, resting-down, closed-fits, closed-kinds, abort-unwritten, closed-has, closed-proper, may-close, initial-proper, commit-proper}
+use Rattle.joint.proofs.safety.Tables.{has, done}
+use Rattle.joint.proofs.safety.Invariant.{Log, l0, l1, kindsIn, classOf, resumed, waiting, resting, down, Pace, Standing, never, initial, collecting, decided, hasDecided, logFits, properLog, awaitsCommit, SetsFit, writesInit, initLog, stableAt, coordinatorAt, between, siteWith, Mid, Inv}
+use Rattle.joint.proofs.safety.Logs.{closed, commitLog, waiting-down, resting-down, closed-fits, closed-kinds, abort-unwritten, closed-has, closed-proper, may-close, abort-down, abort-resumed, commit-down, commit-resumed, commit-has, commit-kinds, initial-proper, commit-proper, none-proper, first-proper}
 use Rattle.joint.proofs.safety.Steps.{cohortOf, From, Shift, move, standsAs, stand, settle-mid}
+use Rattle.joint.proofs.safety.Ways.{way-commit, way-lost, way-done, way-self, way-down}
+use Rattle.codec.specs.laws.Tests.{of-true}
 
 -- ---- a turn's result: the standing after it
 
@@ -47,47 +47,7 @@ module _ (g : Cohort) (t : ℕ) (u : Bool) where
   unfolding stopped
   stopped-kept k ks ms j e = rw (e, map-append, take-nil k) refl
 
--- ---- passing
-
-and-true : (a : Bool) → T a → T (a && true)
-and-true true k = tt
-and-true false k = absurd k
-
-done-before : (a b c : Bool) → T (a || true || b || c)
-done-before true b c = tt
-done-before false b c = tt
-
-stays-so : (u b c : Bool) → T (not u || u || b || c)
-stays-so true b c = tt
-stays-so false b c = tt
-
-waits-passes : (r i : Bool) (o s : Outcome) (u a : Bool) → T (not r ⇒ (sameOutcome o abort && not i)) → T (sameOutcome s abort || i) → T (not (not r) || u || sameOutcome s o || a)
-unfolding sameOutcome
-waits-passes true i o s u a h b = tt
-waits-passes false i commit s u a h b = absurd h
-waits-passes false true abort s u a h b = absurd h
-waits-passes false false abort commit u a h b = absurd b
-waits-passes false false abort abort true a h b = tt
-waits-passes false false abort abort false a h b = tt
-
--- a member that presumes commit has record 1 written
-pub begun : (g : Cohort) (p : ℕ) → T (sameOutcome (silence (presumptionOf g p)) abort || writesInit g)
-unfolding presumptionOf silence sameOutcome
-begun g p = go (member p (g .presumeCommit)) refl (empty (g .presumeCommit)) refl
-  where
-    go : (b : Bool) → member p (g .presumeCommit) ≡ b → (c : Bool) → empty (g .presumeCommit) ≡ c
-        → T (sameOutcome (silence (cond b presumedCommit presumedAbort)) abort || not c)
-    go true e true f = absurd (empty-none (g .presumeCommit) p (subst T (sym f) tt) (subst T (sym e) tt))
-    go true e false f = tt
-    go false e true f = tt
-    go false e false f = tt
-
 -- ---- the ways from standing to standing
-
-pub refl-outcome : (o : Outcome) → T (sameOutcome o o)
-unfolding sameOutcome
-refl-outcome commit = tt
-refl-outcome abort = tt
 
 pub from-self : (i : Bool) (h : Standing) → From i h h
 from-self i h = record { keeps = λ o k. k; new = inl }
@@ -101,50 +61,6 @@ from-same i o p q l l′ h0 grows f = record { keeps = f .keeps; new = λ c. ⊎
 pub from-none : {i : Bool} {h h′ : Standing} (h0 : Standing) → ((o : Outcome) → T (hasDecided h o) → ⊥) → (T (hasDecided h′ commit) → T (has 2 (stableAt i h′)))
     → From i h0 h → From i h0 h′
 from-none h0 none new f = record { keeps = λ o k. absurd (none o (f .keeps o k)); new = λ c. inr (new c) }
-
-initial-fits : (j : Bool) → T (logFits j abort down (classOf (initLog j)))
-unfolding sameOutcome
-initial-fits true = tt
-initial-fits false = tt
-
--- it resumes the abort, or silence means abort
-initial-passes : (j y : Bool) (s : Outcome) → T (sameOutcome s abort || j) → T (not (not (resumed (classOf (initLog j)))) || sameOutcome s abort || y)
-unfolding sameOutcome
-initial-passes true y s k = tt
-initial-passes false y commit k = absurd k
-initial-passes false y abort k = tt
-
-none-proper : (j a : Bool) → T (properKinds j a [])
-unfolding has any
-none-proper true true = tt
-none-proper true false = tt
-none-proper false true = tt
-none-proper false false = tt
-
--- record 1 alone
-first-proper : (j a : Bool) → T j → T (properKinds j a (1 ∷ []))
-unfolding has any
-first-proper true true k = tt
-first-proper true false k = tt
-first-proper false a k = absurd k
-
-commit-fits : (j : Bool) → T (logFits j commit down (classOf (commitLog j)))
-unfolding sameOutcome
-commit-fits true = tt
-commit-fits false = tt
-
-pub commit-kinds : (j : Bool) → kindsIn (commitLog j) ≡ kindsIn (initLog j) ++ (2 ∷ [])
-commit-kinds true = refl
-commit-kinds false = refl
-
-pub commit-has : (j : Bool) → T (has 2 (kindsIn (commitLog j)))
-unfolding has any
-commit-has true = tt
-commit-has false = tt
-
-commit-passes : (j w s : Bool) → T (not w) → T (not w && (not (not (resumed (classOf (commitLog j)))) || s))
-commit-passes true w s k = and-true (not w) k
-commit-passes false w s k = and-true (not w) k
 
 module _ (t : ℕ) (v : View) where
   abbrev i : Bool
@@ -177,22 +93,22 @@ module _ (t : ℕ) (v : View) where
   from-collecting w b =
       record {
         never = refl;
-        fit = initial-fits i;
+        fit = abort-down i;
         proper = initial-proper i a;
         sets = tt;
         from = λ h0. from-none h0 (λ o k. k) (λ k. absurd k);
-        passing = λ n m. initial-passes i _ (silence (presumptionOf (cohortOf v) (suc n))) (begun (cohortOf v) (suc n));
+        passing = λ n m. way-lost v n (member (suc n) w) (resumed (classOf (initLog i))) (abort-resumed i);
       }
 
   from-marked : (w : ℕ) → SetsFit (cohortOf v) (collecting w true) → Shift v (collecting w true) (decided commit down (commitLog i))
   from-marked w none =
       record {
         never = refl;
-        fit = commit-fits i;
+        fit = commit-down i;
         proper = commit-proper i a;
         sets = tt;
         from = λ h0. from-none h0 (λ o k. k) (λ k. commit-has i);
-        passing = λ n m. commit-passes i (member (suc n) w) _ (not-true (member (suc n) w) (none (suc n)));
+        passing = λ n m. way-commit v n (member (suc n) w) (resumed (classOf (commitLog i))) (not-true (member (suc n) w) (none (suc n))) (λ k. of-true (commit-resumed i));
       }
 
   -- decided: the outcome stays
@@ -205,7 +121,7 @@ module _ (t : ℕ) (v : View) where
         proper = p;
         sets = tt;
         from = λ h0. from-same i o (resting b) down l l′ h0 grows;
-        passing = λ n m. and-both (sameOutcome o o) _ (refl-outcome o) (done-before (not (not (resumed (classOf l′)))) _ _);
+        passing = λ n m. way-done v n o (not (resumed (classOf l′)));
       }
 
   waits : (o : Outcome) (w : ℕ) (l : Log) → T (logFits i o (waiting w) (classOf l)) → T (properLog i a (decided o down l)) → Shift v (decided o (waiting w) l) (decided o down l)
@@ -216,7 +132,7 @@ module _ (t : ℕ) (v : View) where
         proper = p;
         sets = tt;
         from = λ h0. from-same i o (waiting w) down l l h0 (λ k. k);
-        passing = λ n m. and-both (sameOutcome o o) _ (refl-outcome o) (waits-passes (resumed (classOf l)) i o (silence (presumptionOf (cohortOf v) (suc n))) _ _ (abort-unwritten i o l w f) (begun (cohortOf v) (suc n)));
+        passing = λ n m. way-down v n o (not (member (suc n) w)) (resumed (classOf l)) (mp (not (resumed (classOf l))) (sameOutcome o abort && not i) (abort-unwritten i o l w f));
       }
 
   -- ---- the crash
@@ -240,4 +156,4 @@ module _ (t : ℕ) (v : View) where
       lost mid (suc k) (rests o true l (closed l) (resting-down i o (closed l) false (closed-fits i o l (mid .fit))) (closed-proper i a o l (mid .fit) (may-close (cohortOf v) o l (mid .sets)) (mid .proper)) (closed-has l))
       (stopped-kept (cohortOf v) t true k (kindsIn l) (kindsIn (closed l)) (endRecord o) (closed-kinds i o l (mid .fit))) refl tt
   crash-next (decided o down l) mid k =
-      lost {h′ = decided o down l} mid k (record { never = refl; fit = mid .fit; proper = mid .proper; sets = tt; from = λ h0 f. f; passing = λ n m. and-both (sameOutcome o o) _ (refl-outcome o) (stays-so (not (resumed (classOf l))) _ _) }) (stopped-none (cohortOf v) t false k (kindsIn l)) refl tt
+      lost {h′ = decided o down l} mid k (record { never = refl; fit = mid .fit; proper = mid .proper; sets = tt; from = λ h0 f. f; passing = λ n m. way-self v n (done o (not (resumed (classOf l)))) }) (stopped-none (cohortOf v) t false k (kindsIn l)) refl tt

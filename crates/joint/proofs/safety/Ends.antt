@@ -8,34 +8,23 @@ use borrow.Author.Tests.{eqb-true}
 use Rattle.codec.specs.Sets.{member, empty, without, both}
 use Rattle.codec.specs.laws.Tests.{and-right, true-of}
 use Rattle.codec.specs.laws.Masks.{those-below}
-use Rattle.site.specs.Presumption.{Outcome, commit, abort, sameOutcome, acks, silence}
+use Rattle.site.specs.Presumption.{Outcome, commit, abort, sameOutcome, silence}
 use Rattle.site.specs.Cohort.{Cohort, presumptionOf, owing}
 use Rattle.site.specs.Step.{voteYes, voteNo, tell, ack, Effect, append, enter, send, given}
 use Rattle.site.specs.Coordinator.{endRecord, inOrder, tellAll, untilAcked}
 use Rattle.joint.specs.State.{appended}
-use Rattle.joint.proofs.Booleans.{and-both, or-left, or-right, not-true}
+use Rattle.joint.proofs.Booleans.{or-left, or-right, and-both, is-false}
 use Rattle.joint.proofs.view.View.{View}
 use Rattle.joint.proofs.safety.Sets.{of-those, member-those, member-owing, empty-none, no-zero}
-use Rattle.joint.proofs.safety.Invariant.{Log, kindsIn, classOf, waiting, resting, Pace, Standing, collecting, decided, logFits, SetsFit, writesInit, awaitsCommit, initLog, sentIn, siteWith, coordinatorAt, between, Mid}
-use Rattle.joint.proofs.safety.Logs.{end-written, initial-proper}
+use Rattle.joint.proofs.safety.Invariant.{Log, kindsIn, waiting, resting, Pace, Standing, collecting, decided, SetsFit, writesInit, awaitsCommit, initLog, sentIn, siteWith, coordinatorAt, between, Mid}
+use Rattle.joint.proofs.safety.Logs.{end-written, abort-waits, initial-proper}
 use Rattle.joint.proofs.safety.Steps.{cohortOf, Shift}
-use Rattle.joint.proofs.safety.Crashes.{refl-outcome, from-same, from-none}
+use Rattle.joint.proofs.safety.Crashes.{from-same, from-none}
 use Rattle.joint.proofs.safety.Runs.{Node, Runs, node-stay, append-run, send-run, sends-run}
-use Rattle.joint.proofs.safety.Commits.{owes, was-done, without-part, told, until-acked, enter-tell}
+use Rattle.joint.proofs.safety.Commits.{without-part, told, until-acked, enter-tell}
+use Rattle.joint.proofs.safety.Ways.{refl-outcome, way-abort, way-done, way-hear}
 
 -- ---- abort, told to the set `to`
-
--- a member is told and silence or an ack settles it, or it has voted No
-abort-law : (t u a s n : Bool) → u ≡ (t && a) → T (s || a) → (T (not t) → T n) → T (not (not u) || s || n)
-abort-law t u a true n e o f = or-left (not (not u) || true) n (or-right (not (not u)) true tt)
-abort-law true true a false n e o f = tt
-abort-law true false a false n e o f = absurd (subst T (sym e) o)
-abort-law false u a false n e o f = or-right (not (not u) || false) n (f tt)
-
-abort-waits : (j : Bool) (w : ℕ) → T (logFits j abort (waiting w) (classOf (initLog j)))
-unfolding sameOutcome
-abort-waits true w = tt
-abort-waits false w = tt
 
 -- those told of whom an ack is owed
 abbrev pub awaited : Cohort → ℕ → ℕ
@@ -56,9 +45,9 @@ module _ (t : ℕ) (h0 : Standing) (v : View) where
         sets = (those-below inBoth, part);
         from = λ x. from-none x (λ o k. k) (λ k. absurd k);
         passing = λ n m.
-            abort-law (member (suc n) to) (member (suc n) (awaited cohort to)) (acks (presumptionOf cohort (suc n)) abort) _ _
-            (member-those inBoth n (cohort .members) (mid .byte) m ∙ ap (λ (b : Bool). member (suc n) to && b) (member-owing cohort abort n (mid .byte) m))
-            (owes (presumptionOf cohort (suc n)) abort) (said n m);
+            way-abort v n (member (suc n) w) (member (suc n) to) (member (suc n) (awaited cohort to))
+            (λ t a. subst T (sym (member-those inBoth n (cohort .members) (mid .byte) m)) (and-both (member (suc n) to) (member (suc n) (owing cohort abort)) t (subst T (sym (member-owing cohort abort n (mid .byte) m)) a)))
+            (said n m);
       }
     where
       inBoth : ℕ → Bool
@@ -81,7 +70,7 @@ module _ (t : ℕ) (h0 : Standing) where
         proper = mid .proper;
         sets = s;
         from = λ x. from-same (writesInit (cohortOf v)) o (waiting w) (resting true) l l x (λ k. k);
-        passing = λ n m. and-both (sameOutcome o o) _ (refl-outcome o) (was-done (member (suc n) w) _ _ (not-true (member (suc n) w) (empty-none w (suc n) e)));
+        passing = λ n m. rw (is-false (member (suc n) w) (empty-none w (suc n) e)) (way-done v n o true);
       }
 
   end-appended : (g : Cohort) (o : Outcome) (ks : List ℕ)
@@ -132,11 +121,6 @@ module _ (t : ℕ) (h0 : Standing) where
 
 -- ---- an ack of p is heard
 
-hears-law : (w e s a : Bool) → (T e → T a) → T (not (not (w && not e)) || not w || s || a)
-hears-law false e s a f = tt
-hears-law true false s a f = tt
-hears-law true true s a f = or-right (not (not false) || not true || s) a (f tt)
-
 module _ (t : ℕ) (h0 : Standing) where
   pub hears : (v : View) (o : Outcome) (p w : ℕ) (l : Log) → Mid t (decided o (waiting w) l) v → T (sentIn v p (ack o)) → Shift v (decided o (waiting w) l) (decided o (waiting (without p w)) l)
   unfolding without
@@ -147,9 +131,9 @@ module _ (t : ℕ) (h0 : Standing) where
         proper = mid .proper;
         sets = (those-below (λ q. member q w && not (eqb q p)), without-part t h0 v p w (owing (cohortOf v) o) (mid .sets .1));
         from = λ x. from-same (writesInit (cohortOf v)) o (waiting w) (waiting (without p w)) l l x (λ k. k);
-        passing = λ n m. and-both (sameOutcome o o) _ (refl-outcome o)
-            (rw (member-those (λ q. member q w && not (eqb q p)) n (cohortOf v .members) (mid .byte) m)
-            (hears-law (member (suc n) w) (eqb (suc n) p) _ (sentIn v (suc n) (ack o)) (λ e. subst (λ (q : ℕ). T (sentIn v q (ack o))) (sym (eqb-true (suc n) p (true-of _ e))) a)));
+        passing = λ n m.
+            rw (member-those (λ q. member q w && not (eqb q p)) n (cohortOf v .members) (mid .byte) m)
+            (way-hear v n o (member (suc n) w) (eqb (suc n) p) (λ e. subst (λ (q : ℕ). T (sentIn v q (ack o))) (sym (eqb-true (suc n) p (true-of _ e))) a));
       }
 
   -- ---- the outcome is told again

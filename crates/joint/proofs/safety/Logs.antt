@@ -91,13 +91,11 @@ laws w a i o l =
     -- 12, 13: what restart asks of the kinds
     ∷ (logFits i o down (classOf l) ⇒ alike (has 2 (kindsIn l) && not (has 3 (kindsIn l))) (sameOutcome o commit && resumed (classOf l)))
     ∷ (logFits i o down (classOf l) ⇒ alike (has 1 (kindsIn l) && not (has 2 (kindsIn l)) && not (has 4 (kindsIn l))) (sameOutcome o abort && resumed (classOf l)))
-    -- 14: record 2 stays; 15 to 18: records 1 and 3 stand where they may
+    -- 14: record 2 stays; 15, 16: records 1 and 3 stand where they may
     ∷ (has 2 (kindsIn l) ⇒ has 2 (kindsIn (closed l)))
     ∷ (logFits i o (resting true) (classOf l) ⇒ (sameOutcome o abort || a) ⇒ properKinds i a (kindsIn l) ⇒ properKinds i a (kindsIn (closed l)))
     ∷ (properKinds i a (kindsIn l) ⇒ properKinds i a (kindsIn (older l)))
-    ∷ properKinds i a (kindsIn (initLog i))
-    ∷ properKinds i a (kindsIn (commitLog i))
-    -- 19: what is waited for, or whose end is unforced, has no stable end record
+    -- 17: what is waited for, or whose end is unforced, has no stable end record
     ∷ ((logFits i o (waiting w) (classOf l) || logFits i o (resting true) (classOf l)) ⇒ unended (classOf l))
     ∷ []
 
@@ -167,12 +165,12 @@ module _ (i : Bool) (o : Outcome) (l : Log) where
 
   pub waiting-unended : (w : ℕ) → Fits (waiting w) → T (unended (classOf l))
   waiting-unended w f =
-      mp (logFits i o (waiting w) (classOf l) || logFits i o (resting true) (classOf l)) (unended (classOf l)) (law 19 w i o l)
+      mp (logFits i o (waiting w) (classOf l) || logFits i o (resting true) (classOf l)) (unended (classOf l)) (law 17 w i o l)
       (or-left (logFits i o (waiting w) (classOf l)) (logFits i o (resting true) (classOf l)) f)
 
   pub ending-unended : Fits (resting true) → T (unended (classOf l))
   ending-unended f =
-      mp (logFits i o (waiting 0) (classOf l) || logFits i o (resting true) (classOf l)) (unended (classOf l)) (law 19 0 i o l)
+      mp (logFits i o (waiting 0) (classOf l) || logFits i o (resting true) (classOf l)) (unended (classOf l)) (law 17 0 i o l)
       (or-right (logFits i o (waiting 0) (classOf l)) (logFits i o (resting true) (classOf l)) f)
 
 pub closed-has : (l : Log) → T (has 2 (kindsIn l)) → T (has 2 (kindsIn (closed l)))
@@ -188,11 +186,71 @@ module _ (i a : Bool) where
   pub older-proper : (l : Log) → T (properKinds i a (kindsIn l)) → T (properKinds i a (kindsIn (older l)))
   older-proper l = mp (properKinds i a (kindsIn l)) (properKinds i a (kindsIn (older l))) (law-of 16 0 a i commit l)
 
-  pub initial-proper : T (properKinds i a (kindsIn (initLog i)))
-  initial-proper = law-of 17 0 a i commit l0
+-- ---- the logs with which a coordinator collects, and commits
 
-  pub commit-proper : T (properKinds i a (kindsIn (commitLog i)))
-  commit-proper = law-of 18 0 a i commit l0
+-- i: record 1 is written, a: an ack is owed for commit
+abbrev beginnings : ℕ → Bool → Bool → List Bool
+beginnings w i a =
+    -- 0, 1: an abort from there, down or waiting; 2: it is resumed where record 1 is written
+    logFits i abort down (classOf (initLog i))
+    ∷ logFits i abort (waiting w) (classOf (initLog i))
+    ∷ (i ⇒ resumed (classOf (initLog i)))
+    -- 3, 4: a commit; 5: it is resumed; 6, 7: with record 2 behind what was there
+    ∷ logFits i commit down (classOf (commitLog i))
+    ∷ logFits i commit (waiting w) (classOf (commitLog i))
+    ∷ resumed (classOf (commitLog i))
+    ∷ has 2 (kindsIn (commitLog i))
+    ∷ same (kindsIn (commitLog i)) (kindsIn (initLog i) ++ (2 ∷ []))
+    -- 8 to 11: records 1 and 3 stand where they may
+    ∷ properKinds i a (kindsIn (initLog i))
+    ∷ properKinds i a (kindsIn (commitLog i))
+    ∷ properKinds i a []
+    ∷ (i ⇒ properKinds i a (1 ∷ []))
+    ∷ []
+
+beginning-tests : (w : ℕ) → T (allBool (λ i. allBool (λ a. allOf (beginnings w i a))))
+unfolding any same has sameOutcome
+beginning-tests w = tt
+
+module _ (i : Bool) where
+  beginning : (k w : ℕ) (a : Bool) → T (nth k (beginnings w i a))
+  beginning k w a = look k (beginnings w i a) (at-bool (λ a. allOf (beginnings w i a)) (at-bool (λ i. allBool (λ a. allOf (beginnings w i a))) (beginning-tests w) i) a)
+
+  pub abort-down : T (logFits i abort down (classOf (initLog i)))
+  abort-down = beginning 0 0 true
+
+  pub abort-waits : (w : ℕ) → T (logFits i abort (waiting w) (classOf (initLog i)))
+  abort-waits w = beginning 1 w true
+
+  pub abort-resumed : T i → T (resumed (classOf (initLog i)))
+  abort-resumed = mp i (resumed (classOf (initLog i))) (beginning 2 0 true)
+
+  pub commit-down : T (logFits i commit down (classOf (commitLog i)))
+  commit-down = beginning 3 0 true
+
+  pub commit-waits : (w : ℕ) → T (logFits i commit (waiting w) (classOf (commitLog i)))
+  commit-waits w = beginning 4 w true
+
+  pub commit-resumed : resumed (classOf (commitLog i)) ≡ true
+  commit-resumed = true-of (resumed (classOf (commitLog i))) (beginning 5 0 true)
+
+  pub commit-has : T (has 2 (kindsIn (commitLog i)))
+  commit-has = beginning 6 0 true
+
+  pub commit-kinds : kindsIn (commitLog i) ≡ kindsIn (initLog i) ++ (2 ∷ [])
+  commit-kinds = same-list _ _ (true-of (same (kindsIn (commitLog i)) (kindsIn (initLog i) ++ (2 ∷ []))) (beginning 7 0 true))
+
+  pub initial-proper : (a : Bool) → T (properKinds i a (kindsIn (initLog i)))
+  initial-proper a = beginning 8 0 a
+
+  pub commit-proper : (a : Bool) → T (properKinds i a (kindsIn (commitLog i)))
+  commit-proper a = beginning 9 0 a
+
+  pub none-proper : (a : Bool) → T (properKinds i a [])
+  none-proper a = beginning 10 0 a
+
+  pub first-proper : (a : Bool) → T i → T (properKinds i a (1 ∷ []))
+  first-proper a = mp i (properKinds i a (1 ∷ [])) (beginning 11 0 a)
 
 -- a record 3 stands unforced where acks were owed
 pub may-close : (g : Cohort) (o : Outcome) (l : Log) → SetsFit g (decided o (resting true) l) → T (sameOutcome o abort || awaitsCommit g)

@@ -9,18 +9,18 @@ use lib.Dec.{T, eqb, leb}
 use native.Mathlib.Omega.{arith}
 use borrow.Author.Tests.{eq-eqb, le-leb, le-ltb, eqb-true}
 use Rattle.codec.specs.Lists.{select, any, all, every, same, first}
-use Rattle.codec.specs.Sets.{member, empty, minus, part}
+use Rattle.codec.specs.Sets.{member, empty, part}
 use Rattle.codec.specs.Records.{LogRecord, bytesOf, recordOf, lengths, lengthOf, membersIn, presumeCommitIn, awaitsAcks, recordKindAt, masksInRange, fieldsInRange, isRecord, sequences, agrees, ofTransaction, inSequence, recordTests, recordRefusals}
 use Rattle.codec.specs.Image.{most, overLimit, logRefusals}
 use Rattle.codec.specs.laws.Tests.{and-left, and-right, true-of, lt-or-le}
-use Rattle.codec.specs.laws.Masks.{those-alike}
 use Rattle.codec.specs.laws.Fields.{no-kind-high}
-use Rattle.site.specs.Presumption.{commit, presumptionNumber, presumedAbort, presumedCommit, acks}
-use Rattle.site.specs.Cohort.{Cohort, masksOf, presumptionOf, owing}
+use Rattle.site.specs.Presumption.{presumptionNumber, presumedAbort, presumedCommit}
+use Rattle.site.specs.Cohort.{Cohort, masksOf, presumptionOf}
 use Rattle.joint.proofs.Booleans.{and-both}
 use Rattle.joint.proofs.view.Updates.{select-append}
 use Rattle.joint.proofs.safety.Invariant.{writesInit, awaitsCommit, fieldsAt, entry}
 use Rattle.joint.proofs.safety.Counts.{own, own-head}
+use Rattle.joint.proofs.safety.Sets.{owing-minus}
 
 -- ---- kinds
 
@@ -88,16 +88,6 @@ module _ (g : Cohort) (t : ℕ) (h : t < 8) (m : Ranged g) where
   entry-record s k a b = entry-fields s k (kind-below s k a) a b
 
 -- ---- the order of a transaction's entries
-
-owing-minus : (g : Cohort) → owing g commit ≡ minus (g .members) (g .presumeCommit)
-unfolding owing minus presumptionOf acks
-owing-minus g =
-    those-alike (λ p. member p (g .members) && acks (presumptionOf g p) commit) (λ p. member p (g .members) && not (member p (g .presumeCommit)))
-    (λ i h. ap (λ (b : Bool). member (suc i) (g .members) && b) (go (member (suc i) (g .presumeCommit))))
-  where
-    go : (b : Bool) → acks (cond b presumedCommit presumedAbort) commit ≡ not b
-    go true = refl
-    go false = refl
 
 same-self : (l : List ℕ) → same l l ≡ true
 unfolding same

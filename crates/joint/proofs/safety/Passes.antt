@@ -1,5 +1,5 @@
 -- What the coordinator does, as one participant meets it: a change of stage, and a message, keep the participant's invariant. Closed tests.
-use mathlib.Core.Bool.{Bool, true, false, not, _&&_, _||_}
+use mathlib.Core.Bool.{Bool, not, _&&_, _||_}
 use lib.Dec.{T, eqb}
 use Rattle.codec.specs.Lists.{any}
 use Rattle.codec.specs.laws.Tests.{and-left, and-right}

@@ -1,19 +1,18 @@
 -- The coordinator's restart, and the opening of a transaction, keep the invariant.
 use Prim.Native.Nat.{ℕ, suc}
 use mathlib.Core.Path.{_≡_, refl, sym, ap, _∙_, subst}
-use mathlib.Core.Bool.{Bool, true, false, not, _&&_, _||_, true≢false}
+use mathlib.Core.Bool.{Bool, true, false, not, _&&_, true≢false}
 use mathlib.Core.List.{List, [], _∷_, append-nil}
 use lib.ListN.{take}
 use lib.Dec.{T}
 use Rattle.codec.specs.Sets.{member, empty}
 use Rattle.codec.specs.laws.Tests.{of-true}
 use Rattle.codec.specs.laws.Masks.{those-below}
-use Rattle.site.specs.Presumption.{Outcome, commit, abort, sameOutcome, acks}
-use Rattle.site.specs.Cohort.{Cohort, presumptionOf, owing}
+use Rattle.site.specs.Presumption.{Outcome, commit, abort, sameOutcome}
+use Rattle.site.specs.Cohort.{Cohort, owing}
 use Rattle.site.specs.Step.{Effect, append, force, enter, send, Row, given}
 use Rattle.site.specs.Coordinator.{Coordinator, tellAll, untilAcked, restartFrom, coordinatorRestart}
 use Rattle.joint.specs.State.{Site, holds, started, withCoordinator, withSent}
-use Rattle.joint.proofs.Booleans.{and-both}
 use Rattle.joint.proofs.view.View.{View, viewAt, viewSettle, viewPerform, viewEffects}
 use Rattle.joint.proofs.view.Turn.{Carried, whole, cutAfter, Opened, viewStart}
 use Rattle.joint.proofs.safety.Tables.{has}
@@ -22,20 +21,13 @@ use Rattle.joint.proofs.safety.Invariant.{Log, kindsIn, classOf, resume
 use Rattle.joint.proofs.safety.Logs.{resumed-waiting, down-resting, resumes-commit, resumes-abort}
 use Rattle.joint.proofs.safety.Local.{holds-kinds}
 use Rattle.joint.proofs.safety.Steps.{cohortOf, Shift, move, standsAs, stand, settle-mid}
-use Rattle.joint.proofs.safety.Crashes.{Next, refl-outcome, from-same}
+use Rattle.joint.proofs.safety.Crashes.{Next, from-same}
 use Rattle.joint.proofs.safety.Runs.{Node, Runs, enter-run, runs-at, runs-end, cut-next}
-use Rattle.joint.proofs.safety.Commits.{owes, untilAckedAs, until-phase, until-between, enter-tell}
+use Rattle.joint.proofs.safety.Commits.{untilAckedAs, until-phase, until-between, enter-tell}
 use Rattle.joint.proofs.safety.Wakes.{After, after}
+use Rattle.joint.proofs.safety.Ways.{refl-outcome, way-done, way-resume}
 
 -- ---- the standing that a restart leads to
-
--- b: somebody is waited for or not
-resume-law : (u w a s k : Bool) → w ≡ a → T (s || a) → T (not (not w) || u || s || k)
-resume-law u true a s k e o = tt
-resume-law true false a s k e o = tt
-resume-law false false true s k e o = absurd (true≢false (sym e))
-resume-law false false false true k e o = tt
-resume-law false false false false k e o = absurd o
 
 module _ (t : ℕ) (h0 : Standing) where
   -- the outcome is resumed: acks are awaited, or none is owed
@@ -48,9 +40,8 @@ module _ (t : ℕ) (h0 : Standing) where
         proper = mid .proper;
         sets = (those-below _, λ p k. k);
         from = λ x. from-same (writesInit (cohortOf v)) o down (waiting (owing (cohortOf v) o)) l l x (λ k. k);
-        passing = λ n m. and-both (sameOutcome o o) _ (refl-outcome o)
-            (resume-law (not (resumed (classOf l))) (member (suc n) (owing (cohortOf v) o)) (acks (presumptionOf (cohortOf v) (suc n)) o) _ _
-            (member-owing (cohortOf v) o n (mid .byte) m) (owes (presumptionOf (cohortOf v) (suc n)) o));
+        passing = λ n m.
+            way-resume v n o (not (resumed (classOf l))) (member (suc n) (owing (cohortOf v) o)) (subst T (sym (member-owing (cohortOf v) o n (mid .byte) m)));
       }
 
   resumes-resting : (v : View) (o : Outcome) (l : Log) → Mid t (decided o down l) v → T (empty (owing (cohortOf v) o)) → Shift v (decided o down l) (decided o (resting false) l)
@@ -61,16 +52,10 @@ module _ (t : ℕ) (h0 : Standing) where
         proper = mid .proper;
         sets = tt;
         from = λ x. from-same (writesInit (cohortOf v)) o down (resting false) l l x (λ k. k);
-        passing = λ n m. and-both (sameOutcome o o) _ (refl-outcome o)
-            (resting-law (not (resumed (classOf l))) (acks (presumptionOf (cohortOf v) (suc n)) o) _ _
-            (λ a. empty-none (owing (cohortOf v) o) (suc n) e (subst T (sym (member-owing (cohortOf v) o n (mid .byte) m)) a)) (owes (presumptionOf (cohortOf v) (suc n)) o));
+        passing = λ n m.
+            way-resume v n o (not (resumed (classOf l))) false
+            (λ a. empty-none (owing (cohortOf v) o) (suc n) e (subst T (sym (member-owing (cohortOf v) o n (mid .byte) m)) a));
       }
-    where
-      resting-law : (u a s k : Bool) → (T a → ⊥) → T (s || a) → T (not true || u || s || k)
-      resting-law true a s k f o = tt
-      resting-law false a true k f o = tt
-      resting-law false true false k f o = absurd (f tt)
-      resting-law false false false k f o = absurd o
 
   forgets : (v : View) (o : Outcome) (l : Log) → Mid t (decided o down l) v → resumed (classOf l) ≡ false → Shift v (decided o down l) (decided o (resting false) l)
   forgets v o l mid e =
@@ -80,7 +65,7 @@ module _ (t : ℕ) (h0 : Standing) where
         proper = mid .proper;
         sets = tt;
         from = λ x. from-same (writesInit (cohortOf v)) o down (resting false) l l x (λ k. k);
-        passing = λ n m. and-both (sameOutcome o o) _ (refl-outcome o) (rw e tt);
+        passing = λ n m. rw e (way-done v n o true);
       }
 
   -- ---- whole or cut

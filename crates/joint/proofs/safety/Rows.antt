@@ -9,7 +9,7 @@ use lib.Dec.{T, eqb}
 use borrow.Author.Tests.{eqb-true, not-true}
 use Rattle.codec.specs.Lists.{any, same}
 use Rattle.codec.specs.Open.{codec-opens}
-use Rattle.codec.specs.laws.Tests.{and-left, and-right, true-of, of-true, alike, alike-eq, same-list}
+use Rattle.codec.specs.laws.Tests.{and-left, and-right, true-of, alike, alike-eq, same-list}
 use Rattle.site.specs.Open.{site-opens}
 use Rattle.site.specs.Presumption.{Outcome, commit, abort, sameOutcome, Presumption}
 use Rattle.site.specs.Cohort.{Cohort}
@@ -21,6 +21,7 @@ use Rattle.joint.proofs.Booleans.{_⇒_, mp}
 use Rattle.joint.proofs.safety.Tables.{Status, working, prepared, gone, half, lone, shut, off, offVoted, offShut, isUp, phaseOf, stableKinds, unforcedKinds, has, Stage, fits, may, mayEnter}
 use Rattle.joint.proofs.safety.Finite.{allBool, at-bool, allOutcome, allPresumption, at-presumption, allStatus, at-status, allStage, at-stage, allMessage, at-message}
 use Rattle.joint.proofs.safety.Invariant.{entry}
+use Rattle.joint.proofs.Moments.{any-found}
 
 -- ---- a participant, by kinds
 
@@ -250,16 +251,6 @@ module _ (g : Cohort) (t p : ℕ) where
 
 -- ---- what a passed test says
 
--- an element that passes
-found {ℓ} : {A : Type ℓ} (f : A → Bool) (l : List A) → T (any f l) → (x : A) × T (f x)
-unfolding any
-found f [] h = absurd h
-found {A} f (x ∷ l) h = go (f x) refl h (found f l)
-  where
-    go : (b : Bool) → f x ≡ b → T (b || any f l) → (T (any f l) → (y : A) × T (f y)) → (y : A) × T (f y)
-    go true e k rest = (x, of-true e)
-    go false e k rest = rest k
-
 phase-number : (x : Participant) → participantOf (participantPhase x) ≡ x
 unfolding participantOf participantPhase
 phase-number Participant.working = refl
@@ -333,7 +324,9 @@ landed c i s y h =
     first = and-left (not (y .sent prepare) && honestly) (any comesTo allStatuses) h
 
     there : (z : Status) × T (comesTo z)
-    there = found comesTo allStatuses (and-right (not (y .sent prepare) && honestly) (any comesTo allStatuses) h)
+    there =
+        let x = any-found comesTo allStatuses (and-right (not (y .sent prepare) && honestly) (any comesTo allStatuses) h) in
+        (x .1, x .4)
 
     z : Status
     z = there .0

@@ -7,13 +7,13 @@ use lib.ListN.{getD}
 use lib.Dec.{T, eqb}
 use native.Mathlib.Omega.{arith}
 use borrow.Author.Tests.{eq-eqb, eqb-true}
-use Rattle.codec.specs.Sets.{participants, member, empty, bits, those, both}
+use Rattle.codec.specs.Sets.{participants, member, empty, bits, those, both, minus}
 use Rattle.codec.specs.laws.Tests.{and-left, and-right, true-of, of-true, alike, alike-eq, below, below-at, bools, bools-at}
 use Rattle.codec.specs.laws.Masks.{those-alike, those-below, those-members}
 use Rattle.codec.specs.laws.Members.{numbered, high-bits, member-participant}
-use Rattle.site.specs.Presumption.{Outcome, abort, presumedAbort, presumedCommit, acks}
+use Rattle.site.specs.Presumption.{Outcome, commit, abort, presumedAbort, presumedCommit, acks}
 use Rattle.site.specs.Cohort.{Cohort, presumptionOf, owing}
-use Rattle.joint.proofs.Booleans.{both-ways}
+use Rattle.joint.proofs.Booleans.{both-ways, is-false}
 
 -- ---- the set of those that pass a test
 
@@ -70,10 +70,6 @@ pub none-empty : (w : ℕ) → w < 256 → ((n : ℕ) → T (member (suc n) w) �
 unfolding empty those bits participants
 none-empty w h none =
     of-true (eq-eqb w 0 (sym (those-members w h) ∙ those-alike (λ p. member p w) (λ p. false) (λ i k. is-false (member (suc i) w) (none i))))
-  where
-    is-false : (b : Bool) → (T b → ⊥) → b ≡ false
-    is-false true f = absurd (f tt)
-    is-false false f = refl
 
 -- nobody has the number 0
 pub no-zero : (w : ℕ) → T (member 0 w) → ⊥
@@ -116,3 +112,14 @@ owes-abort g n k = go (member (suc n) (g .presumeCommit)) (owing-member g abort 
     go : (b : Bool) → T (acks (cond b presumedCommit presumedAbort) abort) → T b
     go true u = tt
     go false u = absurd (unfold acks in u)
+
+-- acks for commit are owed by the members that do not presume it
+pub owing-minus : (g : Cohort) → owing g commit ≡ minus (g .members) (g .presumeCommit)
+unfolding owing minus presumptionOf acks
+owing-minus g =
+    those-alike (λ p. member p (g .members) && acks (presumptionOf g p) commit) (λ p. member p (g .members) && not (member p (g .presumeCommit)))
+    (λ i h. ap (λ (b : Bool). member (suc i) (g .members) && b) (go (member (suc i) (g .presumeCommit))))
+  where
+    go : (b : Bool) → acks (cond b presumedCommit presumedAbort) commit ≡ not b
+    go true = refl
+    go false = refl

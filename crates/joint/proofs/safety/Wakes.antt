@@ -2,31 +2,30 @@
 use Prim.Native.Nat.{ℕ, suc}
 use mathlib.Core.Path.{_≡_, refl, sym, ap, _∙_, subst}
 use mathlib.Core.Logic.{inl}
-use mathlib.Core.Bool.{Bool, true, false, cond, not, _&&_, true≢false}
+use mathlib.Core.Bool.{Bool, true, false, not, true≢false}
 use mathlib.Core.List.{List, [], _∷_, map, append-nil}
 use lib.ListN.{drop}
 use lib.Dec.{T}
 use Rattle.codec.specs.Lists.{any}
-use Rattle.codec.specs.Sets.{member, empty, minus}
+use Rattle.codec.specs.Sets.{member, empty}
 use Rattle.codec.specs.Records.{LogRecord, awaitsAcks, membersIn, presumeCommitIn}
 use Rattle.codec.specs.laws.Tests.{of-true}
-use Rattle.codec.specs.laws.Masks.{those-alike}
-use Rattle.site.specs.Presumption.{Outcome, commit, abort, sameOutcome, Presumption, presumedAbort, presumedCommit, acks}
-use Rattle.site.specs.Cohort.{Cohort, masksOf, presumptionOf, owing}
-use Rattle.site.specs.Step.{voteYes, voteNo}
+use Rattle.site.specs.Presumption.{Outcome, commit, abort, sameOutcome}
+use Rattle.site.specs.Cohort.{Cohort, masksOf, owing}
 use Rattle.site.specs.Coordinator.{endRecord}
 use Rattle.joint.specs.State.{Site, forced}
 use Rattle.joint.specs.Plan.{closes, newest}
-use Rattle.joint.proofs.Booleans.{and-both, both-ways}
+use Rattle.joint.proofs.Booleans.{both-ways}
 use Rattle.joint.proofs.view.View.{View, viewAt}
 use Rattle.joint.proofs.view.Turn.{whole, Up, Opened, trimmedView, viewForget, viewDiscard}
-use Rattle.joint.proofs.safety.Tables.{has, Stage, fresh, asking, done, passes, acked}
-use Rattle.joint.proofs.safety.Sets.{not-empty}
-use Rattle.joint.proofs.safety.Invariant.{Log, l0, l1, l12, l2, l123, l23, l3, l14, l4, kindsIn, classOf, waiting, resting, down, Standing, never, initial, collecting, decided, stageOf, hasDecided, SetsFit, writesInit, awaitsCommit, initLog, stableAt, coordinatorAt, between, entry, siteWith, sentIn, Mid, Inv}
+use Rattle.joint.proofs.safety.Tables.{has}
+use Rattle.joint.proofs.safety.Sets.{not-empty, owing-minus}
+use Rattle.joint.proofs.safety.Invariant.{Log, l0, l1, l12, l2, l123, l23, l3, l14, l4, kindsIn, classOf, waiting, resting, down, Standing, never, initial, collecting, decided, stageOf, hasDecided, SetsFit, writesInit, awaitsCommit, initLog, stableAt, coordinatorAt, between, entry, siteWith, Mid, Inv}
 use Rattle.joint.proofs.safety.Logs.{closed, older, unended, waiting-down, resting-down, commit-record, waiting-unended, ending-unended, closed-fits, closed-kinds, closed-proper, may-close, older-fits, older-kinds, older-proper}
-use Rattle.joint.proofs.safety.Steps.{cohortOf, PassesAt, From, Move, standsAs, stand, same-outcome}
-use Rattle.joint.proofs.safety.Crashes.{Next, refl-outcome, from-self}
+use Rattle.joint.proofs.safety.Steps.{cohortOf, From, Move, standsAs, stand, same-outcome}
+use Rattle.joint.proofs.safety.Crashes.{Next, from-self}
 use Rattle.joint.proofs.safety.Commits.{forced-kinds}
+use Rattle.joint.proofs.safety.Ways.{way-done, way-self}
 
 -- ---- after a turn
 
@@ -40,19 +39,9 @@ after {h} x = record { standing = x .standing; inv = x .inv; from = x .from h (f
 
 -- ---- a standing that stays
 
-passes-self : (c : Presumption) (y n a : Bool) (m : Stage) → T (passes c y n a m m)
-passes-self c y n a fresh = tt
-passes-self c y n a (asking true) = tt
-passes-self c y n a (asking false) = tt
-passes-self c y n a (done o true) = and-both (sameOutcome o o) _ (refl-outcome o) tt
-passes-self c y n a (done o false) = and-both (sameOutcome o o) _ (refl-outcome o) tt
-
-pass-self : (v : View) (m : Stage) (n : ℕ) → PassesAt v m m n
-pass-self v m n = passes-self (presumptionOf (cohortOf v) (suc n)) (sentIn v (suc n) voteYes) (sentIn v (suc n) voteNo) (acked (sentIn v (suc n)) m) m
-
 same-move : {t : ℕ} {h : Standing} {v : View} → Mid t h v → Move v h h
 same-move {h} {v} mid =
-    record { never = refl; fit = mid .fit; proper = mid .proper; sets = mid .sets; keeps = λ o k. k; passing = λ n m. pass-self v (stageOf h (suc n)) n }
+    record { never = refl; fit = mid .fit; proper = mid .proper; sets = mid .sets; keeps = λ o k. k; passing = λ n m. way-self v n (stageOf h (suc n)) }
 
 -- ---- force
 
@@ -86,7 +75,7 @@ module _ (t : ℕ) (v : View) where
         proper = closed-proper (writesInit (cohortOf v)) (awaitsCommit (cohortOf v)) o l (mid .fit) (may-close (cohortOf v) o l (mid .sets)) (mid .proper);
         sets = tt;
         keeps = λ r k. k;
-        passing = λ n m. pass-self v (done o true) n;
+        passing = λ n m. way-done v n o true;
       }
 
   pub force-next : (h : Standing) → Inv t h v → Forced t h (viewAt 0 forced v)
@@ -104,18 +93,10 @@ module _ (t : ℕ) (v : View) where
 -- ---- discard
 
 -- a record 2 closes where nobody owes an ack for commit
-owing-commit : (g : Cohort) → owing g commit ≡ minus (g .members) (g .presumeCommit)
-unfolding owing minus presumptionOf acks
-owing-commit g = those-alike _ _ (λ i h. ap (λ (b : Bool). member (suc i) (g .members) && b) (go (member (suc i) (g .presumeCommit))))
-  where
-    go : (b : Bool) → acks (cond b presumedCommit presumedAbort) commit ≡ not b
-    go true = refl
-    go false = refl
-
 module _ (g : Cohort) (t : ℕ) where
   2-closes : closes (entry g t 0 2) ≡ not (awaitsCommit g)
   unfolding closes any awaitsAcks membersIn presumeCommitIn masksOf
-  2-closes = rw (owing-commit g) refl
+  2-closes = rw (owing-minus g) refl
 
   -- it has no record that closes it, if a commit awaits acks
   not-closed : (l : Log) → T (unended (classOf l)) → (T (has 2 (kindsIn l)) → T (awaitsCommit g)) → newest closes (map (entry g t 0) (kindsIn l)) ≡ true → ⊥
@@ -146,7 +127,7 @@ module _ (t : ℕ) (v : View) where
         proper = older-proper (writesInit (cohortOf v)) (awaitsCommit (cohortOf v)) l (mid .proper);
         sets = tt;
         keeps = λ r k. k;
-        passing = λ n m. pass-self v (done o true) n;
+        passing = λ n m. way-done v n o true;
       }
 
   -- a commit whose acks are awaited, or were
