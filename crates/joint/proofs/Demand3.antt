@@ -22,11 +22,11 @@ use Rattle.joint.proofs.view.View.{View, siteView, isEntryAt, view}
 use Rattle.joint.proofs.view.Acts.{holds-select}
 use Rattle.joint.proofs.safety.Tables.{Status, stableKinds, has, doubtful, agrees, isWorking, Stage, done, mayEnter}
 use Rattle.joint.proofs.safety.Sets.{empty-none, no-zero}
-use Rattle.joint.proofs.safety.Local.{holds-kinds}
+use Rattle.joint.proofs.safety.participant.Local.{holds-kinds}
 use Rattle.joint.proofs.safety.Invariant.{Log, waiting, resting, down, Standing, never, initial, collecting, decided, stageOf, hasDecided, sentIn, Member, Place, Mid, Inv}
-use Rattle.joint.proofs.safety.Steps.{cohortOf, same-outcome}
+use Rattle.joint.proofs.safety.coordinator.Steps.{cohortOf, same-outcome}
 use Rattle.joint.proofs.safety.Tracked.{seenAfter, next-kept, Tracked, tracked, track-later}
-use Rattle.joint.proofs.safety.Ways.{refl-outcome}
+use Rattle.joint.proofs.safety.coordinator.Ways.{refl-outcome}
 
 -- ---- an entry is of what is decided
 

@@ -9,4 +9,5 @@ mod DownEmpty
 mod Moments
 mod EventMoments
 mod Demand3
+mod logs
 mod Reachable

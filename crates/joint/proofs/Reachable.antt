@@ -16,9 +16,9 @@ use Rattle.joint.proofs.DownEmpty.{down-sites-empty}
 use Rattle.joint.proofs.view.View.{view}
 use Rattle.joint.proofs.safety.Invariant.{Standing, Inv}
 use Rattle.joint.proofs.safety.Tracked.{tracked}
-use Rattle.joint.proofs.safety.Counts.{EachRecord, each-record-at}
-use Rattle.joint.proofs.safety.Orders.{Ranged}
-use Rattle.joint.proofs.safety.Facts.{OwnRecord, cohort-ranged, set-ranged, own-records, log-most, unforced-one, unforced-most, log-accepted, stable-accepted}
+use Rattle.joint.proofs.logs.Counts.{EachRecord, each-record-at}
+use Rattle.joint.proofs.logs.Orders.{Ranged}
+use Rattle.joint.proofs.logs.Facts.{OwnRecord, cohort-ranged, set-ranged, own-records, log-most, unforced-one, unforced-most, log-accepted, stable-accepted}
 
 module _ (es : List (List ℕ)) where
   abbrev r : Run

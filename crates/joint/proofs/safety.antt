@@ -1,27 +1,9 @@
--- Demand 3: the invariant of one transaction, that each turn keeps it, and what follows.
+-- Demand 3: the invariant of one transaction, that each turn of its view keeps it, and that it holds along every list of events.
 pub mod Tables
 pub mod Finite
-pub mod Passes
 pub mod Sets
 pub mod Invariant
-pub mod Rows
-pub mod Local
-pub mod Places
-pub mod Participants
-pub mod Logs
-pub mod Steps
-pub mod Ways
-pub mod Crashes
-pub mod Runs
-pub mod Commits
-pub mod Ends
-pub mod Coordinators
-pub mod Wakes
-pub mod Resumes
-pub mod Opens
+pub mod participant
+pub mod coordinator
 pub mod Kept
 pub mod Tracked
-pub mod Counts
-pub mod Orders
-pub mod Kinds
-pub mod Facts

@@ -19,13 +19,13 @@ use Rattle.joint.proofs.view.View.{View, viewAt, viewSettle, viewPerfor
 use Rattle.joint.proofs.view.Turn.{Carried, whole, cutAfter, viewStart, viewDiscard, viewForget, Turn, crashes, opens, coordinates, participates, discards, starts, fails, resumes, returns, Turns, still, turn, forces}
 use Rattle.joint.proofs.safety.Sets.{empty-none}
 use Rattle.joint.proofs.safety.Invariant.{Standing, never, initial, collecting, decided, stageOf, hasDecided, writesInit, Member, Place, Mid, Inv}
-use Rattle.joint.proofs.safety.Steps.{cohortOf, From, own-number}
-use Rattle.joint.proofs.safety.Crashes.{from-self, crash-next}
-use Rattle.joint.proofs.safety.Participants.{force-kept, crash-kept, start-kept, row-kept, discard-kept, return-kept}
-use Rattle.joint.proofs.safety.Coordinators.{coordinator-next}
-use Rattle.joint.proofs.safety.Wakes.{After, after, force-next, discard-next}
-use Rattle.joint.proofs.safety.Resumes.{resume-after, effects-cohort}
-use Rattle.joint.proofs.safety.Opens.{open-after, start-after}
+use Rattle.joint.proofs.safety.coordinator.Steps.{cohortOf, From, own-number}
+use Rattle.joint.proofs.safety.coordinator.Crashes.{from-self, crash-next}
+use Rattle.joint.proofs.safety.participant.Participants.{force-kept, crash-kept, start-kept, row-kept, discard-kept, return-kept}
+use Rattle.joint.proofs.safety.coordinator.Coordinators.{coordinator-next}
+use Rattle.joint.proofs.safety.coordinator.Wakes.{After, after, force-next, discard-next}
+use Rattle.joint.proofs.safety.coordinator.Resumes.{resume-after, effects-cohort}
+use Rattle.joint.proofs.safety.coordinator.Opens.{open-after, start-after}
 
 -- ---- a decided commit has all votes
 

@@ -21,8 +21,8 @@ use Rattle.joint.proofs.view.Turn.{Carried, whole, cutAfter, viewStart}
 use Rattle.joint.proofs.safety.Tables.{Status, isUp, stableKinds, unforcedKinds, Stage, fits, may, mayEnter, Fine}
 use Rattle.joint.proofs.safety.Finite.{allMessage, at-message, allOutcome, at-outcome}
 use Rattle.joint.proofs.safety.Invariant.{Standing, stageOf, siteWith, sentIn, Member, Stranger, Place, Inv}
-use Rattle.joint.proofs.safety.Rows.{Part, still, ofStatus, effects, heard, lands, rowTest, Landed, landed, row-whole, row-cut}
-use Rattle.joint.proofs.safety.Local.{Local, local, Elsewhere, Reached, AllProper, take-proper, reach-effects, reach-down, reach-woken}
+use Rattle.joint.proofs.safety.participant.Rows.{Part, still, ofStatus, effects, heard, lands, rowTest, Landed, landed, row-whole, row-cut}
+use Rattle.joint.proofs.safety.participant.Local.{Local, local, Elsewhere, Reached, AllProper, take-proper, reach-effects, reach-down, reach-woken}
 
 -- ---- what is elsewhere stays as it is
 

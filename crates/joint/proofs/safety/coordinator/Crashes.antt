@@ -15,9 +15,9 @@ use Rattle.joint.proofs.Booleans.{not-true, mp}
 use Rattle.joint.proofs.view.View.{View, viewAt, viewSettle, viewDown}
 use Rattle.joint.proofs.safety.Tables.{has, done}
 use Rattle.joint.proofs.safety.Invariant.{Log, l0, l1, kindsIn, classOf, resumed, waiting, resting, down, Pace, Standing, never, initial, collecting, decided, hasDecided, logFits, properLog, awaitsCommit, SetsFit, writesInit, initLog, stableAt, coordinatorAt, between, siteWith, Mid, Inv}
-use Rattle.joint.proofs.safety.Logs.{closed, commitLog, waiting-down, resting-down, closed-fits, closed-kinds, abort-unwritten, closed-has, closed-proper, may-close, abort-down, abort-resumed, commit-down, commit-resumed, commit-has, commit-kinds, initial-proper, commit-proper, none-proper, first-proper}
-use Rattle.joint.proofs.safety.Steps.{cohortOf, From, Shift, move, standsAs, stand, settle-mid}
-use Rattle.joint.proofs.safety.Ways.{way-commit, way-lost, way-done, way-self, way-down}
+use Rattle.joint.proofs.safety.coordinator.Logs.{closed, commitLog, waiting-down, resting-down, closed-fits, closed-kinds, abort-unwritten, closed-has, closed-proper, may-close, abort-down, abort-resumed, commit-down, commit-resumed, commit-has, commit-kinds, initial-proper, commit-proper, none-proper, first-proper}
+use Rattle.joint.proofs.safety.coordinator.Steps.{cohortOf, From, Shift, move, standsAs, stand, settle-mid}
+use Rattle.joint.proofs.safety.coordinator.Ways.{way-commit, way-lost, way-done, way-self, way-down}
 use Rattle.codec.specs.laws.Tests.{of-true}
 
 -- ---- a turn's result: the standing after it

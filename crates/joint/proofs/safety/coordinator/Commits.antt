@@ -17,11 +17,11 @@ use Rattle.joint.proofs.Booleans.{or-left, not-true, is-false}
 use Rattle.joint.proofs.view.View.{View, viewAt, viewPerform}
 use Rattle.joint.proofs.safety.Sets.{of-those, member-those, member-owing, empty-none, no-zero}
 use Rattle.joint.proofs.safety.Invariant.{Log, kindsIn, waiting, resting, Pace, Standing, initial, collecting, decided, hasDecided, writesInit, awaitsCommit, initLog, sentIn, siteWith, coordinatorAt, between, Mid}
-use Rattle.joint.proofs.safety.Logs.{commitLog, end-unwritten, commit-waits, commit-has, commit-kinds, commit-proper}
-use Rattle.joint.proofs.safety.Steps.{cohortOf, From, Shift}
-use Rattle.joint.proofs.safety.Crashes.{from-same, from-none}
-use Rattle.joint.proofs.safety.Runs.{Each, Addressee, Node, Runs, node-stay, append-run, force-run, enter-run, sends-run, each-in-turn, each-ordered}
-use Rattle.joint.proofs.safety.Ways.{refl-outcome, way-count, way-commit, way-done, way-self}
+use Rattle.joint.proofs.safety.coordinator.Logs.{commitLog, end-unwritten, commit-waits, commit-has, commit-kinds, commit-proper}
+use Rattle.joint.proofs.safety.coordinator.Steps.{cohortOf, From, Shift}
+use Rattle.joint.proofs.safety.coordinator.Crashes.{from-same, from-none}
+use Rattle.joint.proofs.safety.coordinator.Runs.{Each, Addressee, Node, Runs, node-stay, append-run, force-run, enter-run, sends-run, each-in-turn, each-ordered}
+use Rattle.joint.proofs.safety.coordinator.Ways.{refl-outcome, way-count, way-commit, way-done, way-self}
 use Rattle.joint.proofs.safety.Tables.{asking}
 
 module _ (t : ℕ) (h0 : Standing) (v : View) where

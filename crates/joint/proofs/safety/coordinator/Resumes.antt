@@ -18,14 +18,14 @@ use Rattle.joint.proofs.view.Turn.{Carried, whole, cutAfter, Opened, vi
 use Rattle.joint.proofs.safety.Tables.{has}
 use Rattle.joint.proofs.safety.Sets.{member-owing, empty-none}
 use Rattle.joint.proofs.safety.Invariant.{Log, kindsIn, classOf, resumed, waiting, resting, down, Standing, never, initial, collecting, decided, writesInit, coordinatorAt, between, Mid, Inv}
-use Rattle.joint.proofs.safety.Logs.{resumed-waiting, down-resting, resumes-commit, resumes-abort}
-use Rattle.joint.proofs.safety.Local.{holds-kinds}
-use Rattle.joint.proofs.safety.Steps.{cohortOf, Shift, move, standsAs, stand, settle-mid}
-use Rattle.joint.proofs.safety.Crashes.{Next, from-same}
-use Rattle.joint.proofs.safety.Runs.{Node, Runs, enter-run, runs-at, runs-end, cut-next}
-use Rattle.joint.proofs.safety.Commits.{untilAckedAs, until-phase, until-between, enter-tell}
-use Rattle.joint.proofs.safety.Wakes.{After, after}
-use Rattle.joint.proofs.safety.Ways.{refl-outcome, way-done, way-resume}
+use Rattle.joint.proofs.safety.coordinator.Logs.{resumed-waiting, down-resting, resumes-commit, resumes-abort}
+use Rattle.joint.proofs.safety.participant.Local.{holds-kinds}
+use Rattle.joint.proofs.safety.coordinator.Steps.{cohortOf, Shift, move, standsAs, stand, settle-mid}
+use Rattle.joint.proofs.safety.coordinator.Crashes.{Next, from-same}
+use Rattle.joint.proofs.safety.coordinator.Runs.{Node, Runs, enter-run, runs-at, runs-end, cut-next}
+use Rattle.joint.proofs.safety.coordinator.Commits.{untilAckedAs, until-phase, until-between, enter-tell}
+use Rattle.joint.proofs.safety.coordinator.Wakes.{After, after}
+use Rattle.joint.proofs.safety.coordinator.Ways.{refl-outcome, way-done, way-resume}
 
 -- ---- the standing that a restart leads to
 

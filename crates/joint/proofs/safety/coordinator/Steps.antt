@@ -16,7 +16,7 @@ use Rattle.joint.proofs.Booleans.{or-left, or-either, both-ways}
 use Rattle.joint.proofs.view.Updates.{update-other}
 use Rattle.joint.proofs.view.View.{View, viewAt, viewSettle, viewPerform}
 use Rattle.joint.proofs.safety.Tables.{Status, has, Stage, Fine, passes, acked, maySend}
-use Rattle.joint.proofs.safety.Passes.{pass-fine, send-fine}
+use Rattle.joint.proofs.safety.coordinator.Passes.{pass-fine, send-fine}
 use Rattle.joint.proofs.safety.Invariant.{Standing, never, stageOf, hasDecided, standingFits, properLog, awaitsCommit, SetsFit, writesInit, standingUp, stableAt, unforcedAt, isNever, siteWith, sentIn, Member, Stranger, Place, Mid}
 
 -- ---- what changes of the standing are allowed

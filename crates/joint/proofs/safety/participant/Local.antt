@@ -20,7 +20,7 @@ use Rattle.joint.proofs.view.View.{View, viewAt, viewSettle, viewPerfor
 use Rattle.joint.proofs.view.Turn.{viewStart, viewDiscard, viewForget, trimmedView, noRecord, isNil}
 use Rattle.joint.proofs.safety.Tables.{has}
 use Rattle.joint.proofs.safety.Invariant.{fieldsAt, entry, siteWith, sentIn}
-use Rattle.joint.proofs.safety.Rows.{Part, moved, effect, effects, halted, settled, woken, dropped, phaseLeft}
+use Rattle.joint.proofs.safety.participant.Rows.{Part, moved, effect, effects, halted, settled, woken, dropped, phaseLeft}
 
 -- ---- lists
 

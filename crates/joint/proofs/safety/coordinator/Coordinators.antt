@@ -17,12 +17,12 @@ use Rattle.joint.proofs.view.View.{View, viewSettle}
 use Rattle.joint.proofs.view.Turn.{Carried, Given, Up, Opened}
 use Rattle.joint.proofs.safety.Sets.{member-those, owing-member, no-zero, not-empty, owes-abort}
 use Rattle.joint.proofs.safety.Invariant.{Log, waiting, resting, down, Standing, never, initial, collecting, decided, SetsFit, writesInit, initLog, coordinatorAt, between, sentIn, Mid, Inv}
-use Rattle.joint.proofs.safety.Logs.{commitLog}
-use Rattle.joint.proofs.safety.Steps.{cohortOf, same-outcome}
-use Rattle.joint.proofs.safety.Crashes.{Next}
-use Rattle.joint.proofs.safety.Runs.{Node, Runs, node-stay, row-next}
-use Rattle.joint.proofs.safety.Commits.{begin-run, counts, commit-run, untilAckedAs, until-phase, until-between, without-part}
-use Rattle.joint.proofs.safety.Ends.{abort-run, awaited, abortedAs, aborted-phase, aborted-between, end-run, hears, tell-run, tell-all-run, reply-run}
+use Rattle.joint.proofs.safety.coordinator.Logs.{commitLog}
+use Rattle.joint.proofs.safety.coordinator.Steps.{cohortOf, same-outcome}
+use Rattle.joint.proofs.safety.coordinator.Crashes.{Next}
+use Rattle.joint.proofs.safety.coordinator.Runs.{Node, Runs, node-stay, row-next}
+use Rattle.joint.proofs.safety.coordinator.Commits.{begin-run, counts, commit-run, untilAckedAs, until-phase, until-between, without-part}
+use Rattle.joint.proofs.safety.coordinator.Ends.{abort-run, awaited, abortedAs, aborted-phase, aborted-between, end-run, hears, tell-run, tell-all-run, reply-run}
 
 -- ---- the row that a step gives
 

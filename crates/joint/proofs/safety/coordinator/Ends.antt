@@ -17,12 +17,12 @@ use Rattle.joint.proofs.Booleans.{or-left, or-right, and-both, is-false
 use Rattle.joint.proofs.view.View.{View}
 use Rattle.joint.proofs.safety.Sets.{of-those, member-those, member-owing, empty-none, no-zero}
 use Rattle.joint.proofs.safety.Invariant.{Log, kindsIn, waiting, resting, Pace, Standing, collecting, decided, SetsFit, writesInit, awaitsCommit, initLog, sentIn, siteWith, coordinatorAt, between, Mid}
-use Rattle.joint.proofs.safety.Logs.{end-written, abort-waits, initial-proper}
-use Rattle.joint.proofs.safety.Steps.{cohortOf, Shift}
-use Rattle.joint.proofs.safety.Crashes.{from-same, from-none}
-use Rattle.joint.proofs.safety.Runs.{Node, Runs, node-stay, append-run, send-run, sends-run}
-use Rattle.joint.proofs.safety.Commits.{without-part, told, until-acked, enter-tell}
-use Rattle.joint.proofs.safety.Ways.{refl-outcome, way-abort, way-done, way-hear}
+use Rattle.joint.proofs.safety.coordinator.Logs.{end-written, abort-waits, initial-proper}
+use Rattle.joint.proofs.safety.coordinator.Steps.{cohortOf, Shift}
+use Rattle.joint.proofs.safety.coordinator.Crashes.{from-same, from-none}
+use Rattle.joint.proofs.safety.coordinator.Runs.{Node, Runs, node-stay, append-run, send-run, sends-run}
+use Rattle.joint.proofs.safety.coordinator.Commits.{without-part, told, until-acked, enter-tell}
+use Rattle.joint.proofs.safety.coordinator.Ways.{refl-outcome, way-abort, way-done, way-hear}
 
 -- ---- abort, told to the set `to`
 

@@ -13,7 +13,7 @@ use Rattle.joint.proofs.view.View.{View}
 use Rattle.joint.proofs.safety.Tables.{Stage, fresh, asking, done}
 use Rattle.joint.proofs.safety.Sets.{empty-none}
 use Rattle.joint.proofs.safety.Invariant.{writesInit, sentIn}
-use Rattle.joint.proofs.safety.Steps.{cohortOf, PassesAt}
+use Rattle.joint.proofs.safety.coordinator.Steps.{cohortOf, PassesAt}
 
 pub refl-outcome : (o : Outcome) → T (sameOutcome o o)
 unfolding sameOutcome

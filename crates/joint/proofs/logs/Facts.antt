@@ -22,9 +22,9 @@ use Rattle.joint.specs.Safety.{Moment}
 use Rattle.joint.proofs.view.Updates.{select-append}
 use Rattle.joint.proofs.view.View.{view}
 use Rattle.joint.proofs.safety.Invariant.{waiting, resting, down, Standing, never, initial, collecting, decided, SetsFit, writesInit, awaitsCommit, coordinatorAt, between, entry, Inv}
-use Rattle.joint.proofs.safety.Counts.{own, EachRecord, each-back, each-own, each-map, sumBelow, counted-most}
-use Rattle.joint.proofs.safety.Orders.{mayStand, inOrder, order-front, Ranged, Follows, log-passes}
-use Rattle.joint.proofs.safety.Kinds.{share, fine, cohortIn, Known, Kinds, kinds-at, opened-ranged}
+use Rattle.joint.proofs.logs.Counts.{own, EachRecord, each-back, each-own, each-map, sumBelow, counted-most}
+use Rattle.joint.proofs.logs.Orders.{mayStand, inOrder, order-front, Ranged, Follows, log-passes}
+use Rattle.joint.proofs.logs.Kinds.{share, fine, cohortIn, Known, Kinds, kinds-at, opened-ranged}
 
 -- a record of a log at site s: its transaction is opened, s takes part in it, and it is the transaction's entry of its kind
 pub record OwnRecord (r : Run) (s : ℕ) (x : LogRecord) : Type 0 where

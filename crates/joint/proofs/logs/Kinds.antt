@@ -24,10 +24,10 @@ use Rattle.joint.proofs.safety.Tables.{Status, stableKinds, unforcedKin
 use Rattle.joint.proofs.safety.Finite.{allBool, at-bool, at-status}
 use Rattle.joint.proofs.safety.Sets.{empty-none}
 use Rattle.joint.proofs.safety.Invariant.{Log, l0, l1, l12, l2, l123, l23, l3, l14, l4, kindsIn, classOf, resting, waiting, down, Standing, never, initial, collecting, decided, stageOf, logFits, standingFits, SetsFit, writesInit, awaitsCommit, properKinds, properLog, initLog, stableAt, kindIf, unforcedAt, isNever, entry, Place, Mid}
-use Rattle.joint.proofs.safety.Logs.{closed, closed-kinds}
-use Rattle.joint.proofs.safety.Logs.{closed-proper, may-close}
-use Rattle.joint.proofs.safety.Counts.{own}
-use Rattle.joint.proofs.safety.Orders.{inOrder, Ranged}
+use Rattle.joint.proofs.safety.coordinator.Logs.{closed, closed-kinds}
+use Rattle.joint.proofs.safety.coordinator.Logs.{closed-proper, may-close}
+use Rattle.joint.proofs.logs.Counts.{own}
+use Rattle.joint.proofs.logs.Orders.{inOrder, Ranged}
 
 -- ---- the kinds of one transaction's records
 

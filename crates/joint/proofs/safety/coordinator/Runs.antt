@@ -17,8 +17,8 @@ use Rattle.joint.proofs.view.Turn.{Carried, whole, cutAfter}
 use Rattle.joint.proofs.safety.Tables.{maySend}
 use Rattle.joint.proofs.safety.Sets.{no-zero}
 use Rattle.joint.proofs.safety.Invariant.{Standing, stageOf, hasDecided, writesInit, coordinatorAt, between, sentIn, Mid}
-use Rattle.joint.proofs.safety.Steps.{cohortOf, From, Shift, move, standsAs, stay, stand, settle-mid, enter-mid, send-mid}
-use Rattle.joint.proofs.safety.Crashes.{Next, crash-next}
+use Rattle.joint.proofs.safety.coordinator.Steps.{cohortOf, From, Shift, move, standsAs, stay, stand, settle-mid, enter-mid, send-mid}
+use Rattle.joint.proofs.safety.coordinator.Crashes.{Next, crash-next}
 
 -- ---- addressees
 

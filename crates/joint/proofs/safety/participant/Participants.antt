@@ -23,9 +23,9 @@ use Rattle.joint.proofs.view.View.{View, viewAt, viewSettle, viewDown}
 use Rattle.joint.proofs.view.Turn.{Carried, Given, Own, Up, Opened, viewDiscard, viewStart}
 use Rattle.joint.proofs.safety.Tables.{Stage, isUp, stableKinds, has}
 use Rattle.joint.proofs.safety.Invariant.{Standing, entry, stageOf, sentIn, Member, Place, Inv}
-use Rattle.joint.proofs.safety.Rows.{ofStatus, effects, settled, woken, dropped, heard, lands, rowTest, onRow, step-at, restart-at, force-at, crash-at, discard-at}
-use Rattle.joint.proofs.safety.Local.{holds-kinds, Elsewhere, AllProper, reach-phase, reach-force, reach-down, reach-started, reach-woken, reach-dropped}
-use Rattle.joint.proofs.safety.Places.{isMember, only-at, from-member, member-after, member-carried, from-stranger, stranger-after, take-none, stranger-carried}
+use Rattle.joint.proofs.safety.participant.Rows.{ofStatus, effects, settled, woken, dropped, heard, lands, rowTest, onRow, step-at, restart-at, force-at, crash-at, discard-at}
+use Rattle.joint.proofs.safety.participant.Local.{holds-kinds, Elsewhere, AllProper, reach-phase, reach-force, reach-down, reach-started, reach-woken, reach-dropped}
+use Rattle.joint.proofs.safety.participant.Places.{isMember, only-at, from-member, member-after, member-carried, from-stranger, stranger-after, take-none, stranger-carried}
 
 -- ---- a participant's rows write records with its own fields, and send its own messages
 

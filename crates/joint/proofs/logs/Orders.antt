@@ -19,7 +19,7 @@ use Rattle.site.specs.Cohort.{Cohort, masksOf, presumptionOf}
 use Rattle.joint.proofs.Booleans.{and-both}
 use Rattle.joint.proofs.view.Updates.{select-append}
 use Rattle.joint.proofs.safety.Invariant.{writesInit, awaitsCommit, fieldsAt, entry}
-use Rattle.joint.proofs.safety.Counts.{own, own-head}
+use Rattle.joint.proofs.logs.Counts.{own, own-head}
 use Rattle.joint.proofs.safety.Sets.{owing-minus}
 
 -- ---- kinds

@@ -1,0 +1,5 @@
+-- What the invariant says of the logs, images and waiting sets of a run.
+pub mod Counts
+pub mod Orders
+pub mod Kinds
+pub mod Facts

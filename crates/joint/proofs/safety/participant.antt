@@ -1,0 +1,5 @@
+-- What happens at a participant keeps the invariant.
+pub mod Rows
+pub mod Local
+pub mod Places
+pub mod Participants
