@@ -40,11 +40,18 @@ module _ (t : ℕ) (h0 : Standing) (v : View) where
   undecided f f′ x = from-none x f (λ k. absurd (f′ k))
 
   writes : T (writesInit g) → Shift v (initial false) (initial true)
-  writes i = record { never = refl; fit = i; proper = tt; sets = tt; from = undecided (λ o k. k) (λ k. k); passing = λ n m. tt }
+  writes i =
+      record {
+        move = record { never = refl; fit = i; proper = tt; sets = tt; passing = λ n m. tt };
+        from = undecided (λ o k. k) (λ k. k);
+      }
 
   begins : (b : Bool) → g .members < 256 → Shift v (initial b) (collecting (g .members) false)
   begins b h =
-      record { never = refl; fit = tt; proper = tt; sets = (h, λ p m. m); from = undecided (λ o k. k) (λ k. k); passing = λ n m. m }
+      record {
+        move = record { never = refl; fit = tt; proper = tt; sets = (h, λ p m. m); passing = λ n m. m };
+        from = undecided (λ o k. k) (λ k. k);
+      }
 
   asks : Node t h0 v (collecting (g .members) false) → Runs t h0 v (map (send prepare) (inTurn (g .members)) ++ []) (collecting (g .members) false)
   asks x = sends-run t h0 [] (collecting (g .members) false) prepare (inTurn (g .members)) v (asked (g .members)) x (λ w e y. y)
@@ -82,32 +89,47 @@ module _ (t : ℕ) (h0 : Standing) (v : View) where
   unfolding without
   counts p w mid y =
       record {
-        never = refl;
-        fit = tt;
-        proper = tt;
-        sets = (those-below (λ q. member q w && not (eqb q p)), without-part p w members (mid .sets .1));
+        move = record {
+          never = refl;
+          fit = tt;
+          proper = tt;
+          sets = (those-below (λ q. member q w && not (eqb q p)), without-part p w members (mid .sets .1));
+          passing = λ n m. rw (member-those (λ q. member q w && not (eqb q p)) n members (mid .byte) m)
+              (way-count v n (member (suc n) w) (eqb (suc n) p) (λ e. subst (λ (q : ℕ). T (sentIn v q voteYes)) (sym (eqb-true (suc n) p (true-of _ e))) y));
+        };
         from = undecided t h0 v (λ o k. k) (λ k. k);
-        passing = λ n m. rw (member-those (λ q. member q w && not (eqb q p)) n members (mid .byte) m)
-            (way-count v n (member (suc n) w) (eqb (suc n) p) (λ e. subst (λ (q : ℕ). T (sentIn v q voteYes)) (sym (eqb-true (suc n) p (true-of _ e))) y));
       }
 
   -- ---- all have voted: commit
 
   marks : (w : ℕ) → T (empty w) → Shift v (collecting w false) (collecting w true)
-  marks w e = record { never = refl; fit = tt; proper = tt; sets = λ p m. empty-none w p e m; from = undecided t h0 v (λ o k. k) (λ k. k); passing = λ n m. way-self v n (asking (member (suc n) w)) }
+  marks w e =
+      record {
+        move =
+            record {
+              never = refl;
+              fit = tt;
+              proper = tt;
+              sets = λ p m. empty-none w p e m;
+              passing = λ n m. way-self v n (asking (member (suc n) w));
+            };
+        from = undecided t h0 v (λ o k. k) (λ k. k);
+      }
 
   commits : (w : ℕ) → Mid t (collecting w true) v → Shift v (collecting w true) (decided commit (waiting (owing (cohortOf v) commit)) (commitLog (writesInit (cohortOf v))))
   unfolding owing
   commits w mid =
       record {
-        never = refl;
-        fit = commit-waits (writesInit (cohortOf v)) (owing (cohortOf v) commit);
-        proper = commit-proper (writesInit (cohortOf v)) (awaitsCommit (cohortOf v));
-        sets = (those-below _, λ p m. m);
+        move = record {
+          never = refl;
+          fit = commit-waits (writesInit (cohortOf v)) (owing (cohortOf v) commit);
+          proper = commit-proper (writesInit (cohortOf v)) (awaitsCommit (cohortOf v));
+          sets = (those-below _, λ p m. m);
+          passing = λ n m.
+              way-commit v n (member (suc n) w) (member (suc n) (owing (cohortOf v) commit)) (not-true (member (suc n) w) (mid .sets (suc n)))
+              (subst T (sym (member-owing (cohortOf v) commit n (mid .byte) m)));
+        };
         from = λ x. from-none x (λ o k. k) (λ k. commit-has (writesInit (cohortOf v)));
-        passing = λ n m.
-            way-commit v n (member (suc n) w) (member (suc n) (owing (cohortOf v) commit)) (not-true (member (suc n) w) (mid .sets (suc n)))
-            (subst T (sym (member-owing (cohortOf v) commit n (mid .byte) m)));
       }
 
 -- ---- the outcome is told, and what follows where nobody is waited for
@@ -123,12 +145,15 @@ module _ (t : ℕ) (h0 : Standing) where
   pub rests-now : (v : View) (o : Outcome) (w : ℕ) (l : Log) → Mid t (decided o (waiting w) l) v → T (empty w) → Shift v (decided o (waiting w) l) (decided o (resting false) l)
   rests-now v o w l mid e =
       record {
-        never = refl;
-        fit = end-unwritten (writesInit (cohortOf v)) o l w (mid .fit);
-        proper = mid .proper;
-        sets = tt;
+        move =
+            record {
+              never = refl;
+              fit = end-unwritten (writesInit (cohortOf v)) o l w (mid .fit);
+              proper = mid .proper;
+              sets = tt;
+              passing = λ n m. rw (is-false (member (suc n) w) (empty-none w (suc n) e)) (way-done v n o true);
+            };
         from = λ x. from-same (writesInit (cohortOf v)) o (waiting w) (resting false) l l x (λ k. k);
-        passing = λ n m. rw (is-false (member (suc n) w) (empty-none w (suc n) e)) (way-done v n o true);
       }
 
   -- the standing in which acks of w are awaited, if any

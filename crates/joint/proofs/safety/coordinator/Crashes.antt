@@ -16,7 +16,7 @@ use Rattle.joint.proofs.view.View.{View, viewAt, viewSettle, viewDown}
 use Rattle.joint.proofs.safety.Tables.{has, done}
 use Rattle.joint.proofs.safety.Invariant.{Log, l0, l1, kindsIn, classOf, resumed, waiting, resting, down, Pace, Standing, never, initial, collecting, decided, hasDecided, logFits, properLog, awaitsCommit, SetsFit, writesInit, initLog, stableAt, coordinatorAt, between, siteWith, Mid, Inv}
 use Rattle.joint.proofs.safety.coordinator.Logs.{closed, commitLog, waiting-down, resting-down, closed-fits, closed-kinds, abort-unwritten, closed-has, closed-proper, may-close, abort-down, abort-resumed, commit-down, commit-resumed, commit-has, commit-kinds, initial-proper, commit-proper, none-proper, first-proper}
-use Rattle.joint.proofs.safety.coordinator.Steps.{cohortOf, From, Shift, move, standsAs, stand, settle-mid}
+use Rattle.joint.proofs.safety.coordinator.Steps.{cohortOf, From, Shift, shift-keeps, standsAs, stand, settle-mid}
 use Rattle.joint.proofs.safety.coordinator.Ways.{way-commit, way-lost, way-done, way-self, way-down}
 use Rattle.codec.specs.laws.Tests.{of-true}
 
@@ -75,7 +75,7 @@ module _ (t : ℕ) (v : View) where
   lost {h} {h′} mid k x e c b =
       record {
         standing = h′;
-        inv = record { mid = settle-mid (stand mid (move x) (stopped k) e) Coordinator.unknown; phase = c; whole = b };
+        inv = record { mid = settle-mid (stand mid (x .move) (shift-keeps x) (stopped k) e) Coordinator.unknown; phase = c; whole = b };
         from = x .from;
       }
 
@@ -86,29 +86,38 @@ module _ (t : ℕ) (v : View) where
   from-initial : (b : Bool) (l : Log) → T (logFits i abort down (classOf l)) → T (properLog i a (abortDown l)) → Shift v (initial b) (abortDown l)
   unfolding sameOutcome
   from-initial b l f p =
-      record { never = refl; fit = f; proper = p; sets = tt; from = λ h0. from-none h0 (λ o k. k) (λ k. absurd k); passing = λ n m. tt }
+      record {
+        move = record { never = refl; fit = f; proper = p; sets = tt; passing = λ n m. tt };
+        from = λ h0. from-none h0 (λ o k. k) (λ k. absurd k);
+      }
 
   from-collecting : (w : ℕ) (b : Bool) → Shift v (collecting w b) (abortDown (initLog i))
   unfolding sameOutcome
   from-collecting w b =
       record {
-        never = refl;
-        fit = abort-down i;
-        proper = initial-proper i a;
-        sets = tt;
+        move =
+            record {
+              never = refl;
+              fit = abort-down i;
+              proper = initial-proper i a;
+              sets = tt;
+              passing = λ n m. way-lost v n (member (suc n) w) (resumed (classOf (initLog i))) (abort-resumed i);
+            };
         from = λ h0. from-none h0 (λ o k. k) (λ k. absurd k);
-        passing = λ n m. way-lost v n (member (suc n) w) (resumed (classOf (initLog i))) (abort-resumed i);
       }
 
   from-marked : (w : ℕ) → SetsFit (cohortOf v) (collecting w true) → Shift v (collecting w true) (decided commit down (commitLog i))
   from-marked w none =
       record {
-        never = refl;
-        fit = commit-down i;
-        proper = commit-proper i a;
-        sets = tt;
+        move =
+            record {
+              never = refl;
+              fit = commit-down i;
+              proper = commit-proper i a;
+              sets = tt;
+              passing = λ n m. way-commit v n (member (suc n) w) (resumed (classOf (commitLog i))) (not-true (member (suc n) w) (none (suc n))) (λ k. of-true (commit-resumed i));
+            };
         from = λ h0. from-none h0 (λ o k. k) (λ k. commit-has i);
-        passing = λ n m. way-commit v n (member (suc n) w) (resumed (classOf (commitLog i))) (not-true (member (suc n) w) (none (suc n))) (λ k. of-true (commit-resumed i));
       }
 
   -- decided: the outcome stays
@@ -116,30 +125,29 @@ module _ (t : ℕ) (v : View) where
       → Shift v (decided o (resting b) l) (decided o down l′)
   rests o b l l′ f p grows =
       record {
-        never = refl;
-        fit = f;
-        proper = p;
-        sets = tt;
+        move = record { never = refl; fit = f; proper = p; sets = tt; passing = λ n m. way-done v n o (not (resumed (classOf l′))) };
         from = λ h0. from-same i o (resting b) down l l′ h0 grows;
-        passing = λ n m. way-done v n o (not (resumed (classOf l′)));
       }
 
   waits : (o : Outcome) (w : ℕ) (l : Log) → T (logFits i o (waiting w) (classOf l)) → T (properLog i a (decided o down l)) → Shift v (decided o (waiting w) l) (decided o down l)
   waits o w l f p =
       record {
-        never = refl;
-        fit = waiting-down i o l w f;
-        proper = p;
-        sets = tt;
+        move =
+            record {
+              never = refl;
+              fit = waiting-down i o l w f;
+              proper = p;
+              sets = tt;
+              passing = λ n m. way-down v n o (not (member (suc n) w)) (resumed (classOf l)) (mp (not (resumed (classOf l))) (sameOutcome o abort && not i) (abort-unwritten i o l w f));
+            };
         from = λ h0. from-same i o (waiting w) down l l h0 (λ k. k);
-        passing = λ n m. way-down v n o (not (member (suc n) w)) (resumed (classOf l)) (mp (not (resumed (classOf l))) (sameOutcome o abort && not i) (abort-unwritten i o l w f));
       }
 
   -- ---- the crash
 
   pub crash-next : (h : Standing) → Mid t h v → (k : ℕ) → Next t h (viewDown 0 k v)
   crash-next (never u) mid k =
-      lost {h′ = never false} mid k (record { never = refl; fit = tt; proper = tt; sets = tt; from = λ h0. from-none h0 (λ o b. b) (λ b. absurd b); passing = λ n m. tt }) (stopped-none (cohortOf v) t u k []) refl tt
+      lost {h′ = never false} mid k (record { move = record { never = refl; fit = tt; proper = tt; sets = tt; passing = λ n m. tt }; from = λ h0. from-none h0 (λ o b. b) (λ b. absurd b) }) (stopped-none (cohortOf v) t u k []) refl tt
   crash-next (initial false) mid k = lost mid k (from-initial false l0 tt (none-proper i a)) (stopped-none (cohortOf v) t true k []) refl tt
   crash-next (initial true) mid zero = lost mid 0 (from-initial true l0 tt (none-proper i a)) (stopped-lost (cohortOf v) t true [] (1 ∷ [])) refl tt
   crash-next (initial true) mid (suc k) = lost mid (suc k) (from-initial true l1 (unfold sameOutcome in tt) (first-proper i a (mid .fit))) (stopped-kept (cohortOf v) t true k [] (1 ∷ []) 1 refl) refl tt
@@ -156,4 +164,4 @@ module _ (t : ℕ) (v : View) where
       lost mid (suc k) (rests o true l (closed l) (resting-down i o (closed l) false (closed-fits i o l (mid .fit))) (closed-proper i a o l (mid .fit) (may-close (cohortOf v) o l (mid .sets)) (mid .proper)) (closed-has l))
       (stopped-kept (cohortOf v) t true k (kindsIn l) (kindsIn (closed l)) (endRecord o) (closed-kinds i o l (mid .fit))) refl tt
   crash-next (decided o down l) mid k =
-      lost {h′ = decided o down l} mid k (record { never = refl; fit = mid .fit; proper = mid .proper; sets = tt; from = λ h0 f. f; passing = λ n m. way-self v n (done o (not (resumed (classOf l)))) }) (stopped-none (cohortOf v) t false k (kindsIn l)) refl tt
+      lost {h′ = decided o down l} mid k (record { move = record { never = refl; fit = mid .fit; proper = mid .proper; sets = tt; passing = λ n m. way-self v n (done o (not (resumed (classOf l)))) }; from = λ h0 f. f }) (stopped-none (cohortOf v) t false k (kindsIn l)) refl tt

@@ -39,15 +39,17 @@ module _ (t : ℕ) (h0 : Standing) (v : View) where
   unfolding both sameOutcome
   aborts to w mid said =
       record {
-        never = refl;
-        fit = abort-waits (writesInit cohort) (awaited cohort to);
-        proper = initial-proper (writesInit cohort) (awaitsCommit cohort);
-        sets = (those-below inBoth, part);
+        move = record {
+          never = refl;
+          fit = abort-waits (writesInit cohort) (awaited cohort to);
+          proper = initial-proper (writesInit cohort) (awaitsCommit cohort);
+          sets = (those-below inBoth, part);
+          passing = λ n m.
+              way-abort v n (member (suc n) w) (member (suc n) to) (member (suc n) (awaited cohort to))
+              (λ t a. subst T (sym (member-those inBoth n (cohort .members) (mid .byte) m)) (and-both (member (suc n) to) (member (suc n) (owing cohort abort)) t (subst T (sym (member-owing cohort abort n (mid .byte) m)) a)))
+              (said n m);
+        };
         from = λ x. from-none x (λ o k. k) (λ k. absurd k);
-        passing = λ n m.
-            way-abort v n (member (suc n) w) (member (suc n) to) (member (suc n) (awaited cohort to))
-            (λ t a. subst T (sym (member-those inBoth n (cohort .members) (mid .byte) m)) (and-both (member (suc n) to) (member (suc n) (owing cohort abort)) t (subst T (sym (member-owing cohort abort n (mid .byte) m)) a)))
-            (said n m);
       }
     where
       inBoth : ℕ → Bool
@@ -65,12 +67,15 @@ module _ (t : ℕ) (h0 : Standing) where
       → SetsFit (cohortOf v) (decided o (resting true) l) → Shift v (decided o (waiting w) l) (decided o (resting true) l)
   ends v o w l mid e i s =
       record {
-        never = refl;
-        fit = end-written (writesInit (cohortOf v)) o l w i (mid .fit);
-        proper = mid .proper;
-        sets = s;
+        move =
+            record {
+              never = refl;
+              fit = end-written (writesInit (cohortOf v)) o l w i (mid .fit);
+              proper = mid .proper;
+              sets = s;
+              passing = λ n m. rw (is-false (member (suc n) w) (empty-none w (suc n) e)) (way-done v n o true);
+            };
         from = λ x. from-same (writesInit (cohortOf v)) o (waiting w) (resting true) l l x (λ k. k);
-        passing = λ n m. rw (is-false (member (suc n) w) (empty-none w (suc n) e)) (way-done v n o true);
       }
 
   end-appended : (g : Cohort) (o : Outcome) (ks : List ℕ)
@@ -126,14 +131,16 @@ module _ (t : ℕ) (h0 : Standing) where
   unfolding without
   hears v o p w l mid a =
       record {
-        never = refl;
-        fit = mid .fit;
-        proper = mid .proper;
-        sets = (those-below (λ q. member q w && not (eqb q p)), without-part t h0 v p w (owing (cohortOf v) o) (mid .sets .1));
+        move = record {
+          never = refl;
+          fit = mid .fit;
+          proper = mid .proper;
+          sets = (those-below (λ q. member q w && not (eqb q p)), without-part t h0 v p w (owing (cohortOf v) o) (mid .sets .1));
+          passing = λ n m.
+              rw (member-those (λ q. member q w && not (eqb q p)) n (cohortOf v .members) (mid .byte) m)
+              (way-hear v n o (member (suc n) w) (eqb (suc n) p) (λ e. subst (λ (q : ℕ). T (sentIn v q (ack o))) (sym (eqb-true (suc n) p (true-of _ e))) a));
+        };
         from = λ x. from-same (writesInit (cohortOf v)) o (waiting w) (waiting (without p w)) l l x (λ k. k);
-        passing = λ n m.
-            rw (member-those (λ q. member q w && not (eqb q p)) n (cohortOf v .members) (mid .byte) m)
-            (way-hear v n o (member (suc n) w) (eqb (suc n) p) (λ e. subst (λ (q : ℕ). T (sentIn v q (ack o))) (sym (eqb-true (suc n) p (true-of _ e))) a));
       }
 
   -- ---- the outcome is told again

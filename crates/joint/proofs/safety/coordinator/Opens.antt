@@ -110,7 +110,7 @@ start-after t v none =
       standing = never true;
       inv =
           record {
-            mid = stand (inv .mid) (record { never = refl; fit = tt; proper = tt; sets = tt; keeps = λ o k. k; passing = λ n m. tt }) started (unfold started in refl);
+            mid = stand (inv .mid) (record { never = refl; fit = tt; proper = tt; sets = tt; passing = λ n m. tt }) (λ o k. k) started (unfold started in refl);
             phase = inv .phase;
             whole = tt;
           };

@@ -20,7 +20,7 @@ use Rattle.joint.proofs.safety.Sets.{member-owing, empty-none}
 use Rattle.joint.proofs.safety.Invariant.{Log, kindsIn, classOf, resumed, waiting, resting, down, Standing, never, initial, collecting, decided, writesInit, coordinatorAt, between, Mid, Inv}
 use Rattle.joint.proofs.safety.coordinator.Logs.{resumed-waiting, down-resting, resumes-commit, resumes-abort}
 use Rattle.joint.proofs.safety.participant.Local.{holds-kinds}
-use Rattle.joint.proofs.safety.coordinator.Steps.{cohortOf, Shift, move, standsAs, stand, settle-mid}
+use Rattle.joint.proofs.safety.coordinator.Steps.{cohortOf, Shift, shift-keeps, standsAs, stand, settle-mid}
 use Rattle.joint.proofs.safety.coordinator.Crashes.{Next, from-same}
 use Rattle.joint.proofs.safety.coordinator.Runs.{Node, Runs, enter-run, runs-at, runs-end, cut-next}
 use Rattle.joint.proofs.safety.coordinator.Commits.{untilAckedAs, until-phase, until-between, enter-tell}
@@ -35,37 +35,44 @@ module _ (t : ℕ) (h0 : Standing) where
   unfolding owing
   resumes-waiting v o l mid r =
       record {
-        never = refl;
-        fit = resumed-waiting (writesInit (cohortOf v)) o l (owing (cohortOf v) o) r (mid .fit);
-        proper = mid .proper;
-        sets = (those-below _, λ p k. k);
+        move = record {
+          never = refl;
+          fit = resumed-waiting (writesInit (cohortOf v)) o l (owing (cohortOf v) o) r (mid .fit);
+          proper = mid .proper;
+          sets = (those-below _, λ p k. k);
+          passing = λ n m.
+              way-resume v n o (not (resumed (classOf l))) (member (suc n) (owing (cohortOf v) o)) (subst T (sym (member-owing (cohortOf v) o n (mid .byte) m)));
+        };
         from = λ x. from-same (writesInit (cohortOf v)) o down (waiting (owing (cohortOf v) o)) l l x (λ k. k);
-        passing = λ n m.
-            way-resume v n o (not (resumed (classOf l))) (member (suc n) (owing (cohortOf v) o)) (subst T (sym (member-owing (cohortOf v) o n (mid .byte) m)));
       }
 
   resumes-resting : (v : View) (o : Outcome) (l : Log) → Mid t (decided o down l) v → T (empty (owing (cohortOf v) o)) → Shift v (decided o down l) (decided o (resting false) l)
   resumes-resting v o l mid e =
       record {
-        never = refl;
-        fit = down-resting (writesInit (cohortOf v)) o l (mid .fit);
-        proper = mid .proper;
-        sets = tt;
+        move = record {
+          never = refl;
+          fit = down-resting (writesInit (cohortOf v)) o l (mid .fit);
+          proper = mid .proper;
+          sets = tt;
+          passing = λ n m.
+              way-resume v n o (not (resumed (classOf l))) false
+              (λ a. empty-none (owing (cohortOf v) o) (suc n) e (subst T (sym (member-owing (cohortOf v) o n (mid .byte) m)) a));
+        };
         from = λ x. from-same (writesInit (cohortOf v)) o down (resting false) l l x (λ k. k);
-        passing = λ n m.
-            way-resume v n o (not (resumed (classOf l))) false
-            (λ a. empty-none (owing (cohortOf v) o) (suc n) e (subst T (sym (member-owing (cohortOf v) o n (mid .byte) m)) a));
       }
 
   forgets : (v : View) (o : Outcome) (l : Log) → Mid t (decided o down l) v → resumed (classOf l) ≡ false → Shift v (decided o down l) (decided o (resting false) l)
   forgets v o l mid e =
       record {
-        never = refl;
-        fit = down-resting (writesInit (cohortOf v)) o l (mid .fit);
-        proper = mid .proper;
-        sets = tt;
+        move =
+            record {
+              never = refl;
+              fit = down-resting (writesInit (cohortOf v)) o l (mid .fit);
+              proper = mid .proper;
+              sets = tt;
+              passing = λ n m. rw e (way-done v n o true);
+            };
         from = λ x. from-same (writesInit (cohortOf v)) o down (resting false) l l x (λ k. k);
-        passing = λ n m. rw e (way-done v n o true);
       }
 
   -- ---- whole or cut
@@ -92,7 +99,7 @@ module _ (t : ℕ) (h0 : Standing) where
       let s = k u (effects-cohort es v) (y .mid) in
       record {
         standing = h′;
-        inv = record { mid = settle-mid (stand (y .mid) (move s) started (q u)) c; phase = p; whole = b };
+        inv = record { mid = settle-mid (stand (y .mid) (s .move) (shift-keeps s) started (q u)) c; phase = p; whole = b };
         from = λ z f. s .from z (y .from z f);
       }
   start-next {v} es o l h′ c x k q p b (cutAfter m n) =

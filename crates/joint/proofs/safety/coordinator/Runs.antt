@@ -17,7 +17,7 @@ use Rattle.joint.proofs.view.Turn.{Carried, whole, cutAfter}
 use Rattle.joint.proofs.safety.Tables.{maySend}
 use Rattle.joint.proofs.safety.Sets.{no-zero}
 use Rattle.joint.proofs.safety.Invariant.{Standing, stageOf, hasDecided, writesInit, coordinatorAt, between, sentIn, Mid}
-use Rattle.joint.proofs.safety.coordinator.Steps.{cohortOf, From, Shift, move, standsAs, stay, stand, settle-mid, enter-mid, send-mid}
+use Rattle.joint.proofs.safety.coordinator.Steps.{cohortOf, From, Shift, shift-keeps, standsAs, stay, stand, settle-mid, enter-mid, send-mid}
 use Rattle.joint.proofs.safety.coordinator.Crashes.{Next, crash-next}
 
 -- ---- addressees
@@ -75,11 +75,11 @@ module _ (t : ℕ) (h0 : Standing) where
   -- ---- a change of standing, without an effect and with one on the log
 
   pub node-stay : {v : View} {h h′ : Standing} → Node t h0 v h → Shift v h h′ → standsAs t v h ≡ standsAs t v h′ → Node t h0 v h′
-  node-stay x s e = record { mid = stay (x .mid) (move s) e; from = λ y f. s .from y (x .from y f) }
+  node-stay x s e = record { mid = stay (x .mid) (s .move) (shift-keeps s) e; from = λ y f. s .from y (x .from y f) }
 
   node-stand : {v : View} {h h′ : Standing} → Node t h0 v h → Shift v h h′ → (k : Site → Site) → k (standsAs t v h) ≡ standsAs t v h′ → Node t h0 (viewAt 0 k v) h′
   unfolding viewAt
-  node-stand x s k e = record { mid = stand (x .mid) (move s) k e; from = λ y f. s .from y (x .from y f) }
+  node-stand x s k e = record { mid = stand (x .mid) (s .move) (shift-keeps s) k e; from = λ y f. s .from y (x .from y f) }
 
   pub append-run : {v : View} {h h1 : Standing} (es : List Effect) (h′ : Standing) (k : ℕ) (fs : List ℕ) → Node t h0 v h → Shift v h h1
       → appended (record { kind = k; transaction = t; fields = fs }) (standsAs t v h) ≡ standsAs t v h1

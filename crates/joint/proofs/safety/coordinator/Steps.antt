@@ -32,34 +32,24 @@ pub record From (i : Bool) (h0 h : Standing) : Type 0 where
   pub keeps : (o : Outcome) → T (hasDecided h0 o) → T (hasDecided h o)
   pub new : T (hasDecided h commit) → T (hasDecided h0 commit) ⊎ T (has 2 (stableAt i h))
 
--- what is decided stays decided; the records may be fewer
+-- a change of the standing that the members allow
 pub record Move (v : View) (h h′ : Standing) : Type 0 where
   pub never : isNever h′ ≡ isNever h
   pub fit : T (standingFits (writesInit (cohortOf v)) h′)
   pub proper : T (properLog (writesInit (cohortOf v)) (awaitsCommit (cohortOf v)) h′)
   pub sets : SetsFit (cohortOf v) h′
-  pub keeps : (o : Outcome) → T (hasDecided h o) → T (hasDecided h′ o)
   pub passing : (n : ℕ) → T (member (suc n) (cohortOf v .members)) → PassesAt v (stageOf h (suc n)) (stageOf h′ (suc n)) n
 
--- and a stable record 2 stays
+-- one within a row, behind which a stable record 2 still stands
 pub record Shift (v : View) (h h′ : Standing) : Type 0 where
-  pub never : isNever h′ ≡ isNever h
-  pub fit : T (standingFits (writesInit (cohortOf v)) h′)
-  pub proper : T (properLog (writesInit (cohortOf v)) (awaitsCommit (cohortOf v)) h′)
-  pub sets : SetsFit (cohortOf v) h′
+  pub move : Move v h h′
   pub from : (h0 : Standing) → From (writesInit (cohortOf v)) h0 h → From (writesInit (cohortOf v)) h0 h′
-  pub passing : (n : ℕ) → T (member (suc n) (cohortOf v .members)) → PassesAt v (stageOf h (suc n)) (stageOf h′ (suc n)) n
 
-pub move : {v : View} {h h′ : Standing} → Shift v h h′ → Move v h h′
-move {h} x =
-    record {
-      never = x .never;
-      fit = x .fit;
-      proper = x .proper;
-      sets = x .sets;
-      keeps = x .from h (record { keeps = λ o k. k; new = inl }) .keeps;
-      passing = x .passing;
-    }
+abbrev pub Keeps : Standing → Standing → Type 0
+Keeps h h′ = (o : Outcome) → T (hasDecided h o) → T (hasDecided h′ o)
+
+pub shift-keeps : {v : View} {h h′ : Standing} → Shift v h h′ → Keeps h h′
+shift-keeps {h} x = x .from h (record { keeps = λ o k. k; new = inl }) .keeps
 
 abbrev pub standsAs : ℕ → View → Standing → Site
 standsAs t v h = siteWith (cohortOf v) t 0 (standingUp h) (stableAt (writesInit (cohortOf v)) h) (unforcedAt h)
@@ -142,8 +132,8 @@ module _ {t : ℕ} {v : View} {h : Standing} (mid : Mid t h v) where
   isMember n = member (suc n) (cohortOf v .members)
 
   -- without an effect
-  pub stay : {h′ : Standing} → Move v h h′ → standsAs t v h ≡ standsAs t v h′ → Mid t h′ v
-  stay {h′} x e =
+  pub stay : {h′ : Standing} → Move v h h′ → Keeps h h′ → standsAs t v h ≡ standsAs t v h′ → Mid t h′ v
+  stay {h′} x keeps e =
       record {
         number = mid .number;
         byte = mid .byte;
@@ -153,14 +143,14 @@ module _ {t : ℕ} {v : View} {h : Standing} (mid : Mid t h v) where
         fit = x .fit;
         proper = x .proper;
         sets = x .sets;
-        entries = λ o u. x .keeps o (mid .entries o u);
+        entries = λ o u. keeps o (mid .entries o u);
         places = λ n. place-map t n (stageOf h (suc n)) (stageOf h′ (suc n)) v v (isMember n) (λ b. member-pass (stageOf h′ (suc n)) (x .passing n b)) (λ b s. s) (mid .places n);
       }
 
   -- with a change of the log
-  pub stand : {h′ : Standing} → Move v h h′ → (k : Site → Site) → k (standsAs t v h) ≡ standsAs t v h′ → Mid t h′ (viewAt 0 k v)
+  pub stand : {h′ : Standing} → Move v h h′ → Keeps h h′ → (k : Site → Site) → k (standsAs t v h) ≡ standsAs t v h′ → Mid t h′ (viewAt 0 k v)
   unfolding viewAt update
-  stand {h′} x k e =
+  stand {h′} x keeps k e =
       record {
         number = mid .number;
         byte = mid .byte;
@@ -170,7 +160,7 @@ module _ {t : ℕ} {v : View} {h : Standing} (mid : Mid t h v) where
         fit = x .fit;
         proper = x .proper;
         sets = x .sets;
-        entries = λ o u. x .keeps o (mid .entries o u);
+        entries = λ o u. keeps o (mid .entries o u);
         places = λ n. place-map t n (stageOf h (suc n)) (stageOf h′ (suc n)) v (viewAt 0 k v) (isMember n) (λ b y. member-beside k (member-pass (stageOf h′ (suc n)) (x .passing n b) y)) (λ b. stranger-beside k) (mid .places n);
       }
 

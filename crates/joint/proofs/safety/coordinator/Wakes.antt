@@ -41,7 +41,7 @@ after {h} x = record { standing = x .standing; inv = x .inv; from = x .from h (f
 
 same-move : {t : ℕ} {h : Standing} {v : View} → Mid t h v → Move v h h
 same-move {h} {v} mid =
-    record { never = refl; fit = mid .fit; proper = mid .proper; sets = mid .sets; keeps = λ o k. k; passing = λ n m. way-self v n (stageOf h (suc n)) }
+    record { never = refl; fit = mid .fit; proper = mid .proper; sets = mid .sets; passing = λ n m. way-self v n (stageOf h (suc n)) }
 
 -- ---- force
 
@@ -59,7 +59,7 @@ module _ (t : ℕ) (v : View) where
   stood {h} {h′} inv x k e p b same =
       record {
         standing = h′;
-        inv = record { mid = stand (inv .mid) x k e; phase = inv .phase ∙ p; whole = b };
+        inv = record { mid = stand (inv .mid) x (λ o u. subst T (sym (same o)) u) k e; phase = inv .phase ∙ p; whole = b };
         same = same;
       }
 
@@ -74,7 +74,6 @@ module _ (t : ℕ) (v : View) where
         fit = closed-fits (writesInit (cohortOf v)) o l (mid .fit);
         proper = closed-proper (writesInit (cohortOf v)) (awaitsCommit (cohortOf v)) o l (mid .fit) (may-close (cohortOf v) o l (mid .sets)) (mid .proper);
         sets = tt;
-        keeps = λ r k. k;
         passing = λ n m. way-done v n o true;
       }
 
@@ -126,7 +125,6 @@ module _ (t : ℕ) (v : View) where
         fit = older-fits (writesInit (cohortOf v)) o l (mid .fit);
         proper = older-proper (writesInit (cohortOf v)) (awaitsCommit (cohortOf v)) l (mid .proper);
         sets = tt;
-        keeps = λ r k. k;
         passing = λ n m. way-done v n o true;
       }
 
@@ -164,7 +162,7 @@ module _ (t : ℕ) (v : View) where
   discard-standing (decided x (resting false) l) inv o up e =
       record {
         standing = decided x (resting false) (older l);
-        inv = record { mid = stand (inv .mid) (trims x l (inv .mid)) trimmedView (trimmed-kinds l); phase = inv .phase; whole = tt };
+        inv = record { mid = stand (inv .mid) (trims x l (inv .mid)) (λ r k. k) trimmedView (trimmed-kinds l); phase = inv .phase; whole = tt };
         from = record { keeps = λ r k. k; new = inl };
       }
   discard-standing (decided x down l) inv o up e = absurd (true≢false (sym up ∙ ap (λ (s : Site). s .up) (inv .mid .log)))
