@@ -60,7 +60,8 @@ cases =
     }
     -- K3: after K2 deliver Yes: an Abort is sent, and the box ignores it. (Event 7: before that no Abort can be delivered.)
     ∷ record {
-      input = "00 00 01 00 FF 00 / 01 00 00 00 FF 00 / 02 00 01 00 FF 00 / 02 00 01 01 FF 00 / 02 00 01 03 FF 00 / 02 00 01 05 FF 00 / 02 00 01 04 FF 00 / 02 00 01 01 FF 00 / 02 00 01 04 FF 00";
+      input =
+          "00 00 01 00 FF 00 / 01 00 00 00 FF 00 / 02 00 01 00 FF 00 / 02 00 01 01 FF 00 / 02 00 01 03 FF 00 / 02 00 01 05 FF 00 / 02 00 01 04 FF 00 / 02 00 01 01 FF 00 / 02 00 01 04 FF 00";
       output = "1 0 0 0 0\n2 0 0 0 1\n3 0 1 1 1\n4 0 1 1 1\n5 0 1 1 1\n6 0 1 0 0\n7 7 0 0 0\n8 0 0 0 1\n9 0 0 0 0\nHANDOVER 0 CC-------\n";
       transaction = 0;
       phases = 4 ∷ 0 ∷ 2 ∷ [];
@@ -76,7 +77,8 @@ cases =
     }
     -- K5: with keep 1: hub enters commit, sends nothing; the box's Yes brings Commit. (Event 6: before that no Commit can be delivered.)
     ∷ record {
-      input = "00 00 01 01 FF 00 / 01 00 00 00 FF 00 / 02 00 01 00 FF 00 / 02 00 01 01 01 01 / 07 00 00 00 FF 00 / 02 00 01 03 FF 00 / 02 00 01 01 FF 00 / 02 00 01 03 FF 00";
+      input =
+          "00 00 01 01 FF 00 / 01 00 00 00 FF 00 / 02 00 01 00 FF 00 / 02 00 01 01 01 01 / 07 00 00 00 FF 00 / 02 00 01 03 FF 00 / 02 00 01 01 FF 00 / 02 00 01 03 FF 00";
       output = "1 0 0 0 0\n2 0 1 1 1\n3 0 1 1 1\n4 0 1 0 0\n5 0 0 0 0\n6 7 0 0 0\n7 0 0 0 1\n8 0 1 0 0\nHANDOVER 0 CC-------\n";
       transaction = 0;
       phases = 4 ∷ 0 ∷ 2 ∷ [];
@@ -92,7 +94,8 @@ cases =
     }
     -- K7: after K1 discard at box 1 answers 8; after force, 0
     ∷ record {
-      input = "00 00 01 01 FF 00 / 01 00 00 00 FF 00 / 02 00 01 00 FF 00 / 02 00 01 01 FF 00 / 02 00 01 03 FF 00 / 05 00 01 00 FF 00 / 04 00 01 00 FF 00 / 05 00 01 00 FF 00";
+      input =
+          "00 00 01 01 FF 00 / 01 00 00 00 FF 00 / 02 00 01 00 FF 00 / 02 00 01 01 FF 00 / 02 00 01 03 FF 00 / 05 00 01 00 FF 00 / 04 00 01 00 FF 00 / 05 00 01 00 FF 00";
       output = "1 0 0 0 0\n2 0 1 1 1\n3 0 1 1 1\n4 0 1 1 1\n5 0 1 0 0\n6 8 0 0 0\n7 0 0 1 0\n8 0 0 0 0\nHANDOVER 0 CC-------\n";
       transaction = 0;
       phases = 4 ∷ 0 ∷ 2 ∷ [];
@@ -100,7 +103,8 @@ cases =
     }
     -- K8: hub discards twice after K1, then 8
     ∷ record {
-      input = "00 00 01 01 FF 00 / 01 00 00 00 FF 00 / 02 00 01 00 FF 00 / 02 00 01 01 FF 00 / 02 00 01 03 FF 00 / 05 00 00 00 FF 00 / 05 00 00 00 FF 00 / 05 00 00 00 FF 00";
+      input =
+          "00 00 01 01 FF 00 / 01 00 00 00 FF 00 / 02 00 01 00 FF 00 / 02 00 01 01 FF 00 / 02 00 01 03 FF 00 / 05 00 00 00 FF 00 / 05 00 00 00 FF 00 / 05 00 00 00 FF 00";
       output = "1 0 0 0 0\n2 0 1 1 1\n3 0 1 1 1\n4 0 1 1 1\n5 0 1 0 0\n6 0 0 0 0\n7 0 0 0 0\n8 8 0 0 0\nHANDOVER 0 CC-------\n";
       transaction = 0;
       phases = 4 ∷ 0 ∷ 2 ∷ [];

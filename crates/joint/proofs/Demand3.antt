@@ -57,7 +57,8 @@ member-abort (decided o pace l) p s k c = one-outcome o c k
 
 module _ {t : ℕ} {v : View} (h : Standing) (mid : Mid t h v) where
   -- whoever has entered an outcome is the coordinator or a member that may have
-  entered : (o : Outcome) (P : Type 0) → (T (hasDecided h o) → P) → ((p : ℕ) (s : Status) → T (mayEnter (stageOf h p) s o) → P) → (s : ℕ) → T (v .entered s o) → P
+  entered : (o : Outcome) (P : Type 0) → (T (hasDecided h o) → P) → ((p : ℕ) (s : Status) → T (mayEnter (stageOf h p) s o) → P) → (s : ℕ)
+      → T (v .entered s o) → P
   entered o P f g zero k = f (mid .entries o k)
   entered o P f g (suc n) k = go (member (suc n) (cohortOf v .members)) (mid .places n)
     where
@@ -109,7 +110,8 @@ votes es earlier m h t k (suc n) b =
     let x = placed es earlier m h in
     let old = tracked t (x .before) in
     let new = next-kept t (x .before) (x .event) (old .standing) (old .inv) in
-    let decided = entered-commit (new .standing) (new .inv .mid) (m .site) (entered-now t commit (x .before) (x .event) (x .seen) m (x .rest) (x .moments) k) in
+    let decided =
+    entered-commit (new .standing) (new .inv .mid) (m .site) (entered-now t commit (x .before) (x .event) (x .seen) m (x .rest) (x .moments) k) in
     let mine = subst (λ (g : Cohort). T (member (suc n) (g .members))) (moment-cohort (after fresh (x .before)) (x .event) (x .seen) m (x .rest) (x .moments) t) b in
     subst (λ (ms : List Moment). T (any (isVote t (suc n)) ms)) (sym (x .earlier-is)) (any-more (isVote t (suc n)) (history fresh (x .before)) (x .seen) (new .asked decided n mine))
 
@@ -125,7 +127,8 @@ isUnknown (Coordinator.collecting w) = false
 isUnknown (Coordinator.awaitingAcks o w) = false
 isUnknown Coordinator.unknown = true
 
-resting-only : {t : ℕ} {v : View} (h : Standing) → Inv t h v → (p : ℕ) → T (member p (cohortOf v .members)) → v .site 0 .up ≡ true → v .transaction .coordinator ≡ Coordinator.unknown → Resting h
+resting-only : {t : ℕ} {v : View} (h : Standing) → Inv t h v → (p : ℕ) → T (member p (cohortOf v .members)) → v .site 0 .up ≡ true
+    → v .transaction .coordinator ≡ Coordinator.unknown → Resting h
 resting-only {v} (never u) inv p m up c = absurd (empty-none (cohortOf v .members) p (of-true (sym (inv .mid .opened))) m)
 resting-only (initial b) inv p m up c = absurd (true≢false (sym (ap isUnknown (sym (inv .phase) ∙ c))))
 resting-only (collecting w b) inv p m up c = absurd (true≢false (sym (ap isUnknown (sym (inv .phase) ∙ c))))
@@ -148,7 +151,8 @@ doubt-tests true false false k = k
 doubt-tests false b c k = k
 
 -- what the run's log says of a member's doubt
-in-doubt : (t : ℕ) (es : List (List ℕ)) (m : Stage) (n : ℕ) (x : Member t m n (seenAfter t es)) → T (inDoubt (after fresh es) t (suc n)) → T (doubtful (x .status))
+in-doubt : (t : ℕ) (es : List (List ℕ)) (m : Stage) (n : ℕ) (x : Member t m n (seenAfter t es)) → T (inDoubt (after fresh es) t (suc n))
+    → T (doubtful (x .status))
 unfolding inDoubt view siteView
 in-doubt t es m n x k =
     doubt-tests (has 5 (stableKinds (x .status))) (has 6 (stableKinds (x .status))) (has 7 (stableKinds (x .status)))
@@ -160,7 +164,8 @@ in-doubt t es m n x k =
         ∙ holds-kinds (cohortOf (seenAfter t es)) t (suc n) k (stableKinds (x .status))
 
 -- what silence means to a member in doubt is decided
-silence-decided : (t : ℕ) (es : List (List ℕ)) (h : Standing) → Inv t h (seenAfter t es) → Resting h → (n : ℕ) → T (member (suc n) (cohortOf (seenAfter t es) .members)) → T (inDoubt (after fresh es) t (suc n))
+silence-decided : (t : ℕ) (es : List (List ℕ)) (h : Standing) → Inv t h (seenAfter t es) → Resting h → (n : ℕ)
+    → T (member (suc n) (cohortOf (seenAfter t es) .members)) → T (inDoubt (after fresh es) t (suc n))
     → T (hasDecided h (silence (presumptionOf (cohortOf (seenAfter t es)) (suc n))))
 silence-decided t es h inv (rests o b l) n m d = go (member (suc n) (cohortOf (seenAfter t es) .members)) m (inv .mid .places n)
   where
@@ -183,7 +188,8 @@ outcome-is t es x abort d = go (any (commitStable t) (along fresh es)) refl
     go true e = absurd (both-decided (x .standing) (x .decides (of-true e)) d)
     go false e = refl
 
-reply-decided : (t : ℕ) (es : List (List ℕ)) (p : ℕ) → T (member p (after fresh es .transaction t .cohort .members)) → after fresh es .site 0 .up ≡ true → after fresh es .transaction t .coordinator ≡ Coordinator.unknown
+reply-decided : (t : ℕ) (es : List (List ℕ)) (p : ℕ) → T (member p (after fresh es .transaction t .cohort .members))
+    → after fresh es .site 0 .up ≡ true → after fresh es .transaction t .coordinator ≡ Coordinator.unknown
     → T (inDoubt (after fresh es) t p) → T (hasDecided (tracked t es .standing) (silence (presumptionOf (after fresh es .transaction t .cohort) p)))
 unfolding view siteView
 reply-decided t es zero m up c d = absurd (no-zero (after fresh es .transaction t .cohort .members) m)
@@ -199,7 +205,9 @@ replies es earlier m h t p o r c d =
     let unknown = ap (λ (y : Run). y .transaction t .coordinator) (sym at) ∙ c in
     let said = reply-silence (after fresh (x .before)) (x .event) (x .seen) m (x .rest) (x .moments) t p o r unknown in
     let now = reply-decided t (x .before) p (said .1) (said .2) unknown (subst (λ (y : Run). T (inDoubt y t p)) at d) in
-    let end = track-later t (x .before) (x .event ∷ x .later) (tracked t (x .before)) o (subst (λ (z : Outcome). T (hasDecided (tracked t (x .before) .standing) z)) (sym (said .0)) now) in
+    let end =
+    track-later t (x .before) (x .event ∷ x .later) (tracked t (x .before)) o
+    (subst (λ (z : Outcome). T (hasDecided (tracked t (x .before) .standing) z)) (sym (said .0)) now) in
     outcome-is t (x .before ++ (x .event ∷ x .later)) (end .0) o (end .1) ∙ ap (λ (l : List (List ℕ)). outcome l t) (sym (x .list))
 
 -- ---- the claim

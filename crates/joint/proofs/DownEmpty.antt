@@ -58,7 +58,8 @@ perform-empty s t (send m p) r all q = all
 acts-empty : (s : ℕ) (l : List Act) (r : Run) → AllDownEmpty r → (r .site s .up ≡ true) ⊎ AllLogless l → AllDownEmpty (performAll s l r)
 unfolding performAll
 acts-empty s [] r all q = all
-acts-empty s (a ∷ l) r all (inl u) = acts-empty s l _ (perform-empty s (a .transaction) (a .effect) r all (inl u)) (inl (perform-up s (a .transaction) (a .effect) r s ∙ u))
+acts-empty s (a ∷ l) r all (inl u) =
+    acts-empty s l _ (perform-empty s (a .transaction) (a .effect) r all (inl u)) (inl (perform-up s (a .transaction) (a .effect) r s ∙ u))
 acts-empty s (a ∷ l) r all (inr h) = acts-empty s l _ (perform-empty s (a .transaction) (a .effect) r all (inr (h .0))) (inr (h .1))
 
 take-logless : (n : ℕ) (l : List Act) → AllLogless l → AllLogless (take n l)
@@ -130,7 +131,8 @@ abbrev pub All : (Plan → Type 0) → Option Plan → Type 0
 All P none = Unit {0}
 All P (some p) = P p
 
-planned-good : {P : Type 0} (r : Run) (s t : ℕ) (g : P → Transaction → Transaction) (row : Option (Row P)) → r .site s .up ≡ true → All (Good r) (planned s t g row)
+planned-good : {P : Type 0} (r : Run) (s t : ℕ) (g : P → Transaction → Transaction) (row : Option (Row P)) → r .site s .up ≡ true
+    → All (Good r) (planned s t g row)
 unfolding planned rowPlan atTransaction
 planned-good r s t g none u = tt
 planned-good r s t g (some row) u = record { acts = inl u; settles = λ x h. h }
@@ -172,7 +174,8 @@ plan-good : (r : Run) (e : Event) → first (refusals r e) ≡ 0 → All (Good r
 unfolding refusals plan
 plan-good r (opening t M C) h = record { acts = inr tt; settles = λ x c. unfold atTransaction in c }
 plan-good r (beginning t) h = step-good r t 0 begin (is-up r 0 _ (passes 2 _ _ h .1))
-plan-good r (delivery t p m) h = or-good r (receiver m p) _ (step-good r t (receiver m p) (received m p) (is-up r _ _ (passes 3 _ _ (passes 2 _ _ h .1) .1)))
+plan-good r (delivery t p m) h =
+    or-good r (receiver m p) _ (step-good r t (receiver m p) (received m p) (is-up r _ _ (passes 3 _ _ (passes 2 _ _ h .1) .1)))
 plan-good r (timeout t s) h = step-good r t s timer (is-up r s _ (passes 3 _ _ (passes 2 _ _ h .1) .1))
 plan-good r (forcing s) h = record { acts = inl (is-up r s [] h); settles = λ x c. c }
 plan-good r (discarding t s) h = only-good r _ _ (record { acts = inr tt; settles = discard-empty t s })

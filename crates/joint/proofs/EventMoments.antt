@@ -82,7 +82,8 @@ part-member r t zero l h = absurd (omega arith)
 part-member r t (suc n) l h = of-true h
 
 -- a delivered Yes that is not refused is of a member, and site 0 is up
-yes-passes : (r : Run) (t p : ℕ) → 1 ≤ p → first (refusals r (delivery t p voteYes)) ≡ 0 → T (member p (r .transaction t .cohort .members)) × (r .site 0 .up ≡ true)
+yes-passes : (r : Run) (t p : ℕ) → 1 ≤ p → first (refusals r (delivery t p voteYes)) ≡ 0
+    → T (member p (r .transaction t .cohort .members)) × (r .site 0 .up ≡ true)
 unfolding refusals receiver stranger
 yes-passes r t p l h =
     let k = passes 2 _ _ h .1 in
@@ -90,7 +91,8 @@ yes-passes r t p l h =
 
 module _ (r : Run) (e : List ℕ) (m : Moment) (t p : ℕ) (o : Outcome) (reply : T (isReply t p o m)) (u : r .transaction t .coordinator ≡ Coordinator.unknown) where
   -- the only act of the event is m's
-  reply-accepted : {x : Parsed} {q : Plan} → Accepted r e x q → m .event ≡ e → (n : ℕ) (a b : List Act) → take n (q .acts) ≡ a ++ (m .act ∷ b) → Silent r t p o
+  reply-accepted : {x : Parsed} {q : Plan} → Accepted r e x q → m .event ≡ e → (n : ℕ) (a b : List Act) → take n (q .acts) ≡ a ++ (m .act ∷ b)
+      → Silent r t p o
   unfolding isReply messageKind
   reply-accepted {x} {q} c v n a b h =
       let tests = true-of _ reply in

@@ -36,7 +36,8 @@ module _ (es : List (List ℕ)) where
   cohorts-in-range = cohort-ranged (history fresh es) r inv
 
   -- opened or not
-  pub waiting-in-range : (t : ℕ) → waitingInRange (r .transaction t .cohort) (coordinatorPhase (r .transaction t .coordinator)) (waitingSet (r .transaction t .coordinator)) ≡ true
+  pub waiting-in-range : (t : ℕ)
+      → waitingInRange (r .transaction t .cohort) (coordinatorPhase (r .transaction t .coordinator)) (waitingSet (r .transaction t .coordinator)) ≡ true
   waiting-in-range = set-ranged (history fresh es) r inv
 
   -- ---- logs
@@ -46,7 +47,8 @@ module _ (es : List (List ℕ)) where
     pub records-own : EachRecord (OwnRecord r s) (r .site s .stable ++ r .site s .unforced)
     records-own = own-records (history fresh es) r inv s
 
-    pub record-own : (i : ℕ) → i < length (r .site s .stable ++ r .site s .unforced) → (x : LogRecord) → OwnRecord r s (getD (r .site s .stable ++ r .site s .unforced) i x)
+    pub record-own : (i : ℕ) → i < length (r .site s .stable ++ r .site s .unforced) → (x : LogRecord)
+        → OwnRecord r s (getD (r .site s .stable ++ r .site s .unforced) i x)
     record-own = each-record-at (OwnRecord r s) (r .site s .stable ++ r .site s .unforced) records-own
 
     -- 24 at the coordinator, 16 at a participant

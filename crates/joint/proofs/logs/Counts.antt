@@ -84,5 +84,6 @@ counted n (x ∷ xs) a =
     )
 
 -- with at most k of each transaction
-pub counted-most : (n k : ℕ) (xs : List LogRecord) → EachRecord (λ x. x .transaction < n) xs → ((t : ℕ) → length (own t xs) ≤ k) → length xs ≤ sumBelow n (λ t. k)
+pub counted-most : (n k : ℕ) (xs : List LogRecord) → EachRecord (λ x. x .transaction < n) xs → ((t : ℕ) → length (own t xs) ≤ k)
+    → length xs ≤ sumBelow n (λ t. k)
 counted-most n k xs a h = omega (arith, counted n xs a, sum-most n (λ t. length (own t xs)) (λ t. k) h)

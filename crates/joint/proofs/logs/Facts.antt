@@ -52,7 +52,9 @@ module _ {r : Run} {t s : ℕ} (x : Kinds r t s) where
   whole = x .stable ++ x .unforced
 
   is-whole : own t (r .site s .stable ++ r .site s .unforced) ≡ map put whole
-  is-whole = select-append (ofTransaction t) (r .site s .stable) (r .site s .unforced) ∙ ap₂ _++_ (x .is-stable) (x .is-unforced) ∙ sym (map-append put (x .stable) (x .unforced))
+  is-whole =
+      select-append (ofTransaction t) (r .site s .stable) (r .site s .unforced) ∙ ap₂ _++_ (x .is-stable) (x .is-unforced)
+      ∙ sym (map-append put (x .stable) (x .unforced))
 
   whole-fine : T (fine s i a whole)
   whole-fine = and-left (fine s i a whole) _ (x .tidies)
@@ -69,8 +71,16 @@ module _ {r : Run} {t s : ℕ} (x : Kinds r t s) where
   each-entry : Known r t s → (ks js : List ℕ) → T (inOrder s i a ks js) → EachRecord (OwnRecord r s) (map put js)
   each-entry k ks [] o = tt
   each-entry k ks (j ∷ js) o =
-      let stands = and-left (mayStand s i a ks j) _ o in
-      (record { known = k; kind = true-of (recordKindAt s j) (and-left (recordKindAt s j) _ stands); is = refl }, each-entry k (ks ++ (j ∷ [])) js (and-right (mayStand s i a ks j) _ o))
+      let stands = and-left (mayStand s i a ks j) _ o in (
+        record {
+          known =
+              k;
+          kind = true-of (recordKindAt s j) (and-left (recordKindAt s j) _ stands);
+          is = refl;
+        },
+        each-entry k (ks ++ (j ∷ [])) js (and-right
+            (mayStand s i a ks j) _ o),
+      )
 
   each-of : EachRecord (OwnRecord r s) (own t (r .site s .stable ++ r .site s .unforced))
   each-of = subst (EachRecord (OwnRecord r s)) (sym is-whole) (go (x .known))
@@ -115,13 +125,16 @@ shares (suc n) = refl
 -- w is a part of m
 part-of : (w m : ℕ) → w < 256 → ((p : ℕ) → T (member p w) → T (member p m)) → part w m ≡ true
 unfolding part both
-part-of w m h f = eq-eqb (both w m) w (those-alike (λ p. member p w && member p m) (λ p. member p w) (λ i k. go (member (suc i) w) (member (suc i) m) (f (suc i))) ∙ those-members w h)
+part-of w m h f =
+    eq-eqb (both w m) w
+    (those-alike (λ p. member p w && member p m) (λ p. member p w) (λ i k. go (member (suc i) w) (member (suc i) m) (f (suc i))) ∙ those-members w h)
   where
     go : (b c : Bool) → (T b → T c) → (b && c) ≡ b
     go true c k = true-of c (k tt)
     go false c k = refl
 
-standing-waits : (g : Cohort) (h : Standing) → SetsFit g h → T (between h) → waitingInRange g (coordinatorPhase (coordinatorAt h)) (waitingSet (coordinatorAt h)) ≡ true
+standing-waits : (g : Cohort) (h : Standing) → SetsFit g h → T (between h)
+    → waitingInRange g (coordinatorPhase (coordinatorAt h)) (waitingSet (coordinatorAt h)) ≡ true
 unfolding waitingInRange coordinatorPhase waitingSet empty
 standing-waits g (never u) e b = refl
 standing-waits g (initial j) e b = refl
@@ -141,7 +154,8 @@ module _ (ms : List Moment) (r : Run) (inv : (t : ℕ) → (h : Standing) × Inv
   pub cohort-ranged : (t : ℕ) → opened r t ≡ true → (t < 8) × Ranged (cohortIn r t)
   cohort-ranged t = opened-ranged t ms r (inv t .0) (inv t .1 .mid)
 
-  pub set-ranged : (t : ℕ) → waitingInRange (cohortIn r t) (coordinatorPhase (r .transaction t .coordinator)) (waitingSet (r .transaction t .coordinator)) ≡ true
+  pub set-ranged : (t : ℕ)
+      → waitingInRange (cohortIn r t) (coordinatorPhase (r .transaction t .coordinator)) (waitingSet (r .transaction t .coordinator)) ≡ true
   unfolding view
   set-ranged t = rw (inv t .1 .phase) (standing-waits (cohortIn r t) (inv t .0) (inv t .1 .mid .sets) (inv t .1 .whole))
 
@@ -163,11 +177,14 @@ module _ (ms : List Moment) (r : Run) (inv : (t : ℕ) → (h : Standing) × Inv
     unforced-one t = few-unforced (kinds t s)
 
     pub unforced-most : length (r .site s .unforced) ≤ 8
-    unforced-most = counted-most 8 1 (r .site s .unforced) (each-back (λ x. x .transaction < 8) (r .site s .stable) (r .site s .unforced) numbers) unforced-one
+    unforced-most =
+        counted-most 8 1 (r .site s .unforced) (each-back (λ x. x .transaction < 8) (r .site s .stable) (r .site s .unforced) numbers) unforced-one
 
     module _ (small : s ≤ 8) where
       pub log-accepted : first (logRefusals s log) ≡ 0
       log-accepted = log-passes (cohortIn r) s log small log-most (λ t. follows-whole (kinds t s) (cohort-ranged t))
 
       pub stable-accepted : first (logRefusals s (r .site s .stable)) ≡ 0
-      stable-accepted = log-passes (cohortIn r) s (r .site s .stable) small (omega (arith, rw length-append at log-most)) (λ t. follows-stable (kinds t s) (cohort-ranged t))
+      stable-accepted =
+          log-passes (cohortIn r) s (r .site s .stable) small (omega (arith, rw length-append at log-most))
+          (λ t. follows-stable (kinds t s) (cohort-ranged t))

@@ -88,9 +88,11 @@ collecting-tidy false a true = tt
 collecting-tidy false a false = tt
 
 -- with an unforced end record
-closing-tidy : (i a : Bool) (o : Outcome) (l : Log) → T (logFits i o (resting true) (classOf l)) → T (sameOutcome o abort || a) → T (properKinds i a (kindsIn l))
+closing-tidy : (i a : Bool) (o : Outcome) (l : Log) → T (logFits i o (resting true) (classOf l)) → T (sameOutcome o abort || a)
+    → T (properKinds i a (kindsIn l))
     → T (tidy 0 i a (kindsIn l) (endRecord o ∷ []))
-closing-tidy i a o l f k p = to-tidy i a (kindsIn l) (endRecord o ∷ []) (kindsIn (closed l)) (closed-kinds i o l f) tt (log-fine i a (closed l) (closed-proper i a o l f k p))
+closing-tidy i a o l f k p =
+    to-tidy i a (kindsIn l) (endRecord o ∷ []) (kindsIn (closed l)) (closed-kinds i o l f) tt (log-fine i a (closed l) (closed-proper i a o l f k p))
 
 standing-tidy : (g : Cohort) (h : Standing) → T (standingFits (writesInit g) h) → SetsFit g h → T (properLog (writesInit g) (awaitsCommit g) h)
     → T (tidy 0 (writesInit g) (awaitsCommit g) (stableAt (writesInit g) h) (unforcedAt h))

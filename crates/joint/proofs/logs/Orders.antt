@@ -191,7 +191,8 @@ module _ (g : ℕ → Cohort) (s : ℕ) where
           }
 
   -- a record of another transaction
-  passed-by : (t : ℕ) (x : LogRecord) (before log : List LogRecord) → ofTransaction t x ≡ false → Follows t before (x ∷ log) → Follows t (before ++ (x ∷ [])) log
+  passed-by : (t : ℕ) (x : LogRecord) (before log : List LogRecord) → ofTransaction t x ≡ false → Follows t before (x ∷ log)
+      → Follows t (before ++ (x ∷ [])) log
   unfolding select
   passed-by t x before log e f =
       record {

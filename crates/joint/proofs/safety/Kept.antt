@@ -36,7 +36,8 @@ member-voted (initial b) d x = absurd d
 member-voted (collecting w b) d x = absurd d
 member-voted (decided o p l) d x = x .fine .honest (x .fine .counted d)
 
-pub all-voted : {t : ℕ} {v : View} (h : Standing) → Mid t h v → T (hasDecided h commit) → (n : ℕ) → T (member (suc n) (cohortOf v .members)) → T (v .voted (suc n))
+pub all-voted : {t : ℕ} {v : View} (h : Standing) → Mid t h v → T (hasDecided h commit) → (n : ℕ) → T (member (suc n) (cohortOf v .members))
+    → T (v .voted (suc n))
 all-voted {t} {v} h mid d n m = go (member (suc n) (cohortOf v .members)) m (mid .places n)
   where
     go : (b : Bool) → T b → Place b t (stageOf h (suc n)) n v → T (v .voted (suc n))
@@ -73,7 +74,8 @@ same-kept : {t : ℕ} {h : Standing} {v w : View} → Inv t h v → Inv t h w �
 same-kept {h} old new = record { standing = h; inv = new; from = from-self _ h; asked = all-voted h (old .mid) }
 
 -- at the coordinator
-after-kept : {t : ℕ} {h : Standing} {v w : View} → cohortOf w ≡ cohortOf v → ((n : ℕ) → T (w .voted (suc n)) → T (v .voted (suc n))) → After t h w → Kept t h v w
+after-kept : {t : ℕ} {h : Standing} {v w : View} → cohortOf w ≡ cohortOf v → ((n : ℕ) → T (w .voted (suc n)) → T (v .voted (suc n))) → After t h w
+    → Kept t h v w
 after-kept e f x =
     record {
       standing = x .standing;
@@ -87,7 +89,8 @@ module _ {t : ℕ} {es : List Effect} {f : View → View} {v : View} where
   carried-cohort k whole = k _ ∙ effects-cohort t (never true) es v
   carried-cohort k (cutAfter m n) = unfold viewDown forgotten withCoordinator in effects-cohort t (never true) (take m es) v
 
-  carried-voted : {w : View} → ((x : View) (n : ℕ) → T (f x .voted (suc n)) → T (x .voted (suc n))) → Carried t 0 es f v w → (n : ℕ) → T (w .voted (suc n)) → T (v .voted (suc n))
+  carried-voted : {w : View} → ((x : View) (n : ℕ) → T (f x .voted (suc n)) → T (x .voted (suc n))) → Carried t 0 es f v w → (n : ℕ)
+      → T (w .voted (suc n)) → T (v .voted (suc n))
   carried-voted k whole n u = effects-voted t es v n (k (viewEffects 0 t es v) n u)
   carried-voted k (cutAfter m j) n u = effects-voted t (take m es) v n (unfold viewDown in u)
 
@@ -130,7 +133,8 @@ turn-kept {t} {h} {v} inv (returns n o d e c) = same-kept inv (return-kept t h v
 -- ---- an event
 
 -- behind a force, by which nothing is decided and no vote is cast
-behind : {t : ℕ} {v w : View} (s : ℕ) (h h1 : Standing) → ((o : Outcome) → hasDecided h1 o ≡ hasDecided h o) → Kept t h1 (viewAt s forced v) w → Kept t h v w
+behind : {t : ℕ} {v w : View} (s : ℕ) (h h1 : Standing) → ((o : Outcome) → hasDecided h1 o ≡ hasDecided h o) → Kept t h1 (viewAt s forced v) w
+    → Kept t h v w
 unfolding viewAt
 behind s h h1 e x =
     record {

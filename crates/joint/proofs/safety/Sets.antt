@@ -84,7 +84,8 @@ no-zero w t = subst T (ap (λ (k : ℕ). eqb k 1) even) t
 module _ (g : Cohort) (o : Outcome) where
   pub member-owing : (n : ℕ) → g .members < 256 → T (member (suc n) (g .members)) → member (suc n) (owing g o) ≡ acks (presumptionOf g (suc n)) o
   unfolding owing
-  member-owing n h m = member-those (λ p. member p (g .members) && acks (presumptionOf g p) o) n (g .members) h m ∙ rw (true-of (member (suc n) (g .members)) m) refl
+  member-owing n h m =
+      member-those (λ p. member p (g .members) && acks (presumptionOf g p) o) n (g .members) h m ∙ rw (true-of (member (suc n) (g .members)) m) refl
 
   pub owing-member : (n : ℕ) → T (member (suc n) (owing g o)) → T (member (suc n) (g .members)) × T (acks (presumptionOf g (suc n)) o)
   unfolding owing

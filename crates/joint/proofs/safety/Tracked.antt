@@ -60,12 +60,15 @@ module _ (t : ℕ) where
       go : (j : Bool) → T (has 2 (kindsIn (initLog j))) → ⊥
       go true k = unfold has any in k
       go false k = unfold has any in k
-  record-decided {v} (decided o (waiting w) l) mid r = commit-record (writesInit (cohortOf v)) o l r (waiting-down (writesInit (cohortOf v)) o l w (mid .fit))
-  record-decided {v} (decided o (resting b) l) mid r = commit-record (writesInit (cohortOf v)) o l r (resting-down (writesInit (cohortOf v)) o l b (mid .fit))
+  record-decided {v} (decided o (waiting w) l) mid r =
+      commit-record (writesInit (cohortOf v)) o l r (waiting-down (writesInit (cohortOf v)) o l w (mid .fit))
+  record-decided {v} (decided o (resting b) l) mid r =
+      commit-record (writesInit (cohortOf v)) o l r (resting-down (writesInit (cohortOf v)) o l b (mid .fit))
   record-decided {v} (decided o down l) mid r = commit-record (writesInit (cohortOf v)) o l r (mid .fit)
 
   -- the run's record 2, and that of the standing
-  record-stands : (es : List (List ℕ)) (h : Standing) → Inv t h (seenAfter es) → commitStable t (after fresh es) ≡ has 2 (stableAt (writesInit (cohortOf (seenAfter es))) h)
+  record-stands : (es : List (List ℕ)) (h : Standing) → Inv t h (seenAfter es)
+      → commitStable t (after fresh es) ≡ has 2 (stableAt (writesInit (cohortOf (seenAfter es))) h)
   unfolding view commitStable siteView
   record-stands es h inv =
       sym (holds-select t 2 (after fresh es .site 0 .stable)) ∙ ap (λ (s : Site). holds t 2 (s .stable)) (inv .mid .log)
@@ -81,7 +84,8 @@ module _ (t : ℕ) where
     pub decides : T (any (commitStable t) (along fresh es)) → T (hasDecided standing commit)
 
   -- a decision stays
-  pub track-next : (es : List (List ℕ)) (e : List ℕ) (x : Tracked es) → (y : Tracked (es ++ (e ∷ []))) × ((o : Outcome) → T (hasDecided (x .standing) o) → T (hasDecided (y .standing) o))
+  pub track-next : (es : List (List ℕ)) (e : List ℕ) (x : Tracked es)
+      → (y : Tracked (es ++ (e ∷ []))) × ((o : Outcome) → T (hasDecided (x .standing) o) → T (hasDecided (y .standing) o))
   unfolding passed
   track-next es e x =
       let k = next-kept es e (x .standing) (x .inv) in (
@@ -102,7 +106,8 @@ module _ (t : ℕ) where
       before : Bool
       before = any (commitStable t) (along fresh es)
 
-      now : (k : Kept t (x .standing) (seenAfter es) (seenAfter (es ++ (e ∷ [])))) → has 2 (stableAt (writesInit (cohortOf (seenAfter (es ++ (e ∷ []))))) (k .standing)) ≡ commitStable t (event (after fresh es) e .run)
+      now : (k : Kept t (x .standing) (seenAfter es) (seenAfter (es ++ (e ∷ []))))
+          → has 2 (stableAt (writesInit (cohortOf (seenAfter (es ++ (e ∷ []))))) (k .standing)) ≡ commitStable t (event (after fresh es) e .run)
       now k = sym (record-stands (es ++ (e ∷ [])) (k .standing) (k .inv)) ∙ ap (commitStable t) (after-snoc fresh es e)
 
   tracked-none : Tracked []
@@ -136,7 +141,8 @@ module _ (t : ℕ) where
   tracked = by-events Tracked tracked-none (λ es e x. track-next es e x .0)
 
   -- whatever comes later
-  pub track-later : (es later : List (List ℕ)) (x : Tracked es) (o : Outcome) → T (hasDecided (x .standing) o) → (y : Tracked (es ++ later)) × T (hasDecided (y .standing) o)
+  pub track-later : (es later : List (List ℕ)) (x : Tracked es) (o : Outcome) → T (hasDecided (x .standing) o)
+      → (y : Tracked (es ++ later)) × T (hasDecided (y .standing) o)
   track-later es [] x o d = rw append-nil (x, d)
   track-later es (e ∷ later) x o d =
       let y = track-next es e x in

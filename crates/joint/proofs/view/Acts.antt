@@ -172,7 +172,8 @@ acts-view bytes start t s (a ∷ l) ms r =
         → viewEffects s t (effectsOf rest) (view t (ms ++ (moment bytes start s (a .transaction) (a .effect) r ∷ [])) (perform s (a .transaction) (a .effect) r))
         ≡ viewEffects s t (effectsOf (cond (b || f) (a ∷ rest) rest)) (view t ms r)
     go true e f g = unfold viewEffects effectsOf in (rw (eqb-true (a .transaction) t e, perform-view bytes start t s (a .effect) ms r))
-    go false e true g = unfold viewEffects effectsOf in (rw (perform-other bytes start t (a .transaction) s (a .effect) ms r (eqb-false (a .transaction) t e), g))
+    go false e true g =
+        unfold viewEffects effectsOf in (rw (perform-other bytes start t (a .transaction) s (a .effect) ms r (eqb-false (a .transaction) t e), g))
     go false e false g = rw (perform-other bytes start t (a .transaction) s (a .effect) ms r (eqb-false (a .transaction) t e), g)
 
 -- ---- a crash, or a cut

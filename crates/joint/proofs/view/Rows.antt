@@ -85,7 +85,8 @@ module _ (t : ℕ) (r : Run) where
               turn (coordinates {row = row} i (is-opened t ms r ready) (site-up t ms r 0 ∙ up) (given ms) e (rw (seen-own t (row .effects)) at c));
         }
 
-    participant-shown : (n : ℕ) → T (member (suc n) (r .transaction t .cohort .members)) → r .site (suc n) .up ≡ true → Own (suc n) i → (row : Option (Row Participant))
+    participant-shown : (n : ℕ) → T (member (suc n) (r .transaction t .cohort .members)) → r .site (suc n) .up ≡ true → Own (suc n) i
+        → (row : Option (Row Participant))
         → participantStep (presumptionOf (r .transaction t .cohort) (suc n)) (suc n) i (r .transaction t .participant (suc n)) ≡ row
         → All (Shown t r) (planned (suc n) t (withParticipant (suc n)) row)
     unfolding planned rowPlan view

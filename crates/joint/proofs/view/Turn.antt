@@ -73,12 +73,14 @@ viewStart s g v = viewAt s started (viewSettle g v)
 pub data Turn (t : ℕ) (v : View) : View → Type 0 where
   crashes : (s n : ℕ) → Up v s → Turn t v (viewDown s n v)
   -- members is a byte, PC a part of it, there is a member, and the sites of all members are up
-  opens : (g : Cohort) → t < 8 → g .members < 256 → part (g .presumeCommit) (g .members) ≡ true → empty (g .members) ≡ false → empty (v .transaction .cohort .members) ≡ true
+  opens : (g : Cohort) → t < 8 → g .members < 256 → part (g .presumeCommit) (g .members) ≡ true → empty (g .members) ≡ false
+      → empty (v .transaction .cohort .members) ≡ true
       → Up v 0 → ((n : ℕ) → member (suc n) (g .members) ≡ true → Up v (suc n)) → Turn t v (viewSettle (openedAs g) v)
   coordinates : {row : Row Coordinator} {w : View} (i : Input) → Opened v → Up v 0 → Given v i
       → coordinatorStep (v .transaction .cohort) i (v .transaction .coordinator) ≡ some row
       → Carried t 0 (row .effects) (viewSettle (withCoordinator (row .phase))) v w → Turn t v w
-  participates : {row : Row Participant} {w : View} (n : ℕ) (i : Input) → T (member (suc n) (v .transaction .cohort .members)) → Up v (suc n) → Given v i → Own (suc n) i
+  participates : {row : Row Participant} {w : View} (n : ℕ) (i : Input) → T (member (suc n) (v .transaction .cohort .members)) → Up v (suc n)
+      → Given v i → Own (suc n) i
       → participantStep (presumptionOf (v .transaction .cohort) (suc n)) (suc n) i (v .transaction .participant (suc n)) ≡ some row
       → Carried t (suc n) (row .effects) (viewSettle (withParticipant (suc n) (row .phase))) v w → Turn t v w
   -- the coordinator, or a member

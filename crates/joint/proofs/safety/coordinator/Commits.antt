@@ -116,7 +116,8 @@ module _ (t : ℕ) (h0 : Standing) (v : View) where
         from = undecided t h0 v (λ o k. k) (λ k. k);
       }
 
-  commits : (w : ℕ) → Mid t (collecting w true) v → Shift v (collecting w true) (decided commit (waiting (owing (cohortOf v) commit)) (commitLog (writesInit (cohortOf v))))
+  commits : (w : ℕ) → Mid t (collecting w true) v
+      → Shift v (collecting w true) (decided commit (waiting (owing (cohortOf v) commit)) (commitLog (writesInit (cohortOf v))))
   unfolding owing
   commits w mid =
       record {
@@ -139,10 +140,12 @@ module _ (t : ℕ) (h0 : Standing) where
   pub told : (g : Cohort) (o : Outcome) (p : Pace) (l : Log) (to : ℕ) → ((q : ℕ) → T (member q to) → T (member q (g .members)))
       → Each (Addressee g (decided o p l) (tell o)) (inOrder g o to)
   unfolding inOrder
-  told g o p l to f = each-ordered (Addressee g (decided o p l) (tell o)) (owing g o) to (λ n m. (f (suc n) m, or-left (sameOutcome o o) _ (refl-outcome o)))
+  told g o p l to f =
+      each-ordered (Addressee g (decided o p l) (tell o)) (owing g o) to (λ n m. (f (suc n) m, or-left (sameOutcome o o) _ (refl-outcome o)))
 
   -- nobody is waited for, and no record ends it
-  pub rests-now : (v : View) (o : Outcome) (w : ℕ) (l : Log) → Mid t (decided o (waiting w) l) v → T (empty w) → Shift v (decided o (waiting w) l) (decided o (resting false) l)
+  pub rests-now : (v : View) (o : Outcome) (w : ℕ) (l : Log) → Mid t (decided o (waiting w) l) v → T (empty w)
+      → Shift v (decided o (waiting w) l) (decided o (resting false) l)
   rests-now v o w l mid e =
       record {
         move =
@@ -161,7 +164,8 @@ module _ (t : ℕ) (h0 : Standing) where
   untilAckedAs true o w l = decided o (resting false) l
   untilAckedAs false o w l = decided o (waiting w) l
 
-  pub until-acked : (v : View) (b : Bool) (o : Outcome) (w : ℕ) (l : Log) → empty w ≡ b → Node t h0 v (decided o (waiting w) l) → Node t h0 v (untilAckedAs b o w l)
+  pub until-acked : (v : View) (b : Bool) (o : Outcome) (w : ℕ) (l : Log) → empty w ≡ b → Node t h0 v (decided o (waiting w) l)
+      → Node t h0 v (untilAckedAs b o w l)
   until-acked v true o w l e x = node-stay t h0 x (rests-now v o w l (x .mid) (subst T (sym e) tt)) refl
   until-acked v false o w l e x = x
 
@@ -175,7 +179,8 @@ module _ (t : ℕ) (h0 : Standing) where
   until-between false o w l e = subst (λ (c : Bool). T (not c)) (sym e) tt
 
   -- the outcome is entered and told
-  pub enter-tell : {v : View} (o : Outcome) (p : Pace) (l : Log) (to : ℕ) → ((q : ℕ) → T (member q to) → T (member q (cohortOf v .members))) → (es : List Effect) (h′ : Standing)
+  pub enter-tell : {v : View} (o : Outcome) (p : Pace) (l : Log) (to : ℕ) → ((q : ℕ) → T (member q to) → T (member q (cohortOf v .members)))
+      → (es : List Effect) (h′ : Standing)
       → Node t h0 v (decided o p l) → ((w : View) → cohortOf w ≡ cohortOf v → Node t h0 w (decided o p l) → Runs t h0 w es h′)
       → Runs t h0 v (enter o ∷ (tellAll (cohortOf v) o to ++ es)) h′
   unfolding viewPerform tellAll
@@ -209,5 +214,6 @@ module _ (t : ℕ) (h0 : Standing) (v : View) where
       (forced-kinds group t true (kindsIn (initLog (writesInit group))) (2 ∷ []) (kindsIn (commitLog (writesInit group))) (commit-kinds (writesInit group)))
       (λ z.
       subst (λ (l : List Effect). Runs t h0 (viewPerform 0 t force written) (enter commit ∷ l) (final b)) (append-nil (tellAll group commit (group .members)))
-      (enter-tell t h0 {v = viewPerform 0 t force written} commit (waiting (owing group commit)) (commitLog (writesInit group)) (group .members) (λ p m. m) [] (final b) z
+      (enter-tell t h0 {v =
+      viewPerform 0 t force written} commit (waiting (owing group commit)) (commitLog (writesInit group)) (group .members) (λ p m. m) [] (final b) z
       (λ u f n. until-acked t h0 u b commit (owing group commit) (commitLog (writesInit group)) q n))))

@@ -36,7 +36,8 @@ module _ (t : ℕ) (v w : View) (row : Row Coordinator) where
   abbrev start : {h : Standing} → Mid t h v → Node t h v h
   start mid = record { mid = mid; from = λ x f. f }
 
-  finish : {h : Standing} (r : Row Coordinator) → some r ≡ some row → (h′ : Standing) → Runs t h v (r .effects) h′ → r .phase ≡ coordinatorAt h′ → T (between h′) → Done → Next t h w
+  finish : {h : Standing} (r : Row Coordinator) → some r ≡ some row → (h′ : Standing) → Runs t h v (r .effects) h′ → r .phase ≡ coordinatorAt h′
+      → T (between h′) → Done → Next t h w
   finish {h} r e h′ x p b d =
       row-next t h (r .effects) h′ (r .phase) x p b
       (subst (λ (y : Row Coordinator). Carried t 0 (y .effects) (viewSettle (withCoordinator (y .phase))) v w) (sym (Option·some-injective r row e)) d)
@@ -64,7 +65,8 @@ module _ (t : ℕ) (v w : View) (row : Row Coordinator) where
   -- ---- Collecting
 
   module _ (c : ℕ) (mid : Mid t (collecting c false) v) where
-    voted-next : (p : ℕ) → T (sentIn v p voteYes) → (b : Bool) → empty (without p c) ≡ b → some (voted g b (without p c)) ≡ some row → Done → Next t (collecting c false) w
+    voted-next : (p : ℕ) → T (sentIn v p voteYes) → (b : Bool) → empty (without p c) ≡ b → some (voted g b (without p c)) ≡ some row → Done
+        → Next t (collecting c false) w
     unfolding voted committing
     voted-next p y false q e d =
         finish (voted g false (without p c)) e (collecting (without p c) false) (node-stay t (collecting c false) (start mid) (counts t (collecting c false) v p c mid y) refl) refl (subst (λ (b : Bool). T (not b)) (sym q) tt) d
@@ -76,7 +78,8 @@ module _ (t : ℕ) (v w : View) (row : Row Coordinator) where
         b : Bool
         b = empty (owing g commit)
 
-    abort-next : (to : ℕ) → ((q : ℕ) → T (member q to) → T (member q (g .members))) → ((n : ℕ) → T (member (suc n) (g .members)) → T (not (member (suc n) to)) → T (sentIn v (suc n) voteNo))
+    abort-next : (to : ℕ) → ((q : ℕ) → T (member q to) → T (member q (g .members)))
+        → ((n : ℕ) → T (member (suc n) (g .members)) → T (not (member (suc n) to)) → T (sentIn v (suc n) voteNo))
         → some (aborting g to) ≡ some row → Done → Next t (collecting c false) w
     unfolding aborting
     abort-next to part said e d =
@@ -132,7 +135,8 @@ module _ (t : ℕ) (v w : View) (row : Row Coordinator) where
         (not-empty c (g .presumeCommit) (mid .sets .0) some-left (λ n k. owes-abort g n (subst (λ (x : Outcome). T (member (suc n) (owing g x))) e (owed n k))))
 
     acks-owed : (d : Outcome) → o ≡ d → SetsFit g (decided d (resting true) l)
-    acks-owed commit e = not-empty c (owing g commit) (mid .sets .0) some-left (λ n k. subst (λ (x : Outcome). T (member (suc n) (owing g x))) e (owed n k))
+    acks-owed commit e =
+        not-empty c (owing g commit) (mid .sets .0) some-left (λ n k. subst (λ (x : Outcome). T (member (suc n) (owing g x))) e (owed n k))
     acks-owed abort e = tt
 
     heard-next : (p : ℕ) → T (sentIn v p (ack o)) → (b : Bool) → empty (without p c) ≡ b → some (acked o b (without p c)) ≡ some row → Done → Next t here w
@@ -143,21 +147,26 @@ module _ (t : ℕ) (v w : View) (row : Row Coordinator) where
         finish (acked o true (without p c)) e (decided o (resting true) l)
         (end-run t here v o (without p c) l (subst T (sym q) tt) (init-written o refl) (acks-owed o refl) (node-stay t here (start mid) (hears t here v o p c l mid a) refl)) refl tt d
 
-    acked-next : (a : Outcome) (p : ℕ) → T (sentIn v p (ack a)) → (b : Bool) → sameOutcome a o ≡ b → ackedIf b o (without p c) ≡ some row → Done → Next t here w
+    acked-next : (a : Outcome) (p : ℕ) → T (sentIn v p (ack a)) → (b : Bool) → sameOutcome a o ≡ b → ackedIf b o (without p c) ≡ some row → Done
+        → Next t here w
     unfolding ackedIf
     acked-next a p k false q e d = no-row e
-    acked-next a p k true q e d = heard-next p (subst (λ (x : Outcome). T (sentIn v p (ack x))) (same-outcome a o (of-true q)) k) (empty (without p c)) refl e d
+    acked-next a p k true q e d =
+        heard-next p (subst (λ (x : Outcome). T (sentIn v p (ack x))) (same-outcome a o (of-true q)) k) (empty (without p c)) refl e d
 
     -- to a member, or to all that are waited for
     tell-next : (p : ℕ) → T (member p (g .members)) → some (telling o p (Coordinator.awaitingAcks o c)) ≡ some row → Done → Next t here w
     unfolding telling
     tell-next zero m e d = absurd (no-zero (g .members) m)
-    tell-next (suc n) m e d = finish (telling o (suc n) (Coordinator.awaitingAcks o c)) e here (tell-run t here v o (waiting c) l n m (start mid)) refl some-left d
+    tell-next (suc n) m e d =
+        finish (telling o (suc n) (Coordinator.awaitingAcks o c)) e here (tell-run t here v o (waiting c) l n m (start mid)) refl some-left d
 
     waiting-next : (i : Input) → Given v i → coordinatorStep g i (Coordinator.awaitingAcks o c) ≡ some row → Done → Next t here w
     unfolding coordinatorStep onBegin coordinatorTimer onYes onNo onAck
     waiting-next begin k e d = no-row e
-    waiting-next timer k e d = finish (record { effects = tellAll g o c; phase = Coordinator.awaitingAcks o c }) e here (tell-all-run t here v o (waiting c) l c waits-part (start mid)) refl some-left d
+    waiting-next timer k e d =
+        finish (record { effects = tellAll g o c; phase = Coordinator.awaitingAcks o c }) e here
+        (tell-all-run t here v o (waiting c) l c waits-part (start mid)) refl some-left d
     waiting-next (received prepare p) k e d = no-row e
     waiting-next (received voteYes p) k e d = tell-next p (k .0) e d
     waiting-next (received voteNo p) k e d = no-row e
@@ -167,7 +176,8 @@ module _ (t : ℕ) (v w : View) (row : Row Coordinator) where
   -- ---- Unknown
 
   module _ (o : Outcome) (b : Bool) (l : Log) (mid : Mid t (decided o (resting b) l) v) where
-    reply-next : (p : ℕ) → T (member p (g .members)) → T (sentIn v p voteYes) → some (telling (silence (presumptionOf g p)) p Coordinator.unknown) ≡ some row → Done → Next t (decided o (resting b) l) w
+    reply-next : (p : ℕ) → T (member p (g .members)) → T (sentIn v p voteYes)
+        → some (telling (silence (presumptionOf g p)) p Coordinator.unknown) ≡ some row → Done → Next t (decided o (resting b) l) w
     unfolding telling
     reply-next zero m y e d = absurd (no-zero (g .members) m)
     reply-next (suc n) m y e d =
@@ -185,7 +195,8 @@ module _ (t : ℕ) (v w : View) (row : Row Coordinator) where
 
   -- ---- all phases
 
-  phase-next : (h : Standing) → Mid t h v → T (between h) → Opened v → Up v 0 → (i : Input) → Given v i → coordinatorStep g i (coordinatorAt h) ≡ some row → Done → Next t h w
+  phase-next : (h : Standing) → Mid t h v → T (between h) → Opened v → Up v 0 → (i : Input) → Given v i
+      → coordinatorStep g i (coordinatorAt h) ≡ some row → Done → Next t h w
   phase-next (never u) mid b o up i k e d = absurd (true≢false (mid .opened ∙ o))
   phase-next (initial true) mid b o up i k e d = absurd b
   phase-next (initial false) mid b o up i k e d = initial-next mid o i e d
@@ -195,6 +206,7 @@ module _ (t : ℕ) (v w : View) (row : Row Coordinator) where
   phase-next (decided x (resting r) l) mid b o up i k e d = unknown-next x r l mid i k e d
   phase-next (decided x down l) mid b o up i k e d = absurd (true≢false (sym up ∙ ap (λ (s : Site). s .up) (mid .log)))
 
-  pub coordinator-next : {h : Standing} → Inv t h v → Opened v → Up v 0 → (i : Input) → Given v i → coordinatorStep g i (v .transaction .coordinator) ≡ some row → Done → Next t h w
+  pub coordinator-next : {h : Standing} → Inv t h v → Opened v → Up v 0 → (i : Input) → Given v i
+      → coordinatorStep g i (v .transaction .coordinator) ≡ some row → Done → Next t h w
   coordinator-next {h} inv o up i k e d =
       phase-next h (inv .mid) (inv .whole) o up i k (subst (λ (c : Coordinator). coordinatorStep g i c ≡ some row) (inv .phase) e) d

@@ -58,7 +58,8 @@ pub from-same : (i : Bool) (o : Outcome) (p q : Pace) (l l′ : Log) (h0 : Stand
 from-same i o p q l l′ h0 grows f = record { keeps = f .keeps; new = λ c. ⊎-elim inl (λ k. inr (grows k)) (f .new c) }
 
 -- nothing was decided
-pub from-none : {i : Bool} {h h′ : Standing} (h0 : Standing) → ((o : Outcome) → T (hasDecided h o) → ⊥) → (T (hasDecided h′ commit) → T (has 2 (stableAt i h′)))
+pub from-none : {i : Bool} {h h′ : Standing} (h0 : Standing) → ((o : Outcome) → T (hasDecided h o) → ⊥)
+    → (T (hasDecided h′ commit) → T (has 2 (stableAt i h′)))
     → From i h0 h → From i h0 h′
 from-none h0 none new f = record { keeps = λ o k. absurd (none o (f .keeps o k)); new = λ c. inr (new c) }
 
@@ -121,7 +122,8 @@ module _ (t : ℕ) (v : View) where
       }
 
   -- decided: the outcome stays
-  rests : (o : Outcome) (b : Bool) (l l′ : Log) → T (logFits i o down (classOf l′)) → T (properLog i a (decided o down l′)) → (T (has 2 (kindsIn l)) → T (has 2 (kindsIn l′)))
+  rests : (o : Outcome) (b : Bool) (l l′ : Log) → T (logFits i o down (classOf l′)) → T (properLog i a (decided o down l′))
+      → (T (has 2 (kindsIn l)) → T (has 2 (kindsIn l′)))
       → Shift v (decided o (resting b) l) (decided o down l′)
   rests o b l l′ f p grows =
       record {
@@ -129,7 +131,8 @@ module _ (t : ℕ) (v : View) where
         from = λ h0. from-same i o (resting b) down l l′ h0 grows;
       }
 
-  waits : (o : Outcome) (w : ℕ) (l : Log) → T (logFits i o (waiting w) (classOf l)) → T (properLog i a (decided o down l)) → Shift v (decided o (waiting w) l) (decided o down l)
+  waits : (o : Outcome) (w : ℕ) (l : Log) → T (logFits i o (waiting w) (classOf l)) → T (properLog i a (decided o down l))
+      → Shift v (decided o (waiting w) l) (decided o down l)
   waits o w l f p =
       record {
         move =
@@ -147,10 +150,14 @@ module _ (t : ℕ) (v : View) where
 
   pub crash-next : (h : Standing) → Mid t h v → (k : ℕ) → Next t h (viewDown 0 k v)
   crash-next (never u) mid k =
-      lost {h′ = never false} mid k (record { move = record { never = refl; fit = tt; proper = tt; sets = tt; passing = λ n m. tt }; from = λ h0. from-none h0 (λ o b. b) (λ b. absurd b) }) (stopped-none (cohortOf v) t u k []) refl tt
+      lost {h′ =
+      never false} mid k (record { move = record { never = refl; fit = tt; proper = tt; sets = tt; passing = λ n m. tt }; from = λ h0. from-none h0 (λ o b. b) (λ b. absurd b) }) (stopped-none
+      (cohortOf v) t u k []) refl tt
   crash-next (initial false) mid k = lost mid k (from-initial false l0 tt (none-proper i a)) (stopped-none (cohortOf v) t true k []) refl tt
   crash-next (initial true) mid zero = lost mid 0 (from-initial true l0 tt (none-proper i a)) (stopped-lost (cohortOf v) t true [] (1 ∷ [])) refl tt
-  crash-next (initial true) mid (suc k) = lost mid (suc k) (from-initial true l1 (unfold sameOutcome in tt) (first-proper i a (mid .fit))) (stopped-kept (cohortOf v) t true k [] (1 ∷ []) 1 refl) refl tt
+  crash-next (initial true) mid (suc k) =
+      lost mid (suc k) (from-initial true l1 (unfold sameOutcome in tt) (first-proper i a (mid .fit)))
+      (stopped-kept (cohortOf v) t true k [] (1 ∷ []) 1 refl) refl tt
   crash-next (collecting w false) mid k = lost mid k (from-collecting w false) (stopped-none (cohortOf v) t true k (kindsIn (initLog i))) refl tt
   crash-next (collecting w true) mid zero = lost mid 0 (from-collecting w true) (stopped-lost (cohortOf v) t true (kindsIn (initLog i)) (2 ∷ [])) refl tt
   crash-next (collecting w true) mid (suc k) =
@@ -164,4 +171,6 @@ module _ (t : ℕ) (v : View) where
       lost mid (suc k) (rests o true l (closed l) (resting-down i o (closed l) false (closed-fits i o l (mid .fit))) (closed-proper i a o l (mid .fit) (may-close (cohortOf v) o l (mid .sets)) (mid .proper)) (closed-has l))
       (stopped-kept (cohortOf v) t true k (kindsIn l) (kindsIn (closed l)) (endRecord o) (closed-kinds i o l (mid .fit))) refl tt
   crash-next (decided o down l) mid k =
-      lost {h′ = decided o down l} mid k (record { move = record { never = refl; fit = mid .fit; proper = mid .proper; sets = tt; passing = λ n m. way-self v n (done o (not (resumed (classOf l)))) }; from = λ h0 f. f }) (stopped-none (cohortOf v) t false k (kindsIn l)) refl tt
+      lost {h′ =
+      decided o down l} mid k (record { move = record { never = refl; fit = mid .fit; proper = mid .proper; sets = tt; passing = λ n m. way-self v n (done o (not (resumed (classOf l)))) }; from = λ h0 f. f }) (stopped-none
+      (cohortOf v) t false k (kindsIn l)) refl tt

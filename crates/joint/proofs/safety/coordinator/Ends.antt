@@ -34,7 +34,8 @@ module _ (t : ℕ) (h0 : Standing) (v : View) where
   abbrev cohort : Cohort
   cohort = cohortOf v
 
-  aborts : (to w : ℕ) → Mid t (collecting w false) v → ((n : ℕ) → T (member (suc n) (cohort .members)) → T (not (member (suc n) to)) → T (sentIn v (suc n) voteNo))
+  aborts : (to w : ℕ) → Mid t (collecting w false) v
+      → ((n : ℕ) → T (member (suc n) (cohort .members)) → T (not (member (suc n) to)) → T (sentIn v (suc n) voteNo))
       → Shift v (collecting w false) (decided abort (waiting (awaited cohort to)) (initLog (writesInit cohort)))
   unfolding both sameOutcome
   aborts to w mid said =
@@ -84,7 +85,8 @@ module _ (t : ℕ) (h0 : Standing) where
   end-appended g commit ks = refl
   end-appended g abort ks = refl
 
-  pub end-run : (v : View) (o : Outcome) (w : ℕ) (l : Log) → T (empty w) → T (writesInit (cohortOf v) || sameOutcome o commit) → SetsFit (cohortOf v) (decided o (resting true) l)
+  pub end-run : (v : View) (o : Outcome) (w : ℕ) (l : Log) → T (empty w) → T (writesInit (cohortOf v) || sameOutcome o commit)
+      → SetsFit (cohortOf v) (decided o (resting true) l)
       → Node t h0 v (decided o (waiting w) l) → Runs t h0 v (append (endRecord o) [] ∷ []) (decided o (resting true) l)
   end-run v o w l e i s x =
       append-run t h0 [] (decided o (resting true) l) (endRecord o) [] x (ends v o w l (x .mid) e i s) (end-appended (cohortOf v) o (kindsIn l)) (λ y. y)
@@ -127,7 +129,8 @@ module _ (t : ℕ) (h0 : Standing) where
 -- ---- an ack of p is heard
 
 module _ (t : ℕ) (h0 : Standing) where
-  pub hears : (v : View) (o : Outcome) (p w : ℕ) (l : Log) → Mid t (decided o (waiting w) l) v → T (sentIn v p (ack o)) → Shift v (decided o (waiting w) l) (decided o (waiting (without p w)) l)
+  pub hears : (v : View) (o : Outcome) (p w : ℕ) (l : Log) → Mid t (decided o (waiting w) l) v → T (sentIn v p (ack o))
+      → Shift v (decided o (waiting w) l) (decided o (waiting (without p w)) l)
   unfolding without
   hears v o p w l mid a =
       record {
@@ -149,7 +152,8 @@ module _ (t : ℕ) (h0 : Standing) where
       → Runs t h0 v (send (tell o) (suc n) ∷ []) (decided o p l)
   tell-run v o p l n m x = send-run t h0 [] (decided o p l) x false n m (λ k. absurd k) (tell o) (or-left (sameOutcome o o) _ (refl-outcome o)) (λ y. y)
 
-  pub tell-all-run : (v : View) (o : Outcome) (p : Pace) (l : Log) (to : ℕ) → ((q : ℕ) → T (member q to) → T (member q (cohortOf v .members))) → Node t h0 v (decided o p l)
+  pub tell-all-run : (v : View) (o : Outcome) (p : Pace) (l : Log) (to : ℕ) → ((q : ℕ) → T (member q to) → T (member q (cohortOf v .members)))
+      → Node t h0 v (decided o p l)
       → Runs t h0 v (tellAll (cohortOf v) o to) (decided o p l)
   unfolding tellAll
   tell-all-run v o p l to f x =
@@ -157,7 +161,8 @@ module _ (t : ℕ) (h0 : Standing) where
       (sends-run t h0 [] (decided o p l) (tell o) (inOrder (cohortOf v) o to) v (told t h0 (cohortOf v) o p l to f) x (λ w e y. y))
 
   -- a coordinator in Unknown says what silence means
-  pub reply-run : (v : View) (o : Outcome) (b : Bool) (l : Log) (n : ℕ) → T (member (suc n) (cohortOf v .members)) → T (sentIn v (suc n) voteYes) → Node t h0 v (decided o (resting b) l)
+  pub reply-run : (v : View) (o : Outcome) (b : Bool) (l : Log) (n : ℕ) → T (member (suc n) (cohortOf v .members)) → T (sentIn v (suc n) voteYes)
+      → Node t h0 v (decided o (resting b) l)
       → Runs t h0 v (send (tell (silence (presumptionOf (cohortOf v) (suc n)))) (suc n) ∷ []) (decided o (resting b) l)
   reply-run v o b l n m y x =
       let s = silence (presumptionOf (cohortOf v) (suc n)) in

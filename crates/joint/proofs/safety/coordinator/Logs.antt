@@ -124,14 +124,20 @@ module _ (i : Bool) (o : Outcome) (l : Log) where
   waiting-down w = mp (logFits i o (waiting w) (classOf l)) (logFits i o down (classOf l)) (law 0 w i o l)
 
   pub resting-down : (b : Bool) → Fits (resting b) → Fits down
-  resting-down true f = mp (logFits i o (resting true) (classOf l) || logFits i o (resting false) (classOf l)) (logFits i o down (classOf l)) (law 1 0 i o l) (or-left (logFits i o (resting true) (classOf l)) (logFits i o (resting false) (classOf l)) f)
-  resting-down false f = mp (logFits i o (resting true) (classOf l) || logFits i o (resting false) (classOf l)) (logFits i o down (classOf l)) (law 1 0 i o l) (or-right (logFits i o (resting true) (classOf l)) (logFits i o (resting false) (classOf l)) f)
+  resting-down true f =
+      mp (logFits i o (resting true) (classOf l) || logFits i o (resting false) (classOf l)) (logFits i o down (classOf l)) (law 1 0 i o l)
+      (or-left (logFits i o (resting true) (classOf l)) (logFits i o (resting false) (classOf l)) f)
+  resting-down false f =
+      mp (logFits i o (resting true) (classOf l) || logFits i o (resting false) (classOf l)) (logFits i o down (classOf l)) (law 1 0 i o l)
+      (or-right (logFits i o (resting true) (classOf l)) (logFits i o (resting false) (classOf l)) f)
 
   pub closed-fits : Fits (resting true) → T (logFits i o (resting false) (classOf (closed l)))
   closed-fits = mp (logFits i o (resting true) (classOf l)) (logFits i o (resting false) (classOf (closed l))) (law 2 0 i o l)
 
   pub closed-kinds : Fits (resting true) → kindsIn (closed l) ≡ kindsIn l ++ (endRecord o ∷ [])
-  closed-kinds f = same-list _ _ (true-of _ (mp (logFits i o (resting true) (classOf l)) (same (kindsIn (closed l)) (kindsIn l ++ (endRecord o ∷ []))) (law 3 0 i o l) f))
+  closed-kinds f =
+      same-list _ _
+      (true-of _ (mp (logFits i o (resting true) (classOf l)) (same (kindsIn (closed l)) (kindsIn l ++ (endRecord o ∷ []))) (law 3 0 i o l) f))
 
   pub older-fits : Fits (resting false) → T (logFits i o (resting false) (classOf (older l)))
   older-fits = mp (logFits i o (resting false) (classOf l)) (logFits i o (resting false) (classOf (older l))) (law 4 0 i o l)
@@ -140,28 +146,38 @@ module _ (i : Bool) (o : Outcome) (l : Log) where
   older-kinds = same-list _ _ (true-of (same (kindsIn (older l)) (drop 1 (kindsIn l))) (law 5 0 i o l))
 
   pub resumed-waiting : (w : ℕ) → T (resumed (classOf l)) → Fits down → Fits (waiting w)
-  resumed-waiting w r f = mp (logFits i o down (classOf l)) (logFits i o (waiting w) (classOf l)) (mp (resumed (classOf l)) (logFits i o down (classOf l) ⇒ logFits i o (waiting w) (classOf l)) (law 6 w i o l) r) f
+  resumed-waiting w r f =
+      mp (logFits i o down (classOf l)) (logFits i o (waiting w) (classOf l))
+      (mp (resumed (classOf l)) (logFits i o down (classOf l) ⇒ logFits i o (waiting w) (classOf l)) (law 6 w i o l) r) f
 
   pub down-resting : Fits down → Fits (resting false)
   down-resting = mp (logFits i o down (classOf l)) (logFits i o (resting false) (classOf l)) (law 7 0 i o l)
 
   pub end-written : (w : ℕ) → T (i || sameOutcome o commit) → Fits (waiting w) → Fits (resting true)
-  end-written w r f = mp (logFits i o (waiting w) (classOf l)) (logFits i o (resting true) (classOf l)) (mp (i || sameOutcome o commit) (logFits i o (waiting w) (classOf l) ⇒ logFits i o (resting true) (classOf l)) (law 8 w i o l) r) f
+  end-written w r f =
+      mp (logFits i o (waiting w) (classOf l)) (logFits i o (resting true) (classOf l))
+      (mp (i || sameOutcome o commit) (logFits i o (waiting w) (classOf l) ⇒ logFits i o (resting true) (classOf l)) (law 8 w i o l) r) f
 
   pub end-unwritten : (w : ℕ) → Fits (waiting w) → Fits (resting false)
   end-unwritten w = mp (logFits i o (waiting w) (classOf l)) (logFits i o (resting false) (classOf l)) (law 9 w i o l)
 
   pub commit-record : T (has 2 (kindsIn l)) → Fits down → T (sameOutcome o commit)
-  commit-record r f = mp (logFits i o down (classOf l)) (sameOutcome o commit) (mp (has 2 (kindsIn l)) (logFits i o down (classOf l) ⇒ sameOutcome o commit) (law 10 0 i o l) r) f
+  commit-record r f =
+      mp (logFits i o down (classOf l)) (sameOutcome o commit)
+      (mp (has 2 (kindsIn l)) (logFits i o down (classOf l) ⇒ sameOutcome o commit) (law 10 0 i o l) r) f
 
   pub abort-unwritten : (w : ℕ) → Fits (waiting w) → T (not (resumed (classOf l)) ⇒ (sameOutcome o abort && not i))
   abort-unwritten w = mp (logFits i o (waiting w) (classOf l)) (not (resumed (classOf l)) ⇒ (sameOutcome o abort && not i)) (law 11 w i o l)
 
   pub resumes-commit : Fits down → (has 2 (kindsIn l) && not (has 3 (kindsIn l))) ≡ (sameOutcome o commit && resumed (classOf l))
-  resumes-commit f = alike-eq _ _ (mp (logFits i o down (classOf l)) (alike (has 2 (kindsIn l) && not (has 3 (kindsIn l))) (sameOutcome o commit && resumed (classOf l))) (law 12 0 i o l) f)
+  resumes-commit f =
+      alike-eq _ _
+      (mp (logFits i o down (classOf l)) (alike (has 2 (kindsIn l) && not (has 3 (kindsIn l))) (sameOutcome o commit && resumed (classOf l))) (law 12 0 i o l) f)
 
   pub resumes-abort : Fits down → (has 1 (kindsIn l) && not (has 2 (kindsIn l)) && not (has 4 (kindsIn l))) ≡ (sameOutcome o abort && resumed (classOf l))
-  resumes-abort f = alike-eq _ _ (mp (logFits i o down (classOf l)) (alike (has 1 (kindsIn l) && not (has 2 (kindsIn l)) && not (has 4 (kindsIn l))) (sameOutcome o abort && resumed (classOf l))) (law 13 0 i o l) f)
+  resumes-abort f =
+      alike-eq _ _
+      (mp (logFits i o down (classOf l)) (alike (has 1 (kindsIn l) && not (has 2 (kindsIn l)) && not (has 4 (kindsIn l))) (sameOutcome o abort && resumed (classOf l))) (law 13 0 i o l) f)
 
   pub waiting-unended : (w : ℕ) → Fits (waiting w) → T (unended (classOf l))
   waiting-unended w f =
@@ -177,7 +193,8 @@ pub closed-has : (l : Log) → T (has 2 (kindsIn l)) → T (has 2 (kindsIn (clos
 closed-has l = mp (has 2 (kindsIn l)) (has 2 (kindsIn (closed l))) (law 14 0 true commit l)
 
 module _ (i a : Bool) where
-  pub closed-proper : (o : Outcome) (l : Log) → T (logFits i o (resting true) (classOf l)) → T (sameOutcome o abort || a) → T (properKinds i a (kindsIn l)) → T (properKinds i a (kindsIn (closed l)))
+  pub closed-proper : (o : Outcome) (l : Log) → T (logFits i o (resting true) (classOf l)) → T (sameOutcome o abort || a)
+      → T (properKinds i a (kindsIn l)) → T (properKinds i a (kindsIn (closed l)))
   closed-proper o l f u p =
       mp (properKinds i a (kindsIn l)) (properKinds i a (kindsIn (closed l)))
       (mp (sameOutcome o abort || a) (properKinds i a (kindsIn l) ⇒ properKinds i a (kindsIn (closed l)))
@@ -214,7 +231,9 @@ beginning-tests w = tt
 
 module _ (i : Bool) where
   beginning : (k w : ℕ) (a : Bool) → T (nth k (beginnings w i a))
-  beginning k w a = look k (beginnings w i a) (at-bool (λ a. allOf (beginnings w i a)) (at-bool (λ i. allBool (λ a. allOf (beginnings w i a))) (beginning-tests w) i) a)
+  beginning k w a =
+      look k (beginnings w i a)
+      (at-bool (λ a. allOf (beginnings w i a)) (at-bool (λ i. allBool (λ a. allOf (beginnings w i a))) (beginning-tests w) i) a)
 
   pub abort-down : T (logFits i abort down (classOf (initLog i)))
   abort-down = beginning 0 0 true

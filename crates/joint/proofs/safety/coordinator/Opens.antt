@@ -21,7 +21,8 @@ use Rattle.joint.proofs.safety.coordinator.Wakes.{After}
 
 -- ---- a transaction that is not opened stands as never
 
-by-never {ℓ} : {t : ℕ} {v : View} (P : Standing → Type ℓ) → empty (cohortOf v .members) ≡ true → ((u : Bool) → Inv t (never u) v → P (never u)) → (h : Standing) → Inv t h v → P h
+by-never {ℓ} : {t : ℕ} {v : View} (P : Standing → Type ℓ) → empty (cohortOf v .members) ≡ true → ((u : Bool) → Inv t (never u) v → P (never u))
+    → (h : Standing) → Inv t h v → P h
 by-never P e f (never u) inv = f u inv
 by-never P e f (initial b) inv = absurd (true≢false (sym (inv .mid .opened ∙ e)))
 by-never P e f (collecting w b) inv = absurd (true≢false (sym (inv .mid .opened ∙ e)))
@@ -66,12 +67,14 @@ module _ (t : ℕ) (v : View) (g : Cohort) where
   unfolding viewSettle openedAs
   old-stranger n x = record { stable = x .stable; unforced = x .unforced; sent = x .sent; entered = x .entered }
 
-  new-place : (n : ℕ) (b : Bool) → member (suc n) (g .members) ≡ b → (member (suc n) (g .members) ≡ true → Up v (suc n)) → Stranger n v → Place b t fresh n opened
+  new-place : (n : ℕ) (b : Bool) → member (suc n) (g .members) ≡ b → (member (suc n) (g .members) ≡ true → Up v (suc n)) → Stranger n v
+      → Place b t fresh n opened
   new-place n true e up x = new-member n e (up e) x
   new-place n false e up x = old-stranger n x
 
   pub open-after : t < 8 → g .members < 256 → part (g .presumeCommit) (g .members) ≡ true → empty (g .members) ≡ false
-      → empty (cohortOf v .members) ≡ true → Up v 0 → ((n : ℕ) → member (suc n) (g .members) ≡ true → Up v (suc n)) → (h : Standing) → Inv t h v → After t h opened
+      → empty (cohortOf v .members) ≡ true → Up v 0 → ((n : ℕ) → member (suc n) (g .members) ≡ true → Up v (suc n)) → (h : Standing) → Inv t h v
+      → After t h opened
   unfolding viewSettle openedAs
   open-after small byte parts some none up ups =
       by-never (λ h. After t h opened) none
@@ -110,7 +113,9 @@ start-after t v none =
       standing = never true;
       inv =
           record {
-            mid = stand (inv .mid) (record { never = refl; fit = tt; proper = tt; sets = tt; passing = λ n m. tt }) (λ o k. k) started (unfold started in refl);
+            mid =
+                stand (inv .mid) (record { never = refl; fit = tt; proper = tt; sets = tt; passing = λ n m. tt }) (λ o k. k) started
+                (unfold started in refl);
             phase = inv .phase;
             whole = tt;
           };

@@ -70,7 +70,9 @@ module _ {c : Presumption} {m : Stage} {s : Status} {sent : Message → Bool} {e
       test = mp (passes c y n a m m′) _ (pass-test c m m′ y n a) t
 
       here : T (passKeeps c y n a m m′ s p)
-      here = at-bool (passKeeps c y n a m m′ s) (at-status (λ s. allBool (passKeeps c y n a m m′ s)) (and-right (needsYes m′ ⇒ (needsYes m || y)) _ test) s) p
+      here =
+          at-bool (passKeeps c y n a m m′ s)
+          (at-status (λ s. allBool (passKeeps c y n a m m′ s)) (and-right (needsYes m′ ⇒ (needsYes m || y)) _ test) s) p
 
       kept : T (keepsAll c m m′ s p)
       kept =

@@ -31,7 +31,8 @@ use Rattle.joint.proofs.safety.coordinator.Ways.{refl-outcome, way-done
 
 module _ (t : ℕ) (h0 : Standing) where
   -- the outcome is resumed: acks are awaited, or none is owed
-  resumes-waiting : (v : View) (o : Outcome) (l : Log) → Mid t (decided o down l) v → T (resumed (classOf l)) → Shift v (decided o down l) (decided o (waiting (owing (cohortOf v) o)) l)
+  resumes-waiting : (v : View) (o : Outcome) (l : Log) → Mid t (decided o down l) v → T (resumed (classOf l))
+      → Shift v (decided o down l) (decided o (waiting (owing (cohortOf v) o)) l)
   unfolding owing
   resumes-waiting v o l mid r =
       record {
@@ -46,7 +47,8 @@ module _ (t : ℕ) (h0 : Standing) where
         from = λ x. from-same (writesInit (cohortOf v)) o down (waiting (owing (cohortOf v) o)) l l x (λ k. k);
       }
 
-  resumes-resting : (v : View) (o : Outcome) (l : Log) → Mid t (decided o down l) v → T (empty (owing (cohortOf v) o)) → Shift v (decided o down l) (decided o (resting false) l)
+  resumes-resting : (v : View) (o : Outcome) (l : Log) → Mid t (decided o down l) v → T (empty (owing (cohortOf v) o))
+      → Shift v (decided o down l) (decided o (resting false) l)
   resumes-resting v o l mid e =
       record {
         move = record {
@@ -61,7 +63,8 @@ module _ (t : ℕ) (h0 : Standing) where
         from = λ x. from-same (writesInit (cohortOf v)) o down (resting false) l l x (λ k. k);
       }
 
-  forgets : (v : View) (o : Outcome) (l : Log) → Mid t (decided o down l) v → resumed (classOf l) ≡ false → Shift v (decided o down l) (decided o (resting false) l)
+  forgets : (v : View) (o : Outcome) (l : Log) → Mid t (decided o down l) v → resumed (classOf l) ≡ false
+      → Shift v (decided o down l) (decided o (resting false) l)
   forgets v o l mid e =
       record {
         move =
@@ -90,7 +93,8 @@ module _ (t : ℕ) (h0 : Standing) where
 
   -- the effects happen while the site is down
   start-next : {v w : View} (es : List Effect) (o : Outcome) (l : Log) (h′ : Standing) (c : Coordinator) → Runs t h0 v es (decided o down l)
-      → ((u : View) → cohortOf u ≡ cohortOf v → Mid t (decided o down l) u → Shift u (decided o down l) h′) → ((u : View) → started (standsAs t u (decided o down l)) ≡ standsAs t u h′)
+      → ((u : View) → cohortOf u ≡ cohortOf v → Mid t (decided o down l) u → Shift u (decided o down l) h′)
+      → ((u : View) → started (standsAs t u (decided o down l)) ≡ standsAs t u h′)
       → c ≡ coordinatorAt h′ → T (between h′) → Carried t 0 es (viewStart 0 (withCoordinator c)) v w → Next t h0 w
   unfolding viewStart viewAt viewSettle withCoordinator
   start-next {v} es o l h′ c x k q p b whole =
@@ -109,7 +113,8 @@ module _ (t : ℕ) (h0 : Standing) where
   -- ---- the rows of restart
 
   -- the outcome is entered, and told or not
-  resume-run : {v : View} (o : Outcome) (l : Log) (c : Bool) → Node t h0 v (decided o down l) → Runs t h0 v (enter o ∷ given c (tellAll (cohortOf v) o (cohortOf v .members))) (decided o down l)
+  resume-run : {v : View} (o : Outcome) (l : Log) (c : Bool) → Node t h0 v (decided o down l)
+      → Runs t h0 v (enter o ∷ given c (tellAll (cohortOf v) o (cohortOf v .members))) (decided o down l)
   unfolding given
   resume-run {v} o l true x =
       subst (λ (es : List Effect). Runs t h0 v (enter o ∷ es) (decided o down l)) (append-nil (tellAll (cohortOf v) o (cohortOf v .members)))
@@ -128,7 +133,8 @@ module _ (t : ℕ) (h0 : Standing) where
     resume-stands false u = refl
 
     resume-next : {w : View} (c : Bool) → Node t h0 v (decided o down l)
-        → Carried t 0 (enter o ∷ given c (tellAll (cohortOf v) o (cohortOf v .members))) (viewStart 0 (withCoordinator (untilAcked o (owing (cohortOf v) o)))) v w → Next t h0 w
+        → Carried t 0 (enter o ∷ given c (tellAll (cohortOf v) o (cohortOf v .members))) (viewStart 0 (withCoordinator (untilAcked o (owing (cohortOf v) o)))) v w
+        → Next t h0 w
     resume-next c x d =
         start-next (enter o ∷ given c (tellAll (cohortOf v) o (cohortOf v .members))) o l (untilAckedAs t h0 b o (owing (cohortOf v) o) l) (untilAcked o (owing (cohortOf v) o)) (resume-run o l c x)
         (resume-shift b refl) (resume-stands b) (until-phase t h0 b o (owing (cohortOf v) o) l refl) (until-between t h0 b o (owing (cohortOf v) o) l refl) d
@@ -146,10 +152,16 @@ module _ (t : ℕ) (v w : View) where
   restart-next : (o : Outcome) (l : Log) → Mid t (decided o down l) v → (r : Bool) → resumed (classOf l) ≡ r
       → Woken (restartFrom (cohortOf v) (sameOutcome o commit && r) (sameOutcome o abort && r)) → Next t (decided o down l) w
   unfolding restartFrom sameOutcome
-  restart-next commit l mid true q d = resume-next t (decided commit down l) v commit l (of-true q) (not (empty (owing (cohortOf v) commit))) (record { mid = mid; from = λ x f. f }) d
-  restart-next abort l mid true q d = resume-next t (decided abort down l) v abort l (of-true q) true (record { mid = mid; from = λ x f. f }) (unfold given in d)
-  restart-next commit l mid false q d = start-next t (decided commit down l) [] commit l (decided commit (resting false) l) Coordinator.unknown (record { mid = mid; from = λ x f. f }) (λ u e m. forgets t (decided commit down l) u commit l m q) (λ u. unfold started in refl) refl tt d
-  restart-next abort l mid false q d = start-next t (decided abort down l) [] abort l (decided abort (resting false) l) Coordinator.unknown (record { mid = mid; from = λ x f. f }) (λ u e m. forgets t (decided abort down l) u abort l m q) (λ u. unfold started in refl) refl tt d
+  restart-next commit l mid true q d =
+      resume-next t (decided commit down l) v commit l (of-true q) (not (empty (owing (cohortOf v) commit))) (record { mid = mid; from = λ x f. f }) d
+  restart-next abort l mid true q d =
+      resume-next t (decided abort down l) v abort l (of-true q) true (record { mid = mid; from = λ x f. f }) (unfold given in d)
+  restart-next commit l mid false q d =
+      start-next t (decided commit down l) [] commit l (decided commit (resting false) l) Coordinator.unknown (record { mid = mid; from = λ x f. f })
+      (λ u e m. forgets t (decided commit down l) u commit l m q) (λ u. unfold started in refl) refl tt d
+  restart-next abort l mid false q d =
+      start-next t (decided abort down l) [] abort l (decided abort (resting false) l) Coordinator.unknown (record { mid = mid; from = λ x f. f })
+      (λ u e m. forgets t (decided abort down l) u abort l m q) (λ u. unfold started in refl) refl tt d
 
   kinds-asked : (o : Outcome) (l : Log) → Mid t (decided o down l) v → (k : ℕ) → holds t k (v .site 0 .stable) ≡ has k (kindsIn l)
   kinds-asked o l mid k = ap (λ (s : Site). holds t k (s .stable)) (mid .log) ∙ holds-kinds (cohortOf v) t 0 k (kindsIn l)
@@ -160,11 +172,13 @@ module _ (t : ℕ) (v w : View) where
   restart-row o l mid =
       rw (kinds-asked o l mid 1, kinds-asked o l mid 2, kinds-asked o l mid 3, kinds-asked o l mid 4, resumes-commit (writesInit (cohortOf v)) o l (mid .fit), resumes-abort (writesInit (cohortOf v)) o l (mid .fit)) refl
 
-  pub resume-after : (h : Standing) → Inv t h v → Opened v → v .site 0 .up ≡ false → {row : Row Coordinator} → coordinatorRestart (cohortOf v) (λ k. holds t k (v .site 0 .stable)) ≡ row
+  pub resume-after : (h : Standing) → Inv t h v → Opened v → v .site 0 .up ≡ false → {row : Row Coordinator}
+      → coordinatorRestart (cohortOf v) (λ k. holds t k (v .site 0 .stable)) ≡ row
       → Woken row → After t h w
   resume-after (never u) inv o up e d = absurd (true≢false (inv .mid .opened ∙ o))
   resume-after (initial b) inv o up e d = absurd (true≢false (sym (ap (λ (s : Site). s .up) (inv .mid .log)) ∙ up))
   resume-after (collecting c b) inv o up e d = absurd (true≢false (sym (ap (λ (s : Site). s .up) (inv .mid .log)) ∙ up))
   resume-after (decided x (waiting c) l) inv o up e d = absurd (true≢false (sym (ap (λ (s : Site). s .up) (inv .mid .log)) ∙ up))
   resume-after (decided x (resting b) l) inv o up e d = absurd (true≢false (sym (ap (λ (s : Site). s .up) (inv .mid .log)) ∙ up))
-  resume-after (decided x down l) inv o up e d = after (restart-next x l (inv .mid) (resumed (classOf l)) refl (subst Woken (sym e ∙ restart-row x l (inv .mid)) d))
+  resume-after (decided x down l) inv o up e d =
+      after (restart-next x l (inv .mid) (resumed (classOf l)) refl (subst Woken (sym e ∙ restart-row x l (inv .mid)) d))

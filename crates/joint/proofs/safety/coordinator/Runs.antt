@@ -77,7 +77,8 @@ module _ (t : ℕ) (h0 : Standing) where
   pub node-stay : {v : View} {h h′ : Standing} → Node t h0 v h → Shift v h h′ → standsAs t v h ≡ standsAs t v h′ → Node t h0 v h′
   node-stay x s e = record { mid = stay (x .mid) (s .move) (shift-keeps s) e; from = λ y f. s .from y (x .from y f) }
 
-  node-stand : {v : View} {h h′ : Standing} → Node t h0 v h → Shift v h h′ → (k : Site → Site) → k (standsAs t v h) ≡ standsAs t v h′ → Node t h0 (viewAt 0 k v) h′
+  node-stand : {v : View} {h h′ : Standing} → Node t h0 v h → Shift v h h′ → (k : Site → Site) → k (standsAs t v h) ≡ standsAs t v h′
+      → Node t h0 (viewAt 0 k v) h′
   unfolding viewAt
   node-stand x s k e = record { mid = stand (x .mid) (s .move) (shift-keeps s) k e; from = λ y f. s .from y (x .from y f) }
 
@@ -87,7 +88,8 @@ module _ (t : ℕ) (h0 : Standing) where
   unfolding viewPerform
   append-run {h} es h′ k fs x s e r = ((h, x), r (node-stand x s (appended (record { kind = k; transaction = t; fields = fs })) e))
 
-  pub force-run : {v : View} {h h1 : Standing} (es : List Effect) (h′ : Standing) → Node t h0 v h → Shift v h h1 → forced (standsAs t v h) ≡ standsAs t v h1
+  pub force-run : {v : View} {h h1 : Standing} (es : List Effect) (h′ : Standing) → Node t h0 v h → Shift v h h1
+      → forced (standsAs t v h) ≡ standsAs t v h1
       → (Node t h0 (viewPerform 0 t force v) h1 → Runs (viewPerform 0 t force v) es h′) → Runs v (force ∷ es) h′
   unfolding viewPerform
   force-run {h} es h′ x s e r = ((h, x), r (node-stand x s forced e))
@@ -99,13 +101,15 @@ module _ (t : ℕ) (h0 : Standing) where
   unfolding viewPerform
   enter-run {h} es h′ o x d k = ((h, x), k (record { mid = enter-mid (x .mid) o d; from = x .from }))
 
-  pub send-run : {v : View} {h : Standing} (es : List Effect) (h′ : Standing) → Node t h0 v h → (y : Bool) (n : ℕ) → T (member (suc n) (cohortOf v .members))
+  pub send-run : {v : View} {h : Standing} (es : List Effect) (h′ : Standing) → Node t h0 v h → (y : Bool) (n : ℕ)
+      → T (member (suc n) (cohortOf v .members))
       → (T y → T (sentIn v (suc n) voteYes)) → (g : Message) → T (maySend (presumptionOf (cohortOf v) (suc n)) (stageOf h (suc n)) y g)
       → (Node t h0 (viewPerform 0 t (send g (suc n)) v) h → Runs (viewPerform 0 t (send g (suc n)) v) es h′) → Runs v (send g (suc n) ∷ es) h′
   unfolding viewPerform withSent
   send-run {h} es h′ x y n m a g s k = ((h, x), k (record { mid = send-mid (x .mid) y n m a g s; from = x .from }))
 
-  pub sends-run : {h : Standing} (es : List Effect) (h′ : Standing) (g : Message) (ps : List ℕ) (v : View) → Each (Addressee (cohortOf v) h g) ps → Node t h0 v h
+  pub sends-run : {h : Standing} (es : List Effect) (h′ : Standing) (g : Message) (ps : List ℕ) (v : View) → Each (Addressee (cohortOf v) h g) ps
+      → Node t h0 v h
       → ((w : View) → cohortOf w ≡ cohortOf v → Node t h0 w h → Runs w es h′) → Runs v (map (send g) ps ++ es) h′
   unfolding viewPerform withSent
   sends-run es h′ g [] v a x k = k v refl x

@@ -206,7 +206,9 @@ module _ {t : ℕ} {v : View} {h : Standing} (mid : Mid t h v) where
     toHim k = eqb (suc k) (suc n)
 
     abbrev Sent : ℕ → Bool → Status → Type 0
-    Sent k b s = Fine (presumptionOf (cohortOf v) (suc k)) (stageOf h (suc k)) s (λ j. (b && eqb (messageKind j) (messageKind g)) || sentIn v (suc k) j) (v .entered (suc k)) (v .voted (suc k))
+    Sent k b s =
+        Fine (presumptionOf (cohortOf v) (suc k)) (stageOf h (suc k)) s (λ j. (b && eqb (messageKind j) (messageKind g)) || sentIn v (suc k) j)
+        (v .entered (suc k)) (v .voted (suc k))
 
     fine-sent : (k : ℕ) (b : Bool) → toHim k ≡ b → (x : Member t (stageOf h (suc k)) k v) → Sent k b (x .status)
     fine-sent k false e x = x .fine
@@ -240,7 +242,9 @@ module _ {t : ℕ} {v : View} {h : Standing} (mid : Mid t h v) where
       where
         go : (b : Bool) → toHim k ≡ b → toHim k ≡ false
         go false e = e
-        go true e = absurd (both-ways (member (suc n) (cohortOf v .members)) known (subst (λ (z : ℕ). T (not (member z (cohortOf v .members)))) (eqb-true (suc k) (suc n) e) u))
+        go true e =
+            absurd
+            (both-ways (member (suc n) (cohortOf v .members)) known (subst (λ (z : ℕ). T (not (member z (cohortOf v .members)))) (eqb-true (suc k) (suc n) e) u))
 
     stranger-sent : (k : ℕ) → T (not (member (suc k) (cohortOf v .members))) → Stranger k v → Stranger k (viewPerform 0 t (send g (suc n)) v)
     unfolding viewPerform withSent

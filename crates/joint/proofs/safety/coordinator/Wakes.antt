@@ -53,7 +53,8 @@ pub record Forced (t : ℕ) (h : Standing) (w : View) : Type 0 where
 
 module _ (t : ℕ) (v : View) where
   -- with a change of the log alone
-  stood : {h h′ : Standing} → Inv t h v → Move v h h′ → (k : Site → Site) → k (standsAs t v h) ≡ standsAs t v h′ → coordinatorAt h ≡ coordinatorAt h′ → T (between h′)
+  stood : {h h′ : Standing} → Inv t h v → Move v h h′ → (k : Site → Site) → k (standsAs t v h) ≡ standsAs t v h′ → coordinatorAt h ≡ coordinatorAt h′
+      → T (between h′)
       → ((o : Outcome) → hasDecided h′ o ≡ hasDecided h o) → Forced t h (viewAt 0 k v)
   unfolding viewAt
   stood {h} {h′} inv x k e p b same =
@@ -82,7 +83,8 @@ module _ (t : ℕ) (v : View) where
   force-next (initial true) inv = absurd (inv .whole)
   force-next (initial false) inv = stood inv (same-move (inv .mid)) forced (forced-same true []) refl tt (λ r. refl)
   force-next (collecting w true) inv = absurd (inv .whole)
-  force-next (collecting w false) inv = stood inv (same-move (inv .mid)) forced (forced-same true (kindsIn (initLog (writesInit (cohortOf v))))) refl (inv .whole) (λ r. refl)
+  force-next (collecting w false) inv =
+      stood inv (same-move (inv .mid)) forced (forced-same true (kindsIn (initLog (writesInit (cohortOf v))))) refl (inv .whole) (λ r. refl)
   force-next (decided o (waiting w) l) inv = stood inv (same-move (inv .mid)) forced (forced-same true (kindsIn l)) refl (inv .whole) (λ r. refl)
   force-next (decided o (resting false) l) inv = stood inv (same-move (inv .mid)) forced (forced-same true (kindsIn l)) refl tt (λ r. refl)
   force-next (decided o (resting true) l) inv =
@@ -98,7 +100,8 @@ module _ (g : Cohort) (t : ℕ) where
   2-closes = rw (owing-minus g) refl
 
   -- it has no record that closes it, if a commit awaits acks
-  not-closed : (l : Log) → T (unended (classOf l)) → (T (has 2 (kindsIn l)) → T (awaitsCommit g)) → newest closes (map (entry g t 0) (kindsIn l)) ≡ true → ⊥
+  not-closed : (l : Log) → T (unended (classOf l)) → (T (has 2 (kindsIn l)) → T (awaitsCommit g))
+      → newest closes (map (entry g t 0) (kindsIn l)) ≡ true → ⊥
   unfolding newest has any
   not-closed l0 o a e = true≢false (sym e)
   not-closed l1 o a e = true≢false (sym (unfold closes any in e))

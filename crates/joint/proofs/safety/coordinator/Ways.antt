@@ -71,7 +71,9 @@ module _ (v : View) (n : ℕ) where
   -- a crash: with record 1 the abort is resumed (r), without it silence means abort
   pub way-lost : (w r : Bool) → (T (writesInit (cohortOf v)) → T r) → Way (asking w) (done abort (not r))
   way-lost w true f = tt
-  way-lost w false f = or-left (sameOutcome (silence own) abort) (sentIn v (suc n) voteNo) (or-first (sameOutcome (silence own) abort) (writesInit (cohortOf v)) (begun (cohortOf v) (suc n)) f)
+  way-lost w false f =
+      or-left (sameOutcome (silence own) abort) (sentIn v (suc n) voteNo)
+      (or-first (sameOutcome (silence own) abort) (writesInit (cohortOf v)) (begun (cohortOf v) (suc n)) f)
 
   -- ---- once it has decided o
 
@@ -118,4 +120,6 @@ module _ (v : View) (n : ℕ) where
   pub way-down : (o : Outcome) (u r : Bool) → (T (not r) → T (sameOutcome o abort && not (writesInit (cohortOf v)))) → Way (done o u) (done o (not r))
   way-down o u true f = way-open o u
   way-down commit u false f = absurd (unfold sameOutcome in f tt)
-  way-down abort u false f = way-silent abort u true (or-first (sameOutcome (silence own) abort) (writesInit (cohortOf v)) (begun (cohortOf v) (suc n)) (λ k. both-ways (writesInit (cohortOf v)) k (unfold sameOutcome in f tt)))
+  way-down abort u false f =
+      way-silent abort u true
+      (or-first (sameOutcome (silence own) abort) (writesInit (cohortOf v)) (begun (cohortOf v) (suc n)) (λ k. both-ways (writesInit (cohortOf v)) k (unfold sameOutcome in f tt)))

@@ -238,7 +238,8 @@ take-proper g p (suc m) [] h = tt
 take-proper g p (suc m) (e ∷ es) h = (h .0, take-proper g p m es (h .1))
 
 module _ (t p : ℕ) (v : View) where
-  reach-effect : (e : Effect) {y : Part} {w : View} → Proper (v .transaction .cohort) p e → Reached t p v y w → Reached t p v (effect e y) (viewPerform p t e w)
+  reach-effect : (e : Effect) {y : Part} {w : View} → Proper (v .transaction .cohort) p e → Reached t p v y w
+      → Reached t p v (effect e y) (viewPerform p t e w)
   unfolding viewPerform
   reach-effect (append k fs) {y} {w} h r =
       subst (λ (l : List ℕ). Reached t p v (effect (append k l) y) (viewAt p (appended (record { kind = k; transaction = t; fields = l })) w))
