@@ -7,7 +7,7 @@ use lib.ListN.{getD}
 use lib.Dec.{T, eqb}
 use native.Mathlib.Omega.{arith}
 use borrow.Author.Tests.{eq-eqb, eqb-true}
-use Rattle.codec.specs.Sets.{participants, member, empty, bits, those, both, minus}
+use Rattle.codec.specs.Sets.{without, participants, member, empty, bits, those, both, minus}
 use Rattle.codec.specs.laws.Tests.{and-left, and-right, true-of, of-true, alike, alike-eq, below, below-at, bools, bools-at}
 use Rattle.codec.specs.laws.Masks.{those-alike, those-below, those-members}
 use Rattle.codec.specs.laws.Members.{numbered, high-bits, member-participant}
@@ -78,6 +78,12 @@ no-zero w t = subst T (ap (λ (k : ℕ). eqb k 1) even) t
   where
     even : 2 * w / 2 ^ 0 % 2 ≡ 0
     even = omega arith
+
+-- w without p is a part of what w is a part of
+pub without-part : (p w m : ℕ) → ((q : ℕ) → T (member q w) → T (member q m)) → (q : ℕ) → T (member q (without p w)) → T (member q m)
+unfolding without
+without-part p w m f zero k = absurd (no-zero _ k)
+without-part p w m f (suc n) k = f (suc n) (and-left (member (suc n) w) (not (eqb (suc n) p)) (of-those (λ q. member q w && not (eqb q p)) n k))
 
 -- ---- those that owe an ack
 

@@ -1,12 +1,12 @@
 -- The coordinator's rows that begin, count votes and commit.
-use Prim.Native.Nat.{ℕ, zero, suc, _<_}
+use Prim.Native.Nat.{ℕ, suc, _<_}
 use mathlib.Core.Path.{_≡_, refl, sym, subst}
 use mathlib.Core.Bool.{Bool, true, false, not, _&&_}
 use mathlib.Core.List.{List, [], _∷_, _++_, map, append-nil, map-append}
 use lib.Dec.{T, eqb}
 use borrow.Author.Tests.{eqb-true}
 use Rattle.codec.specs.Sets.{member, empty, without}
-use Rattle.codec.specs.laws.Tests.{and-left, true-of}
+use Rattle.codec.specs.laws.Tests.{true-of}
 use Rattle.codec.specs.laws.Masks.{those-below}
 use Rattle.site.specs.Presumption.{Outcome, commit, sameOutcome}
 use Rattle.site.specs.Cohort.{Cohort, masksOf, owing}
@@ -15,7 +15,7 @@ use Rattle.site.specs.Coordinator.{inTurn, inOrder, tellAll, untilAcked}
 use Rattle.joint.specs.State.{appended, forced}
 use Rattle.joint.proofs.Booleans.{or-left, not-true, is-false}
 use Rattle.joint.proofs.view.View.{View, viewAt, viewPerform}
-use Rattle.joint.proofs.safety.Sets.{of-those, member-those, member-owing, empty-none, no-zero}
+use Rattle.joint.proofs.safety.Sets.{member-those, member-owing, empty-none, without-part}
 use Rattle.joint.proofs.safety.Invariant.{Log, kindsIn, waiting, resting, Pace, Standing, initial, collecting, decided, hasDecided, writesInit, awaitsCommit, initLog, sentIn, siteWith, coordinatorAt, between, Mid}
 use Rattle.joint.proofs.safety.coordinator.Logs.{commitLog, end-unwritten, commit-waits, commit-has, commit-kinds, commit-proper}
 use Rattle.joint.proofs.safety.coordinator.Steps.{cohortOf, From, Shift}
@@ -79,12 +79,6 @@ module _ (t : ℕ) (h0 : Standing) (v : View) where
   abbrev members : ℕ
   members = cohortOf v .members
 
-  -- w without p is a part of what w is a part of
-  pub without-part : (p w m : ℕ) → ((q : ℕ) → T (member q w) → T (member q m)) → (q : ℕ) → T (member q (without p w)) → T (member q m)
-  unfolding without
-  without-part p w m f zero k = absurd (no-zero _ k)
-  without-part p w m f (suc n) k = f (suc n) (and-left (member (suc n) w) (not (eqb (suc n) p)) (of-those (λ q. member q w && not (eqb q p)) n k))
-
   pub counts : (p w : ℕ) → Mid t (collecting w false) v → T (sentIn v p voteYes) → Shift v (collecting w false) (collecting (without p w) false)
   unfolding without
   counts p w mid y =
@@ -133,6 +127,22 @@ module _ (t : ℕ) (h0 : Standing) (v : View) where
         from = λ x. from-none x (λ o k. k) (λ k. commit-has (writesInit (cohortOf v)));
       }
 
+-- ---- where acks are awaited, if any are
+
+-- the standing in which acks of w are awaited, if any
+abbrev pub untilAckedAs : Bool → Outcome → ℕ → Log → Standing
+untilAckedAs true o w l = decided o (resting false) l
+untilAckedAs false o w l = decided o (waiting w) l
+
+pub until-phase : (b : Bool) (o : Outcome) (w : ℕ) (l : Log) → empty w ≡ b → untilAcked o w ≡ coordinatorAt (untilAckedAs b o w l)
+unfolding untilAcked
+until-phase true o w l e = rw e refl
+until-phase false o w l e = rw e refl
+
+pub until-between : (b : Bool) (o : Outcome) (w : ℕ) (l : Log) → empty w ≡ b → T (between (untilAckedAs b o w l))
+until-between true o w l e = tt
+until-between false o w l e = subst (λ (c : Bool). T (not c)) (sym e) tt
+
 -- ---- the outcome is told, and what follows where nobody is waited for
 
 module _ (t : ℕ) (h0 : Standing) where
@@ -159,24 +169,10 @@ module _ (t : ℕ) (h0 : Standing) where
         from = λ x. from-same (writesInit (cohortOf v)) o (waiting w) (resting false) l l x (λ k. k);
       }
 
-  -- the standing in which acks of w are awaited, if any
-  abbrev pub untilAckedAs : Bool → Outcome → ℕ → Log → Standing
-  untilAckedAs true o w l = decided o (resting false) l
-  untilAckedAs false o w l = decided o (waiting w) l
-
   pub until-acked : (v : View) (b : Bool) (o : Outcome) (w : ℕ) (l : Log) → empty w ≡ b → Node t h0 v (decided o (waiting w) l)
       → Node t h0 v (untilAckedAs b o w l)
   until-acked v true o w l e x = node-stay t h0 x (rests-now v o w l (x .mid) (subst T (sym e) tt)) refl
   until-acked v false o w l e x = x
-
-  pub until-phase : (b : Bool) (o : Outcome) (w : ℕ) (l : Log) → empty w ≡ b → untilAcked o w ≡ coordinatorAt (untilAckedAs b o w l)
-  unfolding untilAcked
-  until-phase true o w l e = rw e refl
-  until-phase false o w l e = rw e refl
-
-  pub until-between : (b : Bool) (o : Outcome) (w : ℕ) (l : Log) → empty w ≡ b → T (between (untilAckedAs b o w l))
-  until-between true o w l e = tt
-  until-between false o w l e = subst (λ (c : Bool). T (not c)) (sym e) tt
 
   -- the outcome is entered and told
   pub enter-tell : {v : View} (o : Outcome) (p : Pace) (l : Log) (to : ℕ) → ((q : ℕ) → T (member q to) → T (member q (cohortOf v .members)))
@@ -199,7 +195,7 @@ module _ (t : ℕ) (h0 : Standing) (v : View) where
   group = cohortOf v
 
   abbrev final : Bool → Standing
-  final b = untilAckedAs t h0 b commit (owing group commit) (commitLog (writesInit group))
+  final b = untilAckedAs b commit (owing group commit) (commitLog (writesInit group))
 
   abbrev written : View
   written = viewPerform 0 t (append 2 (masksOf group)) v

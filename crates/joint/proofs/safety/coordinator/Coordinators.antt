@@ -15,13 +15,13 @@ use Rattle.joint.specs.State.{Site, withCoordinator}
 use Rattle.joint.proofs.Booleans.{or-left, or-right, both-ways}
 use Rattle.joint.proofs.view.View.{View, viewSettle}
 use Rattle.joint.proofs.view.Turn.{Carried, Given, Up, Opened}
-use Rattle.joint.proofs.safety.Sets.{member-those, owing-member, no-zero, not-empty, owes-abort}
+use Rattle.joint.proofs.safety.Sets.{member-those, owing-member, no-zero, not-empty, owes-abort, without-part}
 use Rattle.joint.proofs.safety.Invariant.{Log, waiting, resting, down, Standing, never, initial, collecting, decided, SetsFit, writesInit, initLog, coordinatorAt, between, sentIn, Mid, Inv}
 use Rattle.joint.proofs.safety.coordinator.Logs.{commitLog}
 use Rattle.joint.proofs.safety.coordinator.Steps.{cohortOf, same-outcome}
 use Rattle.joint.proofs.safety.coordinator.Crashes.{Next}
 use Rattle.joint.proofs.safety.coordinator.Runs.{Node, Runs, node-stay, row-next}
-use Rattle.joint.proofs.safety.coordinator.Commits.{begin-run, counts, commit-run, untilAckedAs, until-phase, until-between, without-part}
+use Rattle.joint.proofs.safety.coordinator.Commits.{begin-run, counts, commit-run, untilAckedAs, until-phase, until-between}
 use Rattle.joint.proofs.safety.coordinator.Ends.{abort-run, awaited, abortedAs, aborted-phase, aborted-between, end-run, hears, tell-run, tell-all-run, reply-run}
 
 -- ---- the row that a step gives
@@ -71,9 +71,9 @@ module _ (t : ℕ) (v w : View) (row : Row Coordinator) where
     voted-next p y false q e d =
         finish (voted g false (without p c)) e (collecting (without p c) false) (node-stay t (collecting c false) (start mid) (counts t (collecting c false) v p c mid y) refl) refl (subst (λ (b : Bool). T (not b)) (sym q) tt) d
     voted-next p y true q e d =
-        finish (voted g true (without p c)) e (untilAckedAs t (collecting c false) b commit (owing g commit) (commitLog (writesInit g)))
+        finish (voted g true (without p c)) e (untilAckedAs b commit (owing g commit) (commitLog (writesInit g)))
         (commit-run t (collecting c false) v (without p c) (subst T (sym q) tt) b refl (node-stay t (collecting c false) (start mid) (counts t (collecting c false) v p c mid y) refl))
-        (until-phase t (collecting c false) b commit (owing g commit) (commitLog (writesInit g)) refl) (until-between t (collecting c false) b commit (owing g commit) (commitLog (writesInit g)) refl) d
+        (until-phase b commit (owing g commit) (commitLog (writesInit g)) refl) (until-between b commit (owing g commit) (commitLog (writesInit g)) refl) d
       where
         b : Bool
         b = empty (owing g commit)
@@ -83,10 +83,10 @@ module _ (t : ℕ) (v w : View) (row : Row Coordinator) where
         → some (aborting g to) ≡ some row → Done → Next t (collecting c false) w
     unfolding aborting
     abort-next to part said e d =
-        finish (aborting g to) e (abortedAs t (collecting c false) b (writesInit g) (awaited g to) (initLog (writesInit g)))
+        finish (aborting g to) e (abortedAs b (writesInit g) (awaited g to) (initLog (writesInit g)))
         (abort-run t (collecting c false) v to c part said (start mid) b (writesInit g) refl refl)
-        (aborted-phase t (collecting c false) b (writesInit g) (awaited g to) (initLog (writesInit g)) refl)
-        (aborted-between t (collecting c false) b (writesInit g) (awaited g to) (initLog (writesInit g)) refl) d
+        (aborted-phase b (writesInit g) (awaited g to) (initLog (writesInit g)) refl)
+        (aborted-between b (writesInit g) (awaited g to) (initLog (writesInit g)) refl) d
       where
         b : Bool
         b = empty (awaited g to)
@@ -95,7 +95,7 @@ module _ (t : ℕ) (v w : View) (row : Row Coordinator) where
     no-next : (p : ℕ) → T (sentIn v p voteNo) → some (aborting g (without p (g .members))) ≡ some row → Done → Next t (collecting c false) w
     unfolding without
     no-next p n e d =
-        abort-next (without p (g .members)) (without-part t (collecting c false) v p (g .members) (g .members) (λ q k. k))
+        abort-next (without p (g .members)) (without-part p (g .members) (g .members) (λ q k. k))
         (λ k m u. subst (λ (q : ℕ). T (sentIn v q voteNo)) (sym (eqb-true (suc k) p (left-out (eqb (suc k) p) (subst (λ (b : Bool). T (not b)) (member-those (λ q. member q (g .members) && not (eqb q p)) k (g .members) (mid .byte) m ∙ ap (λ (b : Bool). b && not (eqb (suc k) p)) (true-of (member (suc k) (g .members)) m)) u)))) n) e d
       where
         left-out : (b : Bool) → T (not (true && not b)) → b ≡ true

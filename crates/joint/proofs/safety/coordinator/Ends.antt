@@ -15,13 +15,13 @@ use Rattle.site.specs.Coordinator.{endRecord, inOrder, tellAll, untilAcked}
 use Rattle.joint.specs.State.{appended}
 use Rattle.joint.proofs.Booleans.{or-left, or-right, and-both, is-false}
 use Rattle.joint.proofs.view.View.{View}
-use Rattle.joint.proofs.safety.Sets.{of-those, member-those, member-owing, empty-none, no-zero}
+use Rattle.joint.proofs.safety.Sets.{of-those, member-those, member-owing, empty-none, no-zero, without-part}
 use Rattle.joint.proofs.safety.Invariant.{Log, kindsIn, waiting, resting, Pace, Standing, collecting, decided, SetsFit, writesInit, awaitsCommit, initLog, sentIn, siteWith, coordinatorAt, between, Mid}
 use Rattle.joint.proofs.safety.coordinator.Logs.{end-written, abort-waits, initial-proper}
 use Rattle.joint.proofs.safety.coordinator.Steps.{cohortOf, Shift}
 use Rattle.joint.proofs.safety.coordinator.Crashes.{from-same, from-none}
 use Rattle.joint.proofs.safety.coordinator.Runs.{Node, Runs, node-stay, append-run, send-run, sends-run}
-use Rattle.joint.proofs.safety.coordinator.Commits.{without-part, told, until-acked, enter-tell}
+use Rattle.joint.proofs.safety.coordinator.Commits.{told, until-acked, enter-tell}
 use Rattle.joint.proofs.safety.coordinator.Ways.{refl-outcome, way-abort, way-done, way-hear}
 
 -- ---- abort, told to the set `to`
@@ -60,6 +60,25 @@ module _ (t : ℕ) (h0 : Standing) (v : View) where
       part zero k = absurd (no-zero (awaited cohort to) k)
       part (suc n) k = and-right (member (suc n) to) (member (suc n) (owing cohort abort)) (of-those inBoth n k)
 
+-- ---- where an abort leads
+
+-- b: nobody is waited for; i: record 1 was written
+abbrev pub abortedAs : Bool → Bool → ℕ → Log → Standing
+abortedAs true true w l = decided abort (resting true) l
+abortedAs true false w l = decided abort (resting false) l
+abortedAs false i w l = decided abort (waiting w) l
+
+pub aborted-phase : (b i : Bool) (w : ℕ) (l : Log) → empty w ≡ b → untilAcked abort w ≡ coordinatorAt (abortedAs b i w l)
+unfolding untilAcked
+aborted-phase true true w l e = rw e refl
+aborted-phase true false w l e = rw e refl
+aborted-phase false i w l e = rw e refl
+
+pub aborted-between : (b i : Bool) (w : ℕ) (l : Log) → empty w ≡ b → T (between (abortedAs b i w l))
+aborted-between true true w l e = tt
+aborted-between true false w l e = tt
+aborted-between false i w l e = subst (λ (c : Bool). T (not c)) (sym e) tt
+
 -- ---- an end record
 
 module _ (t : ℕ) (h0 : Standing) where
@@ -93,12 +112,6 @@ module _ (t : ℕ) (h0 : Standing) where
 
   -- ---- the row of an abort
 
-  -- b: nobody is waited for; i: record 1 was written
-  abbrev pub abortedAs : Bool → Bool → ℕ → Log → Standing
-  abortedAs true true w l = decided abort (resting true) l
-  abortedAs true false w l = decided abort (resting false) l
-  abortedAs false i w l = decided abort (waiting w) l
-
   last : (v : View) (b i : Bool) (w : ℕ) (l : Log) → empty w ≡ b → writesInit (cohortOf v) ≡ i → Node t h0 v (decided abort (waiting w) l)
       → Runs t h0 v (given (b && i) (append 4 [] ∷ [])) (abortedAs b i w l)
   unfolding given endRecord
@@ -115,17 +128,6 @@ module _ (t : ℕ) (h0 : Standing) where
       (node-stay t h0 x (aborts t h0 v to w (x .mid) said) refl)
       (λ u f n. last u b i (awaited (cohortOf v) to) (initLog (writesInit (cohortOf v))) e (ap writesInit f ∙ q) n)
 
-  pub aborted-phase : (b i : Bool) (w : ℕ) (l : Log) → empty w ≡ b → untilAcked abort w ≡ coordinatorAt (abortedAs b i w l)
-  unfolding untilAcked
-  aborted-phase true true w l e = rw e refl
-  aborted-phase true false w l e = rw e refl
-  aborted-phase false i w l e = rw e refl
-
-  pub aborted-between : (b i : Bool) (w : ℕ) (l : Log) → empty w ≡ b → T (between (abortedAs b i w l))
-  aborted-between true true w l e = tt
-  aborted-between true false w l e = tt
-  aborted-between false i w l e = subst (λ (c : Bool). T (not c)) (sym e) tt
-
 -- ---- an ack of p is heard
 
 module _ (t : ℕ) (h0 : Standing) where
@@ -138,7 +140,7 @@ module _ (t : ℕ) (h0 : Standing) where
           never = refl;
           fit = mid .fit;
           proper = mid .proper;
-          sets = (those-below (λ q. member q w && not (eqb q p)), without-part t h0 v p w (owing (cohortOf v) o) (mid .sets .1));
+          sets = (those-below (λ q. member q w && not (eqb q p)), without-part p w (owing (cohortOf v) o) (mid .sets .1));
           passing = λ n m.
               rw (member-those (λ q. member q w && not (eqb q p)) n (cohortOf v .members) (mid .byte) m)
               (way-hear v n o (member (suc n) w) (eqb (suc n) p) (λ e. subst (λ (q : ℕ). T (sentIn v q (ack o))) (sym (eqb-true (suc n) p (true-of _ e))) a));

@@ -123,11 +123,11 @@ module _ (t : ℕ) (h0 : Standing) where
 
   module _ (v : View) (o : Outcome) (l : Log) (r : T (resumed (classOf l))) where
     resume-shift : (b : Bool) → empty (owing (cohortOf v) o) ≡ b → (u : View) → cohortOf u ≡ cohortOf v → Mid t (decided o down l) u
-        → Shift u (decided o down l) (untilAckedAs t h0 b o (owing (cohortOf v) o) l)
+        → Shift u (decided o down l) (untilAckedAs b o (owing (cohortOf v) o) l)
     resume-shift true q u e mid = resumes-resting u o l mid (of-true (ap (λ (g : Cohort). empty (owing g o)) e ∙ q))
     resume-shift false q u e mid = subst (λ (g : Cohort). Shift u (decided o down l) (decided o (waiting (owing g o)) l)) e (resumes-waiting u o l mid r)
 
-    resume-stands : (b : Bool) (u : View) → started (standsAs t u (decided o down l)) ≡ standsAs t u (untilAckedAs t h0 b o (owing (cohortOf v) o) l)
+    resume-stands : (b : Bool) (u : View) → started (standsAs t u (decided o down l)) ≡ standsAs t u (untilAckedAs b o (owing (cohortOf v) o) l)
     unfolding started
     resume-stands true u = refl
     resume-stands false u = refl
@@ -136,8 +136,8 @@ module _ (t : ℕ) (h0 : Standing) where
         → Carried t 0 (enter o ∷ given c (tellAll (cohortOf v) o (cohortOf v .members))) (viewStart 0 (withCoordinator (untilAcked o (owing (cohortOf v) o)))) v w
         → Next t h0 w
     resume-next c x d =
-        start-next (enter o ∷ given c (tellAll (cohortOf v) o (cohortOf v .members))) o l (untilAckedAs t h0 b o (owing (cohortOf v) o) l) (untilAcked o (owing (cohortOf v) o)) (resume-run o l c x)
-        (resume-shift b refl) (resume-stands b) (until-phase t h0 b o (owing (cohortOf v) o) l refl) (until-between t h0 b o (owing (cohortOf v) o) l refl) d
+        start-next (enter o ∷ given c (tellAll (cohortOf v) o (cohortOf v .members))) o l (untilAckedAs b o (owing (cohortOf v) o) l) (untilAcked o (owing (cohortOf v) o)) (resume-run o l c x)
+        (resume-shift b refl) (resume-stands b) (until-phase b o (owing (cohortOf v) o) l refl) (until-between b o (owing (cohortOf v) o) l refl) d
       where
         b : Bool
         b = empty (owing (cohortOf v) o)
