@@ -215,5 +215,6 @@ replies es earlier m h t p o r c d =
 pub demand3 : (events : List (List ℕ)) → Safe events
 demand3 es = record { agreement = agreement es; votes = votes es; replies = replies es }
 
-pub demand-3 : Demand3
-demand-3 = demand3
+-- as the definitions state it
+pub as-stated : Demand3
+as-stated = demand3

@@ -209,7 +209,3 @@ module _ (t : ℕ) where
   commit-stays r e h =
       ⊎-elim (event-stable r e (event-case r e)) (λ k. ⊎-elim (λ c. c) (λ c. absurd c) (or-cases (commitStable t (event r e .run)) false k))
       (any-cases (commitStable t) (map leaves (happened r e)) (event r e .run ∷ []) h)
-
--- so it was stable before the event or is after it
-pub commit-passed : (t : ℕ) (r : Run) (e : List ℕ) → T (any (commitStable t) (passed r e)) → T (commitStable t r) ⊎ T (commitStable t (event r e .run))
-commit-passed t r e h = inr (commit-stays t r e h)

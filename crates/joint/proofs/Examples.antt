@@ -1,12 +1,12 @@
 -- Demand 3 speaks of something: lists of events on which commit is entered, abort is entered, and the replies of its third sentence are sent.
 use Prim.Native.Nat.{ℕ}
-use mathlib.Core.Path.{_≡_, refl, ap}
-use mathlib.Core.Bool.{Bool, true, false, _&&_, _||_}
-use mathlib.Core.List.{List, [], _∷_, _++_}
+use mathlib.Core.Path.{_≡_, refl}
+use mathlib.Core.Bool.{Bool, _&&_}
+use mathlib.Core.List.{List, [], _∷_}
 use lib.Dec.{T, eqb}
 use Rattle.codec.specs.Lists.{any, all}
 use Rattle.codec.specs.Sets.{member}
-use Rattle.codec.specs.laws.Tests.{and-left, and-right, of-true}
+use Rattle.codec.specs.laws.Tests.{and-left, and-right}
 use Rattle.site.specs.Presumption.{Outcome, commit, abort}
 use Rattle.site.specs.Coordinator.{Coordinator, initial, collecting, awaitingAcks}
 use Rattle.site.specs.Numbers.{coordinatorPhase}
@@ -17,6 +17,7 @@ use Rattle.codec.specs.Open.{codec-opens}
 use Rattle.site.specs.Open.{site-opens}
 use Rattle.joint.proofs.Open.{joint-opens}
 use Rattle.joint.proofs.Cases.{hex}
+use Rattle.joint.proofs.Moments.{any-placed}
 
 -- what the theorems by computation below open
 unfoldable safety-opens : Unit {0}
@@ -25,33 +26,14 @@ safety-opens = tt
 
 -- ---- moments that pass a test
 
--- an element of xs passes the test f
-abbrev Passed : {A : Type 0} → (A → Bool) → List A → Type 0
-Passed {A} f xs = (earlier : List A) × (x : A) × ((later : List A) × (xs ≡ earlier ++ x ∷ later)) × T (f x)
-
-module _ {A : Type 0} (f : A → Bool) where
-  passed-later : (x : A) (xs : List A) → Passed f xs → Passed f (x ∷ xs)
-  passed-later x xs (earlier, y, (later, e), h) = (x ∷ earlier, y, (later, ap (λ (ys : List A). x ∷ ys) e), h)
-
-  passed-either : (x : A) (xs : List A) (b : Bool) → f x ≡ b → T (b || any f xs) → (T (any f xs) → Passed f xs) → Passed f (x ∷ xs)
-  passed-either x xs true e h go = ([], x, (xs, refl), of-true e)
-  passed-either x xs false e h go = passed-later x xs (go h)
-
-  passed : (xs : List A) → T (any f xs) → Passed f xs
-  unfolding any
-  passed [] h = absurd h
-  passed (x ∷ xs) h = passed-either x xs (f x) refl h (passed xs)
-
 -- P holds of a moment of the list
 abbrev pub Some : List (List ℕ) → (Moment → Type 0) → Type 0
 Some es P = (earlier : List Moment) × (m : Moment) × Happens es earlier m × P m
 
 some-passes : (es : List (List ℕ)) (f : Moment → Bool) (P : Moment → Type 0) → ((m : Moment) → T (f m) → P m) → T (any f (history fresh es)) → Some es P
-unfolding Happens
-some-passes es f P holds h = go (passed f (history fresh es) h)
-  where
-    go : Passed f (history fresh es) → Some es P
-    go (earlier, m, w, k) = (earlier, m, w, holds m k)
+some-passes es f P holds h =
+    let x = any-placed f es h in
+    (x .0, x .1, x .2, holds (x .1) (x .3))
 
 -- ---- commit and abort are entered, at the coordinator and at two participants, of which 1 presumes abort and 2 commit
 

@@ -13,7 +13,7 @@ use Rattle.joint.specs.Event.{Parsed, parse}
 use Rattle.joint.specs.Refusals.{refusals}
 use Rattle.joint.specs.Plan.{Plan, plan}
 use Rattle.joint.specs.Run.{Result, refuse, canCut, cutShort, carry, carryPlan, carryUnless, eventParsed, event, after}
-use Rattle.joint.specs.Safety.{Moment, happened, history, leaves, along, commitStable, Happens}
+use Rattle.joint.specs.Safety.{happened, history, leaves, along, commitStable}
 use Rattle.joint.proofs.Booleans.{or-cases}
 
 -- ---- one event: refused, carried out whole, or cut
@@ -117,30 +117,3 @@ any-cases f xs ys h = or-cases (any f xs) (any f ys) (rw any-append at h)
 pub committed-snoc : (t : ℕ) (es : List (List ℕ)) (e : List ℕ)
     → any (commitStable t) (along fresh (es ++ (e ∷ []))) ≡ (any (commitStable t) (along fresh es) || any (commitStable t) (passed (after fresh es) e))
 committed-snoc t es e = rw (along-snoc, any-append)
-
--- ---- what holds moment by moment
-
-abbrev pub Each : (List Moment → Moment → Type 0) → List Moment → List Moment → Type 0
-Each P seen [] = Unit {0}
-Each P seen (m ∷ ms) = P seen m × Each P (seen ++ (m ∷ [])) ms
-
-module _ (P : List Moment → Moment → Type 0) where
-  pub each-append : (seen xs ys : List Moment) → Each P seen xs → Each P (seen ++ xs) ys → Each P seen (xs ++ ys)
-  each-append seen [] ys h k = rw append-nil at k
-  each-append seen (m ∷ xs) ys h k = (h .0, each-append (seen ++ (m ∷ [])) xs ys (h .1) (rw append-assoc k))
-
-  -- of each list of events, if it holds along one event more
-  pub each-history : ((es : List (List ℕ)) (e : List ℕ) → Each P (history fresh es) (happened (after fresh es) e))
-      → (es : List (List ℕ)) → Each P [] (history fresh es)
-  each-history h =
-      by-events (λ es. Each P [] (history fresh es)) (unfold history in tt)
-      (λ es e k. rw history-snoc (each-append [] (history fresh es) (happened (after fresh es) e) k (h es e)))
-
-  each-at : (seen earlier : List Moment) (m : Moment) (later : List Moment) → Each P seen (earlier ++ m ∷ later) → P (seen ++ earlier) m
-  each-at seen [] m later h = rw append-nil (h .0)
-  each-at seen (x ∷ earlier) m later h = rw append-assoc at (each-at (seen ++ (x ∷ [])) earlier m later (h .1))
-
-  pub each-happens : (es : List (List ℕ)) → Each P [] (history fresh es)
-      → (earlier : List Moment) (m : Moment) → Happens es earlier m → P earlier m
-  unfolding Happens
-  each-happens es h earlier m d = each-at [] earlier m (d .0) (rw (d .1) at h)
