@@ -21,7 +21,7 @@ use Rattle.joint.specs.State.{Run, opened}
 use Rattle.joint.specs.Safety.{Moment}
 use Rattle.joint.proofs.view.Updates.{select-append}
 use Rattle.joint.proofs.view.View.{view}
-use Rattle.joint.proofs.safety.Invariant.{waiting, resting, down, Standing, never, initial, collecting, decided, SetsFit, writesInit, awaitsCommit, coordinatorAt, between, entry, Inv}
+use Rattle.joint.proofs.safety.Invariant.{waiting, resting, down, Standing, never, initial, collecting, decided, SetsFit, writesInit, awaitsCommit, coordinatorAt, between, recordFor, Inv}
 use Rattle.joint.proofs.logs.Counts.{own, EachRecord, each-back, each-own, each-map, sumBelow, counted-most}
 use Rattle.joint.proofs.logs.Orders.{mayStand, inOrder, order-front, Ranged, Follows, log-passes}
 use Rattle.joint.proofs.logs.Kinds.{share, fine, cohortIn, Known, Kinds, kinds-at, opened-ranged}
@@ -30,7 +30,7 @@ use Rattle.joint.proofs.logs.Kinds.{share, fine, cohortIn, Known, Kinds
 pub record OwnRecord (r : Run) (s : ℕ) (x : LogRecord) : Type 0 where
   pub known : Known r (x .transaction) s
   pub kind : recordKindAt s (x .kind) ≡ true
-  pub is : x ≡ entry (cohortIn r (x .transaction)) (x .transaction) s (x .kind)
+  pub is : x ≡ recordFor (cohortIn r (x .transaction)) (x .transaction) s (x .kind)
 
 -- ---- the records of transaction t at site s
 
@@ -40,7 +40,7 @@ front-nil (k ∷ ks) js e = absurd (omega (arith, ap length e))
 
 module _ {r : Run} {t s : ℕ} (x : Kinds r t s) where
   abbrev put : ℕ → LogRecord
-  put = entry (cohortIn r t) t s
+  put = recordFor (cohortIn r t) t s
 
   abbrev i : Bool
   i = writesInit (cohortIn r t)

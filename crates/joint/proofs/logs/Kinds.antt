@@ -23,7 +23,7 @@ use Rattle.joint.proofs.view.View.{siteView, view}
 use Rattle.joint.proofs.safety.Tables.{Status, stableKinds, unforcedKinds, has}
 use Rattle.joint.proofs.safety.Finite.{allBool, at-bool, at-status}
 use Rattle.joint.proofs.safety.Sets.{empty-none}
-use Rattle.joint.proofs.safety.Invariant.{Log, l0, l1, l12, l2, l123, l23, l3, l14, l4, kindsIn, classOf, resting, waiting, down, Standing, never, initial, collecting, decided, stageOf, logFits, standingFits, SetsFit, writesInit, awaitsCommit, properKinds, properLog, initLog, stableAt, kindIf, unforcedAt, isNever, entry, Place, Mid}
+use Rattle.joint.proofs.safety.Invariant.{Log, l0, l1, l12, l2, l123, l23, l3, l14, l4, kindsIn, classOf, resting, waiting, down, Standing, never, initial, collecting, decided, stageOf, logFits, standingFits, SetsFit, writesInit, awaitsCommit, properKinds, properLog, initLog, stableAt, kindIf, unforcedAt, isNever, recordFor, Place, Mid}
 use Rattle.joint.proofs.safety.coordinator.Logs.{closed, closed-kinds}
 use Rattle.joint.proofs.safety.coordinator.Logs.{closed-proper, may-close}
 use Rattle.joint.proofs.logs.Counts.{own}
@@ -118,8 +118,8 @@ pub record Known (r : Run) (t s : ℕ) : Type 0 where
 pub record Kinds (r : Run) (t s : ℕ) : Type 0 where
   pub stable : List ℕ
   pub unforced : List ℕ
-  pub is-stable : own t (r .site s .stable) ≡ map (entry (cohortIn r t) t s) stable
-  pub is-unforced : own t (r .site s .unforced) ≡ map (entry (cohortIn r t) t s) unforced
+  pub is-stable : own t (r .site s .stable) ≡ map (recordFor (cohortIn r t) t s) stable
+  pub is-unforced : own t (r .site s .unforced) ≡ map (recordFor (cohortIn r t) t s) unforced
   pub tidies : T (tidy s (writesInit (cohortIn r t)) (awaitsCommit (cohortIn r t)) stable unforced)
   pub known : (stable ++ unforced ≡ []) ⊎ Known r t s
 

@@ -1,4 +1,4 @@
--- Logs whose records of each transaction are its entries, in order: no refusal strikes them.
+-- Logs whose records of each transaction are its records, in order: no refusal strikes them.
 use Prim.Native.Nat.{ℕ, zero, suc, _≤_, _<_}
 use mathlib.Core.Path.{_≡_, refl, sym, ap, ap₂, _∙_, subst}
 use mathlib.Core.Logic.{_⊎_, inl, inr, ⊎-elim}
@@ -18,7 +18,7 @@ use Rattle.site.specs.Presumption.{presumptionNumber, presumedAbort, presumedCo
 use Rattle.site.specs.Cohort.{Cohort, masksOf, presumptionOf}
 use Rattle.joint.proofs.Booleans.{and-both}
 use Rattle.joint.proofs.view.Updates.{select-append}
-use Rattle.joint.proofs.safety.Invariant.{writesInit, awaitsCommit, fieldsAt, entry}
+use Rattle.joint.proofs.safety.Invariant.{writesInit, awaitsCommit, fieldsAt, recordFor}
 use Rattle.joint.proofs.logs.Counts.{own, own-head}
 use Rattle.joint.proofs.safety.Sets.{owing-minus}
 
@@ -37,7 +37,7 @@ order-front s i a ks [] ms t = tt
 order-front s i a ks (j ∷ js) ms t =
     and-both (mayStand s i a ks j) _ (and-left (mayStand s i a ks j) _ t) (order-front s i a (ks ++ (j ∷ [])) js ms (and-right (mayStand s i a ks j) _ t))
 
--- ---- a cohort in range, and its entries
+-- ---- a cohort in range, and its records
 
 pub record Ranged (g : Cohort) : Type 0 where
   pub some : 1 ≤ g .members
@@ -64,30 +64,30 @@ module _ (g : Cohort) (t : ℕ) (h : t < 8) (m : Ranged g) where
   unfolding masksInRange membersIn presumeCommitIn masksOf every
   masks k = rw (le-leb 1 (g .members) (m .some), le-leb (g .members) 255 (omega (arith, m .byte)), m .part)
 
-  entry-fields : (s k : ℕ) → k < 8 → T (recordKindAt s k) → T (not (eqb k 1) || writesInit g) → isRecord s (bytesOf (entry g t s k)) ≡ true
+  record-fields : (s k : ℕ) → k < 8 → T (recordKindAt s k) → T (not (eqb k 1) || writesInit g) → isRecord s (bytesOf (recordFor g t s k)) ≡ true
   unfolding recordKindAt isRecord recordOf bytesOf every lengthOf lengths fieldsInRange masksOf presumeCommitIn
-  entry-fields zero zero l a b = absurd a
-  entry-fields zero (suc zero) l a b = rw (in-range, masks 1, true-of (not (empty (g .presumeCommit))) b)
-  entry-fields zero (suc (suc zero)) l a b = rw (in-range, masks 2)
-  entry-fields zero (suc (suc (suc zero))) l a b = rw in-range
-  entry-fields zero (suc (suc (suc (suc zero)))) l a b = rw in-range
-  entry-fields zero (suc (suc (suc (suc (suc zero))))) l a b = absurd a
-  entry-fields zero (suc (suc (suc (suc (suc (suc zero)))))) l a b = absurd a
-  entry-fields zero (suc (suc (suc (suc (suc (suc (suc zero))))))) l a b = absurd a
-  entry-fields (suc s) zero l a b = absurd a
-  entry-fields (suc s) (suc zero) l a b = absurd a
-  entry-fields (suc s) (suc (suc zero)) l a b = absurd a
-  entry-fields (suc s) (suc (suc (suc zero))) l a b = absurd a
-  entry-fields (suc s) (suc (suc (suc (suc zero)))) l a b = absurd a
-  entry-fields (suc s) (suc (suc (suc (suc (suc zero))))) l a b = rw (in-range, presumption-small g (suc s))
-  entry-fields (suc s) (suc (suc (suc (suc (suc (suc zero)))))) l a b = rw in-range
-  entry-fields (suc s) (suc (suc (suc (suc (suc (suc (suc zero))))))) l a b = rw in-range
-  entry-fields s (suc (suc (suc (suc (suc (suc (suc (suc k)))))))) l a b = absurd (omega (arith, l))
+  record-fields zero zero l a b = absurd a
+  record-fields zero (suc zero) l a b = rw (in-range, masks 1, true-of (not (empty (g .presumeCommit))) b)
+  record-fields zero (suc (suc zero)) l a b = rw (in-range, masks 2)
+  record-fields zero (suc (suc (suc zero))) l a b = rw in-range
+  record-fields zero (suc (suc (suc (suc zero)))) l a b = rw in-range
+  record-fields zero (suc (suc (suc (suc (suc zero))))) l a b = absurd a
+  record-fields zero (suc (suc (suc (suc (suc (suc zero)))))) l a b = absurd a
+  record-fields zero (suc (suc (suc (suc (suc (suc (suc zero))))))) l a b = absurd a
+  record-fields (suc s) zero l a b = absurd a
+  record-fields (suc s) (suc zero) l a b = absurd a
+  record-fields (suc s) (suc (suc zero)) l a b = absurd a
+  record-fields (suc s) (suc (suc (suc zero))) l a b = absurd a
+  record-fields (suc s) (suc (suc (suc (suc zero)))) l a b = absurd a
+  record-fields (suc s) (suc (suc (suc (suc (suc zero))))) l a b = rw (in-range, presumption-small g (suc s))
+  record-fields (suc s) (suc (suc (suc (suc (suc (suc zero)))))) l a b = rw in-range
+  record-fields (suc s) (suc (suc (suc (suc (suc (suc (suc zero))))))) l a b = rw in-range
+  record-fields s (suc (suc (suc (suc (suc (suc (suc (suc k)))))))) l a b = absurd (omega (arith, l))
 
-  entry-record : (s k : ℕ) → T (recordKindAt s k) → T (not (eqb k 1) || writesInit g) → isRecord s (bytesOf (entry g t s k)) ≡ true
-  entry-record s k a b = entry-fields s k (kind-below s k a) a b
+  record-is : (s k : ℕ) → T (recordKindAt s k) → T (not (eqb k 1) || writesInit g) → isRecord s (bytesOf (recordFor g t s k)) ≡ true
+  record-is s k a b = record-fields s k (kind-below s k a) a b
 
--- ---- the order of a transaction's entries
+-- ---- the order of a transaction's records
 
 same-self : (l : List ℕ) → same l l ≡ true
 unfolding same
@@ -95,37 +95,37 @@ same-self [] = refl
 same-self (n ∷ l) = rw (eq-eqb n n refl, same-self l)
 
 module _ (g : Cohort) (t s : ℕ) where
-  awaits : awaitsAcks (entry g t s 2) ≡ awaitsCommit g
+  awaits : awaitsAcks (recordFor g t s 2) ≡ awaitsCommit g
   unfolding awaitsAcks membersIn presumeCommitIn masksOf
   awaits = rw (owing-minus g)
 
-  entries-agree : (j k : ℕ) → T (not (eqb k 3) || awaitsCommit g) → agrees (entry g t s j) (entry g t s k) ≡ true
+  records-agree : (j k : ℕ) → T (not (eqb k 3) || awaitsCommit g) → agrees (recordFor g t s j) (recordFor g t s k) ≡ true
   unfolding agrees
-  entries-agree j k a = ap₂ _&&_ (one (eqb j 1) (eqb k 2) refl refl) (two (eqb j 2) (eqb k 3) refl refl a)
+  records-agree j k a = ap₂ _&&_ (one (eqb j 1) (eqb k 2) refl refl) (two (eqb j 2) (eqb k 3) refl refl a)
     where
       one : (b c : Bool) → eqb j 1 ≡ b → eqb k 2 ≡ c → (not (b && c) || same (fieldsAt g s j) (fieldsAt g s k)) ≡ true
       one true true e f = rw (eqb-true j 1 e, eqb-true k 2 f) (same-self (masksOf g))
       one true false e f = refl
       one false c e f = refl
 
-      two : (b c : Bool) → eqb j 2 ≡ b → eqb k 3 ≡ c → T (not c || awaitsCommit g) → (not (b && c) || awaitsAcks (entry g t s j)) ≡ true
+      two : (b c : Bool) → eqb j 2 ≡ b → eqb k 3 ≡ c → T (not c || awaitsCommit g) → (not (b && c) || awaitsAcks (recordFor g t s j)) ≡ true
       two true true e f a = rw (eqb-true j 2 e, awaits) (true-of (awaitsCommit g) a)
       two true false e f a = refl
       two false c e f a = refl
 
-  kinds-of : (ks : List ℕ) → map (λ (y : LogRecord). y .kind) (map (entry g t s) ks) ≡ ks
+  kinds-of : (ks : List ℕ) → map (λ (y : LogRecord). y .kind) (map (recordFor g t s) ks) ≡ ks
   kinds-of [] = refl
   kinds-of (k ∷ ks) = ap (k ∷_) (kinds-of ks)
 
-  all-agree : (k : ℕ) → T (not (eqb k 3) || awaitsCommit g) → (ks : List ℕ) → all (λ y. agrees y (entry g t s k)) (map (entry g t s) ks) ≡ true
+  all-agree : (k : ℕ) → T (not (eqb k 3) || awaitsCommit g) → (ks : List ℕ) → all (λ y. agrees y (recordFor g t s k)) (map (recordFor g t s) ks) ≡ true
   unfolding all
   all-agree k a [] = refl
-  all-agree k a (j ∷ ks) = rw (entries-agree j k a, all-agree k a ks)
+  all-agree k a (j ∷ ks) = rw (records-agree j k a, all-agree k a ks)
 
-  entry-follows : (before : List LogRecord) (ks : List ℕ) (k : ℕ) → own t before ≡ map (entry g t s) ks → T (not (eqb k 3) || awaitsCommit g)
-      → T (any (same (ks ++ (k ∷ []))) sequences) → inSequence before (entry g t s k) ≡ true
+  record-follows : (before : List LogRecord) (ks : List ℕ) (k : ℕ) → own t before ≡ map (recordFor g t s) ks → T (not (eqb k 3) || awaitsCommit g)
+      → T (any (same (ks ++ (k ∷ []))) sequences) → inSequence before (recordFor g t s k) ≡ true
   unfolding inSequence
-  entry-follows before ks k e a b = rw (e, kinds-of ks, all-agree k a ks, true-of (any (same (ks ++ (k ∷ []))) sequences) b)
+  record-follows before ks k e a b = rw (e, kinds-of ks, all-agree k a ks, true-of (any (same (ks ++ (k ∷ []))) sequences) b)
 
 -- ---- logs
 
@@ -134,8 +134,8 @@ module _ (g : ℕ → Cohort) (s : ℕ) where
   pub record Follows (t : ℕ) (before log : List LogRecord) : Type 0 where
     pub earlier : List ℕ
     pub later : List ℕ
-    pub is-earlier : own t before ≡ map (entry (g t) t s) earlier
-    pub is-later : own t log ≡ map (entry (g t) t s) later
+    pub is-earlier : own t before ≡ map (recordFor (g t) t s) earlier
+    pub is-later : own t log ≡ map (recordFor (g t) t s) later
     pub orderly : T (inOrder s (writesInit (g t)) (awaitsCommit (g t)) earlier later)
     pub ranged : (later ≡ []) ⊎ ((t < 8) × Ranged (g t))
 
@@ -154,7 +154,7 @@ module _ (g : ℕ → Cohort) (s : ℕ) where
       u = x .transaction
 
       put : ℕ → LogRecord
-      put = entry (g u) u s
+      put = recordFor (g u) u s
 
       i : Bool
       i = writesInit (g u)
@@ -177,8 +177,8 @@ module _ (g : ℕ → Cohort) (s : ℕ) where
           let first = and-left (not (eqb k 1) || i) _ others in
           let last = and-right (not (eqb k 1) || i) _ others in
           record {
-            fits = subst (λ (y : LogRecord). isRecord s (bytesOf y) ≡ true) (sym here) (entry-record (g u) u (r .0) (r .1) s k kind first);
-            follows = subst (λ (y : LogRecord). inSequence before y ≡ true) (sym here) (entry-follows (g u) u s before (f .earlier) k (f .is-earlier) (and-left (not (eqb k 3) || a) _ last) (and-right (not (eqb k 3) || a) _ last));
+            fits = subst (λ (y : LogRecord). isRecord s (bytesOf y) ≡ true) (sym here) (record-is (g u) u (r .0) (r .1) s k kind first);
+            follows = subst (λ (y : LogRecord). inSequence before y ≡ true) (sym here) (record-follows (g u) u s before (f .earlier) k (f .is-earlier) (and-left (not (eqb k 3) || a) _ last) (and-right (not (eqb k 3) || a) _ last));
             rest =
                 record {
                   earlier = f .earlier ++ (k ∷ []);

@@ -197,12 +197,12 @@ isNever (decided o pace l) = false
 abbrev pub fieldsAt : Cohort → ℕ → ℕ → List ℕ
 fieldsAt g s k = getD ([] ∷ masksOf g ∷ masksOf g ∷ [] ∷ [] ∷ (presumptionNumber (presumptionOf g s) ∷ []) ∷ []) k []
 
-abbrev pub entry : Cohort → ℕ → ℕ → ℕ → LogRecord
-entry g t s k = record { kind = k; transaction = t; fields = fieldsAt g s k }
+abbrev pub recordFor : Cohort → ℕ → ℕ → ℕ → LogRecord
+recordFor g t s k = record { kind = k; transaction = t; fields = fieldsAt g s k }
 
 -- a site with records of these kinds
 abbrev pub siteWith : Cohort → ℕ → ℕ → Bool → List ℕ → List ℕ → Site
-siteWith g t s u ks js = record { up = u; stable = map (entry g t s) ks; unforced = map (entry g t s) js }
+siteWith g t s u ks js = record { up = u; stable = map (recordFor g t s) ks; unforced = map (recordFor g t s) js }
 
 -- ---- the participants
 

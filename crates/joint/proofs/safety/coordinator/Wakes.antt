@@ -20,7 +20,7 @@ use Rattle.joint.proofs.view.View.{View, viewAt}
 use Rattle.joint.proofs.view.Turn.{whole, Up, Opened, trimmedView, viewForget, viewDiscard}
 use Rattle.joint.proofs.safety.Tables.{has}
 use Rattle.joint.proofs.safety.Sets.{not-empty, owing-minus}
-use Rattle.joint.proofs.safety.Invariant.{Log, l0, l1, l12, l2, l123, l23, l3, l14, l4, kindsIn, classOf, waiting, resting, down, Standing, never, initial, collecting, decided, stageOf, hasDecided, SetsFit, writesInit, awaitsCommit, initLog, stableAt, coordinatorAt, between, entry, siteWith, Mid, Inv}
+use Rattle.joint.proofs.safety.Invariant.{Log, l0, l1, l12, l2, l123, l23, l3, l14, l4, kindsIn, classOf, waiting, resting, down, Standing, never, initial, collecting, decided, stageOf, hasDecided, SetsFit, writesInit, awaitsCommit, initLog, stableAt, coordinatorAt, between, recordFor, siteWith, Mid, Inv}
 use Rattle.joint.proofs.safety.coordinator.Logs.{closed, older, unended, waiting-down, resting-down, commit-record, waiting-unended, ending-unended, closed-fits, closed-kinds, closed-proper, may-close, older-fits, older-kinds, older-proper}
 use Rattle.joint.proofs.safety.coordinator.Steps.{cohortOf, From, Move, standsAs, stand, same-outcome}
 use Rattle.joint.proofs.safety.coordinator.Crashes.{Next, from-self}
@@ -95,13 +95,13 @@ module _ (t : ℕ) (v : View) where
 
 -- a record 2 closes where nobody owes an ack for commit
 module _ (g : Cohort) (t : ℕ) where
-  2-closes : closes (entry g t 0 2) ≡ not (awaitsCommit g)
+  2-closes : closes (recordFor g t 0 2) ≡ not (awaitsCommit g)
   unfolding closes any awaitsAcks membersIn presumeCommitIn masksOf
   2-closes = rw (owing-minus g) refl
 
   -- it has no record that closes it, if a commit awaits acks
   not-closed : (l : Log) → T (unended (classOf l)) → (T (has 2 (kindsIn l)) → T (awaitsCommit g))
-      → newest closes (map (entry g t 0) (kindsIn l)) ≡ true → ⊥
+      → newest closes (map (recordFor g t 0) (kindsIn l)) ≡ true → ⊥
   unfolding newest has any
   not-closed l0 o a e = true≢false (sym e)
   not-closed l1 o a e = true≢false (sym (unfold closes any in e))
@@ -119,7 +119,7 @@ drop-map f (k ∷ ks) = refl
 
 module _ (t : ℕ) (v : View) where
   abbrev Closes : List ℕ → Type 0
-  Closes ks = newest closes (map (entry (cohortOf v) t 0) ks) ≡ true
+  Closes ks = newest closes (map (recordFor (cohortOf v) t 0) ks) ≡ true
 
   trims : (o : Outcome) (l : Log) → Mid t (decided o (resting false) l) v → Move v (decided o (resting false) l) (decided o (resting false) (older l))
   trims o l mid =
@@ -149,7 +149,7 @@ module _ (t : ℕ) (v : View) where
 
   trimmed-kinds : (l : Log) → trimmedView (siteWith (cohortOf v) t 0 true (kindsIn l) []) ≡ siteWith (cohortOf v) t 0 true (kindsIn (older l)) []
   unfolding trimmedView
-  trimmed-kinds l = rw (drop-map (entry (cohortOf v) t 0) (kindsIn l), sym (older-kinds true commit l)) refl
+  trimmed-kinds l = rw (drop-map (recordFor (cohortOf v) t 0) (kindsIn l), sym (older-kinds true commit l)) refl
 
   discard-standing : (h : Standing) → Inv t h v → Opened v → Up v 0 → Closes (stableAt (writesInit (cohortOf v)) h) → After t h (viewAt 0 trimmedView v)
   unfolding viewAt

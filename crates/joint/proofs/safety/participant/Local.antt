@@ -19,7 +19,7 @@ use Rattle.joint.proofs.view.Updates.{update-same, update-other}
 use Rattle.joint.proofs.view.View.{View, viewAt, viewSettle, viewPerform, viewEffects, viewDown}
 use Rattle.joint.proofs.view.Turn.{viewStart, viewDiscard, viewForget, trimmedView, noRecord, isNil}
 use Rattle.joint.proofs.safety.Tables.{has}
-use Rattle.joint.proofs.safety.Invariant.{fieldsAt, entry, siteWith, sentIn}
+use Rattle.joint.proofs.safety.Invariant.{fieldsAt, recordFor, siteWith, sentIn}
 use Rattle.joint.proofs.safety.participant.Rows.{Part, moved, effect, effects, halted, settled, woken, dropped, phaseLeft}
 
 -- ---- lists
@@ -29,7 +29,7 @@ map-take f zero xs = refl
 map-take f (suc k) [] = refl
 map-take {B} f (suc k) (x ∷ xs) = ap (λ (l : List B). f x ∷ l) (map-take f k xs)
 
-pub holds-kinds : (g : Cohort) (t p k : ℕ) (ks : List ℕ) → holds t k (map (entry g t p) ks) ≡ has k ks
+pub holds-kinds : (g : Cohort) (t p k : ℕ) (ks : List ℕ) → holds t k (map (recordFor g t p) ks) ≡ has k ks
 unfolding holds has any ofTransaction
 holds-kinds g t p k [] = refl
 holds-kinds g t p k (j ∷ ks) = rw (eq-eqb t t refl) (ap (λ (b : Bool). eqb j k || b) (holds-kinds g t p k ks))
@@ -74,7 +74,7 @@ module _ (t p : ℕ) (v : View) where
   here u ks js = siteWith (v .transaction .cohort) t p u ks js
 
   abbrev own : ℕ → LogRecord
-  own k = entry (v .transaction .cohort) t p k
+  own k = recordFor (v .transaction .cohort) t p k
 
   -- the site changes
   reach-site : (f : Site → Site) (u : Bool) (ks js : List ℕ) {y : Part} {w : View}
@@ -259,7 +259,7 @@ module _ (t p : ℕ) (v : View) where
 
 module _ (t n : ℕ) (v : View) where
   kinds : List ℕ → List LogRecord
-  kinds ks = map (entry (v .transaction .cohort) t (suc n)) ks
+  kinds ks = map (recordFor (v .transaction .cohort) t (suc n)) ks
 
   pub reach-down : (k : ℕ) {y : Part} {w : View} → Reached t (suc n) v y w
       → Reached t (suc n) v (halted (take k (y .unforced)) y) (viewDown (suc n) k w)

@@ -22,7 +22,7 @@ use Rattle.joint.proofs.Booleans.{mp}
 use Rattle.joint.proofs.view.View.{View, viewAt, viewSettle, viewDown}
 use Rattle.joint.proofs.view.Turn.{Carried, Given, Own, Up, Opened, viewDiscard, viewStart}
 use Rattle.joint.proofs.safety.Tables.{Stage, isUp, stableKinds, has}
-use Rattle.joint.proofs.safety.Invariant.{Standing, entry, stageOf, sentIn, Member, Place, Inv}
+use Rattle.joint.proofs.safety.Invariant.{Standing, recordFor, stageOf, sentIn, Member, Place, Inv}
 use Rattle.joint.proofs.safety.participant.Rows.{ofStatus, effects, settled, woken, dropped, heard, lands, rowTest, onRow, step-at, restart-at, force-at, crash-at, discard-at}
 use Rattle.joint.proofs.safety.participant.Local.{holds-kinds, Elsewhere, AllProper, reach-phase, reach-force, reach-down, reach-started, reach-woken, reach-dropped}
 use Rattle.joint.proofs.safety.participant.Places.{isMember, only-at, from-member, member-after, member-carried, from-stranger, stranger-after, take-none, stranger-carried}
@@ -121,7 +121,7 @@ module _ {t : ℕ} {m : Stage} {n : ℕ} {v : View} (x : Member t m n v) where
 
   discard-passed : Up v (suc n) → newest closes (v .site (suc n) .stable) ≡ true → T (lands habit timer (x .status) (dropped (ofStatus (x .status))))
   discard-passed u e =
-      mp (newest closes (map (entry (v .transaction .cohort) t (suc n)) (stableKinds (x .status)))) _
+      mp (newest closes (map (recordFor (v .transaction .cohort) t (suc n)) (stableKinds (x .status)))) _
       (mp (isUp (x .status)) _ (discard-at (v .transaction .cohort) t (suc n) habit (x .status)) (of-true (is-up u)))
       (of-true (sym (ap (λ (z : Site). newest closes (z .stable)) (x .site)) ∙ e))
 

@@ -20,7 +20,7 @@ use Rattle.joint.specs.Plan.{closes, newest}
 use Rattle.joint.proofs.Booleans.{_⇒_, mp}
 use Rattle.joint.proofs.safety.Tables.{Status, working, prepared, gone, half, lone, shut, off, offVoted, offShut, isUp, phaseOf, stableKinds, unforcedKinds, has, Stage, fits, may, mayEnter}
 use Rattle.joint.proofs.safety.Finite.{allBool, at-bool, allOutcome, allPresumption, at-presumption, allStatus, at-status, allStage, at-stage, allMessage, at-message}
-use Rattle.joint.proofs.safety.Invariant.{entry}
+use Rattle.joint.proofs.safety.Invariant.{recordFor}
 use Rattle.joint.proofs.Moments.{any-found}
 
 -- ---- a participant, by kinds
@@ -240,7 +240,7 @@ crash-at c s k = cut-at c timer s (ofStatus s) (at-status (crashTest c) (at-pres
 
 module _ (g : Cohort) (t p : ℕ) where
   abbrev discardTest : Presumption → Status → Bool
-  discardTest c s = isUp s ⇒ newest closes (map (entry g t p) (stableKinds s)) ⇒ lands c timer s (dropped (ofStatus s))
+  discardTest c s = isUp s ⇒ newest closes (map (recordFor g t p) (stableKinds s)) ⇒ lands c timer s (dropped (ofStatus s))
 
   discard-passes : T (allPresumption (λ c. allStatus (discardTest c)))
   unfolding codec-opens site-opens has newest closes
