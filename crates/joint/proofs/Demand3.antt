@@ -129,7 +129,7 @@ isUnknown Coordinator.unknown = true
 
 resting-only : {t : ℕ} {v : View} (h : Standing) → Inv t h v → (p : ℕ) → T (member p (cohortOf v .members)) → v .site 0 .up ≡ true
     → v .transaction .coordinator ≡ Coordinator.unknown → Resting h
-resting-only {v} (never u) inv p m up c = absurd (empty-none (cohortOf v .members) p (of-true (sym (inv .mid .opened))) m)
+resting-only {v} (never u) inv p m up c = absurd (empty-none (cohortOf v .members) p (of-true (sym (inv .mid .sound .opened))) m)
 resting-only (initial b) inv p m up c = absurd (true≢false (sym (ap isUnknown (sym (inv .phase) ∙ c))))
 resting-only (collecting w b) inv p m up c = absurd (true≢false (sym (ap isUnknown (sym (inv .phase) ∙ c))))
 resting-only (decided o (waiting w) l) inv p m up c = absurd (true≢false (sym (ap isUnknown (sym (inv .phase) ∙ c))))

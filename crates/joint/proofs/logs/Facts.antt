@@ -157,7 +157,7 @@ module _ (ms : List Moment) (r : Run) (inv : (t : ℕ) → (h : Standing) × Inv
   pub set-ranged : (t : ℕ)
       → waitingInRange (cohortIn r t) (coordinatorPhase (r .transaction t .coordinator)) (waitingSet (r .transaction t .coordinator)) ≡ true
   unfolding view
-  set-ranged t = rw (inv t .1 .phase) (standing-waits (cohortIn r t) (inv t .0) (inv t .1 .mid .sets) (inv t .1 .whole))
+  set-ranged t = rw (inv t .1 .phase) (standing-waits (cohortIn r t) (inv t .0) (inv t .1 .mid .sound .sets) (inv t .1 .whole))
 
   module _ (s : ℕ) where
     abbrev log : List LogRecord

@@ -139,7 +139,7 @@ not-empty m p e = go (empty m) refl
 module _ (t : ℕ) (ms : List Moment) (r : Run) (h : Standing) (mid : Mid t h (view t ms r)) where
   known-as : (s : ℕ) → empty (cohortIn r t .members) ≡ false → takesPart r t s ≡ true → Known r t s
   unfolding view opened
-  known-as s e k = record { number = mid .number e; opens = ap not e; takes = k }
+  known-as s e k = record { number = mid .sound .number e; opens = ap not e; takes = k }
 
   kinds-0 : Kinds r t 0
   unfolding view siteView
@@ -149,12 +149,12 @@ module _ (t : ℕ) (ms : List Moment) (r : Run) (h : Standing) (mid : Mid t h (v
         unforced = unforcedAt h;
         is-stable = ap (λ (x : Site). x .stable) (mid .log);
         is-unforced = ap (λ (x : Site). x .unforced) (mid .log);
-        tidies = standing-tidy (cohortIn r t) h (mid .fit) (mid .sets) (mid .proper);
+        tidies = standing-tidy (cohortIn r t) h (mid .sound .fit) (mid .sound .sets) (mid .sound .proper);
         known = go (empty (cohortIn r t .members)) refl;
       }
     where
       go : (b : Bool) → empty (cohortIn r t .members) ≡ b → (stableAt (writesInit (cohortIn r t)) h ++ unforcedAt h ≡ []) ⊎ Known r t 0
-      go true e = inl (never-none (writesInit (cohortIn r t)) h (mid .opened ∙ e))
+      go true e = inl (never-none (writesInit (cohortIn r t)) h (mid .sound .opened ∙ e))
       go false e = inr (known-as 0 e (unfold takesPart in refl))
 
   kinds-n : (n : ℕ) → Kinds r t (suc n)
@@ -183,7 +183,7 @@ module _ (t : ℕ) (ms : List Moment) (r : Run) (h : Standing) (mid : Mid t h (v
   unfolding view opened empty
   opened-ranged e =
       let some : empty (cohortIn r t .members) ≡ false = not-true _ e in
-      (mid .number some, record { some = positive (cohortIn r t .members) (eqb-false (cohortIn r t .members) 0 some); byte = mid .byte; part = mid .part })
+      (mid .sound .number some, record { some = positive (cohortIn r t .members) (eqb-false (cohortIn r t .members) 0 some); byte = mid .sound .byte; part = mid .sound .part })
     where
       positive : (m : ℕ) → (m ≡ 0 → ⊥) → 1 ≤ m
       positive zero k = absurd (k refl)

@@ -13,7 +13,6 @@ use Rattle.site.specs.Step.{Message, messageKind}
 use Rattle.site.specs.Coordinator.{Coordinator, endRecord}
 use Rattle.joint.specs.State.{Site}
 use Rattle.joint.proofs.view.View.{View}
-use Rattle.joint.proofs.view.Turn.{Opened}
 use Rattle.joint.proofs.safety.Tables.{Status, isUp, phaseOf, stableKinds, unforcedKinds, has, Stage, fresh, asking, done, Fine}
 
 -- ---- the coordinator
@@ -229,21 +228,35 @@ Place false t m n v = Stranger n v
 
 -- ---- the invariant, but for the coordinator's phase: it holds in the middle of a row too
 
+-- of the cohort and the coordinator's standing
+pub record Sound (t : ℕ) (g : Cohort) (h : Standing) : Type 0 where
+  -- an opened transaction is one of 0 to 7, its members are a byte, and PC is a part of them
+  pub number : empty (g .members) ≡ false → t < 8
+  pub byte : g .members < 256
+  pub part : part (g .presumeCommit) (g .members) ≡ true
+  -- it stands as `never` exactly if it is not opened
+  pub opened : isNever h ≡ empty (g .members)
+  -- the stable records let restart resume what is waited for, and tell no other outcome
+  pub fit : T (standingFits (writesInit g) h)
+  -- records 1 and 3 stand only where they are called for
+  pub proper : T (properLog (writesInit g) (awaitsCommit g) h)
+  -- only members are waited for, and only those that owe an ack
+  pub sets : SetsFit g h
+
 pub record Mid (t : ℕ) (h : Standing) (v : View) : Type 0 where
-  pub number : Opened v → t < 8
-  pub byte : v .transaction .cohort .members < 256
-  pub part : part (v .transaction .cohort .presumeCommit) (v .transaction .cohort .members) ≡ true
-  pub opened : isNever h ≡ empty (v .transaction .cohort .members)
+  pub sound : Sound t (v .transaction .cohort) h
+  -- the coordinator is up or down, and has the records, as its standing says
   pub log : v .site 0 ≡ siteWith (v .transaction .cohort) t 0 (standingUp h) (stableAt (writesInit (v .transaction .cohort)) h) (unforcedAt h)
-  pub fit : T (standingFits (writesInit (v .transaction .cohort)) h)
-  pub proper : T (properLog (writesInit (v .transaction .cohort)) (awaitsCommit (v .transaction .cohort)) h)
-  pub sets : SetsFit (v .transaction .cohort) h
+  -- it has entered nothing but what is decided
   pub entries : (o : Outcome) → T (v .entered 0 o) → T (hasDecided h o)
+  -- each member is fine, and nothing has happened at anyone else
   pub places : (n : ℕ) → Place (member (suc n) (v .transaction .cohort .members)) t (stageOf h (suc n)) n v
 
 -- ---- the invariant between events
 
 pub record Inv (t : ℕ) (h : Standing) (v : View) : Type 0 where
   pub mid : Mid t h v
+  -- the phase is that of the standing
   pub phase : v .transaction .coordinator ≡ coordinatorAt h
+  -- no row is half done, and a set that is waited for is not empty
   pub whole : T (between h)

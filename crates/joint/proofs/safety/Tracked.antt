@@ -40,7 +40,7 @@ module _ (t : ℕ) where
 
   small : (es : List (List ℕ)) (h : Standing) → Inv t h (seenAfter es) → opened (after fresh es) t ≡ true → t < 8
   unfolding view opened
-  small es h inv e = inv .mid .number (is-false (empty (after fresh es .transaction t .cohort .members)) e)
+  small es h inv e = inv .mid .sound .number (is-false (empty (after fresh es .transaction t .cohort .members)) e)
     where
       is-false : (b : Bool) → not b ≡ true → b ≡ false
       is-false true q = absurd (true≢false (sym q))
@@ -61,10 +61,10 @@ module _ (t : ℕ) where
       go true k = unfold has any in k
       go false k = unfold has any in k
   record-decided {v} (decided o (waiting w) l) mid r =
-      commit-record (writesInit (cohortOf v)) o l r (waiting-down (writesInit (cohortOf v)) o l w (mid .fit))
+      commit-record (writesInit (cohortOf v)) o l r (waiting-down (writesInit (cohortOf v)) o l w (mid .sound .fit))
   record-decided {v} (decided o (resting b) l) mid r =
-      commit-record (writesInit (cohortOf v)) o l r (resting-down (writesInit (cohortOf v)) o l b (mid .fit))
-  record-decided {v} (decided o down l) mid r = commit-record (writesInit (cohortOf v)) o l r (mid .fit)
+      commit-record (writesInit (cohortOf v)) o l r (resting-down (writesInit (cohortOf v)) o l b (mid .sound .fit))
+  record-decided {v} (decided o down l) mid r = commit-record (writesInit (cohortOf v)) o l r (mid .sound .fit)
 
   -- the run's record 2, and that of the standing
   record-stands : (es : List (List ℕ)) (h : Standing) → Inv t h (seenAfter es)
@@ -119,14 +119,8 @@ module _ (t : ℕ) where
             record {
               mid =
                   record {
-                    number = λ e. absurd (true≢false e);
-                    byte = omega arith;
-                    part = part-none;
-                    opened = refl;
+                    sound = record { number = λ e. absurd (true≢false e); byte = omega arith; part = part-none; opened = refl; fit = tt; proper = tt; sets = tt };
                     log = refl;
-                    fit = tt;
-                    proper = tt;
-                    sets = tt;
                     entries = λ o k. k;
                     places = λ n. subst (λ (b : Bool). Place b t Stage.fresh n (seenAfter [])) (sym (none-in-0 (suc n))) (record { stable = refl; unforced = refl; sent = λ m. refl; entered = λ o. refl });
                   };

@@ -68,10 +68,10 @@ module _ (t : ℕ) (h0 : Standing) (v : View) where
       (writes t h0 v (subst T (sym e) tt)) refl
       (λ y.
       force-run t h0 (map (send prepare) (inTurn (cohortOf v .members))) (collecting (cohortOf v .members) false) y
-      (begins t h0 (viewPerform 0 t firstRecord v) true (x .mid .byte)) (rw e refl)
+      (begins t h0 (viewPerform 0 t firstRecord v) true (x .mid .sound .byte)) (rw e refl)
       (λ z. rw append-nil at (asks t h0 (viewPerform 0 t force (viewPerform 0 t firstRecord v)) z)))
   begin-run false e x =
-      rw append-nil at (asks t h0 v (node-stay t h0 x (begins t h0 v false (x .mid .byte)) (rw e refl)))
+      rw append-nil at (asks t h0 v (node-stay t h0 x (begins t h0 v false (x .mid .sound .byte)) (rw e refl)))
 
 -- ---- a Yes of p is counted
 
@@ -87,8 +87,8 @@ module _ (t : ℕ) (h0 : Standing) (v : View) where
           never = refl;
           fit = tt;
           proper = tt;
-          sets = (those-below (λ q. member q w && not (eqb q p)), without-part p w members (mid .sets .1));
-          passing = λ n m. rw (member-those (λ q. member q w && not (eqb q p)) n members (mid .byte) m)
+          sets = (those-below (λ q. member q w && not (eqb q p)), without-part p w members (mid .sound .sets .1));
+          passing = λ n m. rw (member-those (λ q. member q w && not (eqb q p)) n members (mid .sound .byte) m)
               (way-count v n (member (suc n) w) (eqb (suc n) p) (λ e. subst (λ (q : ℕ). T (sentIn v q voteYes)) (sym (eqb-true (suc n) p (true-of _ e))) y));
         };
         from = undecided t h0 v (λ o k. k) (λ k. k);
@@ -121,8 +121,8 @@ module _ (t : ℕ) (h0 : Standing) (v : View) where
           proper = commit-proper (writesInit (cohortOf v)) (awaitsCommit (cohortOf v));
           sets = (those-below _, λ p m. m);
           passing = λ n m.
-              way-commit v n (member (suc n) w) (member (suc n) (owing (cohortOf v) commit)) (not-true (member (suc n) w) (mid .sets (suc n)))
-              (subst T (sym (member-owing (cohortOf v) commit n (mid .byte) m)));
+              way-commit v n (member (suc n) w) (member (suc n) (owing (cohortOf v) commit)) (not-true (member (suc n) w) (mid .sound .sets (suc n)))
+              (subst T (sym (member-owing (cohortOf v) commit n (mid .sound .byte) m)));
         };
         from = λ x. from-none x (λ o k. k) (λ k. commit-has (writesInit (cohortOf v)));
       }
@@ -161,8 +161,8 @@ module _ (t : ℕ) (h0 : Standing) where
         move =
             record {
               never = refl;
-              fit = end-unwritten (writesInit (cohortOf v)) o l w (mid .fit);
-              proper = mid .proper;
+              fit = end-unwritten (writesInit (cohortOf v)) o l w (mid .sound .fit);
+              proper = mid .sound .proper;
               sets = tt;
               passing = λ n m. rw (is-false (member (suc n) w) (empty-none w (suc n) e)) (way-done v n o true);
             };

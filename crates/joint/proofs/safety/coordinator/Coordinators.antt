@@ -96,7 +96,7 @@ module _ (t : ℕ) (v w : View) (row : Row Coordinator) where
     unfolding without
     no-next p n e d =
         abort-next (without p (g .members)) (without-part p (g .members) (g .members) (λ q k. k))
-        (λ k m u. subst (λ (q : ℕ). T (sentIn v q voteNo)) (sym (eqb-true (suc k) p (left-out (eqb (suc k) p) (subst (λ (b : Bool). T (not b)) (member-those (λ q. member q (g .members) && not (eqb q p)) k (g .members) (mid .byte) m ∙ ap (λ (b : Bool). b && not (eqb (suc k) p)) (true-of (member (suc k) (g .members)) m)) u)))) n) e d
+        (λ k m u. subst (λ (q : ℕ). T (sentIn v q voteNo)) (sym (eqb-true (suc k) p (left-out (eqb (suc k) p) (subst (λ (b : Bool). T (not b)) (member-those (λ q. member q (g .members) && not (eqb q p)) k (g .members) (mid .sound .byte) m ∙ ap (λ (b : Bool). b && not (eqb (suc k) p)) (true-of (member (suc k) (g .members)) m)) u)))) n) e d
       where
         left-out : (b : Bool) → T (not (true && not b)) → b ≡ true
         left-out true k = refl
@@ -121,22 +121,22 @@ module _ (t : ℕ) (v w : View) (row : Row Coordinator) where
     -- those waited for are members
     waits-part : (q : ℕ) → T (member q c) → T (member q (g .members))
     waits-part zero k = absurd (no-zero c k)
-    waits-part (suc n) k = owing-member g o n (mid .sets .1 (suc n) k) .0
+    waits-part (suc n) k = owing-member g o n (mid .sound .sets .1 (suc n) k) .0
 
     -- someone owes an ack of the outcome
     owed : (n : ℕ) → T (member (suc n) c) → T (member (suc n) (owing g o))
-    owed n k = mid .sets .1 (suc n) k
+    owed n k = mid .sound .sets .1 (suc n) k
 
     init-written : (d : Outcome) → o ≡ d → T (writesInit g || sameOutcome d commit)
     unfolding sameOutcome
     init-written commit e = or-right (writesInit g) true tt
     init-written abort e =
         or-left (writesInit g) false
-        (not-empty c (g .presumeCommit) (mid .sets .0) some-left (λ n k. owes-abort g n (subst (λ (x : Outcome). T (member (suc n) (owing g x))) e (owed n k))))
+        (not-empty c (g .presumeCommit) (mid .sound .sets .0) some-left (λ n k. owes-abort g n (subst (λ (x : Outcome). T (member (suc n) (owing g x))) e (owed n k))))
 
     acks-owed : (d : Outcome) → o ≡ d → SetsFit g (decided d (resting true) l)
     acks-owed commit e =
-        not-empty c (owing g commit) (mid .sets .0) some-left (λ n k. subst (λ (x : Outcome). T (member (suc n) (owing g x))) e (owed n k))
+        not-empty c (owing g commit) (mid .sound .sets .0) some-left (λ n k. subst (λ (x : Outcome). T (member (suc n) (owing g x))) e (owed n k))
     acks-owed abort e = tt
 
     heard-next : (p : ℕ) → T (sentIn v p (ack o)) → (b : Bool) → empty (without p c) ≡ b → some (acked o b (without p c)) ≡ some row → Done → Next t here w
@@ -197,7 +197,7 @@ module _ (t : ℕ) (v w : View) (row : Row Coordinator) where
 
   phase-next : (h : Standing) → Mid t h v → T (between h) → Opened v → Up v 0 → (i : Input) → Given v i
       → coordinatorStep g i (coordinatorAt h) ≡ some row → Done → Next t h w
-  phase-next (never u) mid b o up i k e d = absurd (true≢false (mid .opened ∙ o))
+  phase-next (never u) mid b o up i k e d = absurd (true≢false (mid .sound .opened ∙ o))
   phase-next (initial true) mid b o up i k e d = absurd b
   phase-next (initial false) mid b o up i k e d = initial-next mid o i e d
   phase-next (collecting c true) mid b o up i k e d = absurd b

@@ -156,21 +156,21 @@ module _ (t : ℕ) (v : View) where
   crash-next (initial false) mid k = lost mid k (from-initial false l0 tt (none-proper i a)) (stopped-none (cohortOf v) t true k []) refl tt
   crash-next (initial true) mid zero = lost mid 0 (from-initial true l0 tt (none-proper i a)) (stopped-lost (cohortOf v) t true [] (1 ∷ [])) refl tt
   crash-next (initial true) mid (suc k) =
-      lost mid (suc k) (from-initial true l1 (unfold sameOutcome in tt) (first-proper i a (mid .fit)))
+      lost mid (suc k) (from-initial true l1 (unfold sameOutcome in tt) (first-proper i a (mid .sound .fit)))
       (stopped-kept (cohortOf v) t true k [] (1 ∷ []) 1 refl) refl tt
   crash-next (collecting w false) mid k = lost mid k (from-collecting w false) (stopped-none (cohortOf v) t true k (kindsIn (initLog i))) refl tt
   crash-next (collecting w true) mid zero = lost mid 0 (from-collecting w true) (stopped-lost (cohortOf v) t true (kindsIn (initLog i)) (2 ∷ [])) refl tt
   crash-next (collecting w true) mid (suc k) =
-      lost mid (suc k) (from-marked w (mid .sets)) (stopped-kept (cohortOf v) t true k (kindsIn (initLog i)) (kindsIn (commitLog i)) 2 (commit-kinds i)) refl tt
-  crash-next (decided o (waiting w) l) mid k = lost mid k (waits o w l (mid .fit) (mid .proper)) (stopped-none (cohortOf v) t true k (kindsIn l)) refl tt
+      lost mid (suc k) (from-marked w (mid .sound .sets)) (stopped-kept (cohortOf v) t true k (kindsIn (initLog i)) (kindsIn (commitLog i)) 2 (commit-kinds i)) refl tt
+  crash-next (decided o (waiting w) l) mid k = lost mid k (waits o w l (mid .sound .fit) (mid .sound .proper)) (stopped-none (cohortOf v) t true k (kindsIn l)) refl tt
   crash-next (decided o (resting false) l) mid k =
-      lost mid k (rests o false l l (resting-down i o l false (mid .fit)) (mid .proper) (λ x. x)) (stopped-none (cohortOf v) t true k (kindsIn l)) refl tt
+      lost mid k (rests o false l l (resting-down i o l false (mid .sound .fit)) (mid .sound .proper) (λ x. x)) (stopped-none (cohortOf v) t true k (kindsIn l)) refl tt
   crash-next (decided o (resting true) l) mid zero =
-      lost mid 0 (rests o true l l (resting-down i o l true (mid .fit)) (mid .proper) (λ x. x)) (stopped-lost (cohortOf v) t true (kindsIn l) (endRecord o ∷ [])) refl tt
+      lost mid 0 (rests o true l l (resting-down i o l true (mid .sound .fit)) (mid .sound .proper) (λ x. x)) (stopped-lost (cohortOf v) t true (kindsIn l) (endRecord o ∷ [])) refl tt
   crash-next (decided o (resting true) l) mid (suc k) =
-      lost mid (suc k) (rests o true l (closed l) (resting-down i o (closed l) false (closed-fits i o l (mid .fit))) (closed-proper i a o l (mid .fit) (may-close (cohortOf v) o l (mid .sets)) (mid .proper)) (closed-has l))
-      (stopped-kept (cohortOf v) t true k (kindsIn l) (kindsIn (closed l)) (endRecord o) (closed-kinds i o l (mid .fit))) refl tt
+      lost mid (suc k) (rests o true l (closed l) (resting-down i o (closed l) false (closed-fits i o l (mid .sound .fit))) (closed-proper i a o l (mid .sound .fit) (may-close (cohortOf v) o l (mid .sound .sets)) (mid .sound .proper)) (closed-has l))
+      (stopped-kept (cohortOf v) t true k (kindsIn l) (kindsIn (closed l)) (endRecord o) (closed-kinds i o l (mid .sound .fit))) refl tt
   crash-next (decided o down l) mid k =
       lost {h′ =
-      decided o down l} mid k (record { move = record { never = refl; fit = mid .fit; proper = mid .proper; sets = tt; passing = λ n m. way-self v n (done o (not (resumed (classOf l)))) }; from = λ h0 f. f }) (stopped-none
+      decided o down l} mid k (record { move = record { never = refl; fit = mid .sound .fit; proper = mid .sound .proper; sets = tt; passing = λ n m. way-self v n (done o (not (resumed (classOf l)))) }; from = λ h0 f. f }) (stopped-none
       (cohortOf v) t false k (kindsIn l)) refl tt

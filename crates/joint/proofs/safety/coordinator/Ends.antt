@@ -47,7 +47,7 @@ module _ (t : ℕ) (h0 : Standing) (v : View) where
           sets = (those-below inBoth, part);
           passing = λ n m.
               way-abort v n (member (suc n) w) (member (suc n) to) (member (suc n) (awaited cohort to))
-              (λ t a. subst T (sym (member-those inBoth n (cohort .members) (mid .byte) m)) (and-both (member (suc n) to) (member (suc n) (owing cohort abort)) t (subst T (sym (member-owing cohort abort n (mid .byte) m)) a)))
+              (λ t a. subst T (sym (member-those inBoth n (cohort .members) (mid .sound .byte) m)) (and-both (member (suc n) to) (member (suc n) (owing cohort abort)) t (subst T (sym (member-owing cohort abort n (mid .sound .byte) m)) a)))
               (said n m);
         };
         from = λ x. from-none x (λ o k. k) (λ k. absurd k);
@@ -90,8 +90,8 @@ module _ (t : ℕ) (h0 : Standing) where
         move =
             record {
               never = refl;
-              fit = end-written (writesInit (cohortOf v)) o l w i (mid .fit);
-              proper = mid .proper;
+              fit = end-written (writesInit (cohortOf v)) o l w i (mid .sound .fit);
+              proper = mid .sound .proper;
               sets = s;
               passing = λ n m. rw (is-false (member (suc n) w) (empty-none w (suc n) e)) (way-done v n o true);
             };
@@ -138,11 +138,11 @@ module _ (t : ℕ) (h0 : Standing) where
       record {
         move = record {
           never = refl;
-          fit = mid .fit;
-          proper = mid .proper;
-          sets = (those-below (λ q. member q w && not (eqb q p)), without-part p w (owing (cohortOf v) o) (mid .sets .1));
+          fit = mid .sound .fit;
+          proper = mid .sound .proper;
+          sets = (those-below (λ q. member q w && not (eqb q p)), without-part p w (owing (cohortOf v) o) (mid .sound .sets .1));
           passing = λ n m.
-              rw (member-those (λ q. member q w && not (eqb q p)) n (cohortOf v .members) (mid .byte) m)
+              rw (member-those (λ q. member q w && not (eqb q p)) n (cohortOf v .members) (mid .sound .byte) m)
               (way-hear v n o (member (suc n) w) (eqb (suc n) p) (λ e. subst (λ (q : ℕ). T (sentIn v q (ack o))) (sym (eqb-true (suc n) p (true-of _ e))) a));
         };
         from = λ x. from-same (writesInit (cohortOf v)) o (waiting w) (waiting (without p w)) l l x (λ k. k);

@@ -24,9 +24,9 @@ use Rattle.joint.proofs.safety.coordinator.Wakes.{After}
 by-never {ℓ} : {t : ℕ} {v : View} (P : Standing → Type ℓ) → empty (cohortOf v .members) ≡ true → ((u : Bool) → Inv t (never u) v → P (never u))
     → (h : Standing) → Inv t h v → P h
 by-never P e f (never u) inv = f u inv
-by-never P e f (initial b) inv = absurd (true≢false (sym (inv .mid .opened ∙ e)))
-by-never P e f (collecting w b) inv = absurd (true≢false (sym (inv .mid .opened ∙ e)))
-by-never P e f (decided o p l) inv = absurd (true≢false (sym (inv .mid .opened ∙ e)))
+by-never P e f (initial b) inv = absurd (true≢false (sym (inv .mid .sound .opened ∙ e)))
+by-never P e f (collecting w b) inv = absurd (true≢false (sym (inv .mid .sound .opened ∙ e)))
+by-never P e f (decided o p l) inv = absurd (true≢false (sym (inv .mid .sound .opened ∙ e)))
 
 -- nobody is a member of it
 stranger : {t : ℕ} {v : View} {h : Standing} → Inv t h v → empty (cohortOf v .members) ≡ true → (n : ℕ) → Stranger n v
@@ -85,14 +85,8 @@ module _ (t : ℕ) (v : View) (g : Cohort) where
             record {
               mid =
                   record {
-                    number = λ k. small;
-                    byte = byte;
-                    part = parts;
-                    opened = sym some;
+                    sound = record { number = λ k. small; byte = byte; part = parts; opened = sym some; fit = tt; proper = tt; sets = tt };
                     log = bare-site (v .site 0) up (ap (λ (s : Site). s .stable) (inv .mid .log)) (ap (λ (s : Site). s .unforced) (inv .mid .log));
-                    fit = tt;
-                    proper = tt;
-                    sets = tt;
                     entries = λ o k. inv .mid .entries o k;
                     places = λ n. new-place n (member (suc n) (g .members)) refl (ups n) (stranger inv none n);
                   };

@@ -38,11 +38,11 @@ module _ (t : ℕ) (h0 : Standing) where
       record {
         move = record {
           never = refl;
-          fit = resumed-waiting (writesInit (cohortOf v)) o l (owing (cohortOf v) o) r (mid .fit);
-          proper = mid .proper;
+          fit = resumed-waiting (writesInit (cohortOf v)) o l (owing (cohortOf v) o) r (mid .sound .fit);
+          proper = mid .sound .proper;
           sets = (those-below _, λ p k. k);
           passing = λ n m.
-              way-resume v n o (not (resumed (classOf l))) (member (suc n) (owing (cohortOf v) o)) (subst T (sym (member-owing (cohortOf v) o n (mid .byte) m)));
+              way-resume v n o (not (resumed (classOf l))) (member (suc n) (owing (cohortOf v) o)) (subst T (sym (member-owing (cohortOf v) o n (mid .sound .byte) m)));
         };
         from = λ x. from-same (writesInit (cohortOf v)) o down (waiting (owing (cohortOf v) o)) l l x (λ k. k);
       }
@@ -53,12 +53,12 @@ module _ (t : ℕ) (h0 : Standing) where
       record {
         move = record {
           never = refl;
-          fit = down-resting (writesInit (cohortOf v)) o l (mid .fit);
-          proper = mid .proper;
+          fit = down-resting (writesInit (cohortOf v)) o l (mid .sound .fit);
+          proper = mid .sound .proper;
           sets = tt;
           passing = λ n m.
               way-resume v n o (not (resumed (classOf l))) false
-              (λ a. empty-none (owing (cohortOf v) o) (suc n) e (subst T (sym (member-owing (cohortOf v) o n (mid .byte) m)) a));
+              (λ a. empty-none (owing (cohortOf v) o) (suc n) e (subst T (sym (member-owing (cohortOf v) o n (mid .sound .byte) m)) a));
         };
         from = λ x. from-same (writesInit (cohortOf v)) o down (resting false) l l x (λ k. k);
       }
@@ -70,8 +70,8 @@ module _ (t : ℕ) (h0 : Standing) where
         move =
             record {
               never = refl;
-              fit = down-resting (writesInit (cohortOf v)) o l (mid .fit);
-              proper = mid .proper;
+              fit = down-resting (writesInit (cohortOf v)) o l (mid .sound .fit);
+              proper = mid .sound .proper;
               sets = tt;
               passing = λ n m. rw e (way-done v n o true);
             };
@@ -170,12 +170,12 @@ module _ (t : ℕ) (v w : View) where
       → coordinatorRestart (cohortOf v) (λ k. holds t k (v .site 0 .stable)) ≡ restartFrom (cohortOf v) (sameOutcome o commit && resumed (classOf l)) (sameOutcome o abort && resumed (classOf l))
   unfolding coordinatorRestart
   restart-row o l mid =
-      rw (kinds-asked o l mid 1, kinds-asked o l mid 2, kinds-asked o l mid 3, kinds-asked o l mid 4, resumes-commit (writesInit (cohortOf v)) o l (mid .fit), resumes-abort (writesInit (cohortOf v)) o l (mid .fit)) refl
+      rw (kinds-asked o l mid 1, kinds-asked o l mid 2, kinds-asked o l mid 3, kinds-asked o l mid 4, resumes-commit (writesInit (cohortOf v)) o l (mid .sound .fit), resumes-abort (writesInit (cohortOf v)) o l (mid .sound .fit)) refl
 
   pub resume-after : (h : Standing) → Inv t h v → Opened v → v .site 0 .up ≡ false → {row : Row Coordinator}
       → coordinatorRestart (cohortOf v) (λ k. holds t k (v .site 0 .stable)) ≡ row
       → Woken row → After t h w
-  resume-after (never u) inv o up e d = absurd (true≢false (inv .mid .opened ∙ o))
+  resume-after (never u) inv o up e d = absurd (true≢false (inv .mid .sound .opened ∙ o))
   resume-after (initial b) inv o up e d = absurd (true≢false (sym (ap (λ (s : Site). s .up) (inv .mid .log)) ∙ up))
   resume-after (collecting c b) inv o up e d = absurd (true≢false (sym (ap (λ (s : Site). s .up) (inv .mid .log)) ∙ up))
   resume-after (decided x (waiting c) l) inv o up e d = absurd (true≢false (sym (ap (λ (s : Site). s .up) (inv .mid .log)) ∙ up))

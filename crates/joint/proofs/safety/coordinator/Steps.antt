@@ -17,7 +17,7 @@ use Rattle.joint.proofs.view.Updates.{update-other}
 use Rattle.joint.proofs.view.View.{View, viewAt, viewSettle, viewPerform}
 use Rattle.joint.proofs.safety.Tables.{Status, has, Stage, Fine, passes, acked, maySend}
 use Rattle.joint.proofs.safety.coordinator.Passes.{pass-fine, send-fine}
-use Rattle.joint.proofs.safety.Invariant.{Standing, never, stageOf, hasDecided, standingFits, properLog, awaitsCommit, SetsFit, writesInit, standingUp, stableAt, unforcedAt, isNever, siteWith, sentIn, Member, Stranger, Place, Mid}
+use Rattle.joint.proofs.safety.Invariant.{Standing, never, stageOf, hasDecided, standingFits, properLog, awaitsCommit, SetsFit, writesInit, standingUp, stableAt, unforcedAt, isNever, siteWith, sentIn, Member, Stranger, Place, Sound, Mid}
 
 -- ---- what changes of the standing are allowed
 
@@ -131,18 +131,24 @@ module _ {t : ℕ} {v : View} {h : Standing} (mid : Mid t h v) where
   abbrev isMember : ℕ → Bool
   isMember n = member (suc n) (cohortOf v .members)
 
+  sound-as : {h′ : Standing} → Move v h h′ → Sound t (cohortOf v) h′
+  sound-as x =
+      record {
+        number = mid .sound .number;
+        byte = mid .sound .byte;
+        part = mid .sound .part;
+        opened = x .never ∙ mid .sound .opened;
+        fit = x .fit;
+        proper = x .proper;
+        sets = x .sets;
+      }
+
   -- without an effect
   pub stay : {h′ : Standing} → Move v h h′ → Keeps h h′ → standsAs t v h ≡ standsAs t v h′ → Mid t h′ v
   stay {h′} x keeps e =
       record {
-        number = mid .number;
-        byte = mid .byte;
-        part = mid .part;
-        opened = x .never ∙ mid .opened;
+        sound = sound-as x;
         log = mid .log ∙ e;
-        fit = x .fit;
-        proper = x .proper;
-        sets = x .sets;
         entries = λ o u. keeps o (mid .entries o u);
         places = λ n. place-map t n (stageOf h (suc n)) (stageOf h′ (suc n)) v v (isMember n) (λ b. member-pass (stageOf h′ (suc n)) (x .passing n b)) (λ b s. s) (mid .places n);
       }
@@ -152,14 +158,8 @@ module _ {t : ℕ} {v : View} {h : Standing} (mid : Mid t h v) where
   unfolding viewAt update
   stand {h′} x keeps k e =
       record {
-        number = mid .number;
-        byte = mid .byte;
-        part = mid .part;
-        opened = x .never ∙ mid .opened;
+        sound = sound-as x;
         log = ap k (mid .log) ∙ e;
-        fit = x .fit;
-        proper = x .proper;
-        sets = x .sets;
         entries = λ o u. keeps o (mid .entries o u);
         places = λ n. place-map t n (stageOf h (suc n)) (stageOf h′ (suc n)) v (viewAt 0 k v) (isMember n) (λ b y. member-beside k (member-pass (stageOf h′ (suc n)) (x .passing n b) y)) (λ b. stranger-beside k) (mid .places n);
       }
@@ -168,14 +168,8 @@ module _ {t : ℕ} {v : View} {h : Standing} (mid : Mid t h v) where
   unfolding viewSettle withCoordinator
   settle-mid c =
       record {
-        number = mid .number;
-        byte = mid .byte;
-        part = mid .part;
-        opened = mid .opened;
+        sound = mid .sound;
         log = mid .log;
-        fit = mid .fit;
-        proper = mid .proper;
-        sets = mid .sets;
         entries = mid .entries;
         places = λ n. place-map t n (stageOf h (suc n)) (stageOf h (suc n)) v (viewSettle (withCoordinator c) v) (isMember n) (λ b. member-settle c) (λ b. stranger-settle c) (mid .places n);
       }
@@ -186,14 +180,8 @@ module _ {t : ℕ} {v : View} {h : Standing} (mid : Mid t h v) where
   unfolding viewPerform
   enter-mid o d =
       record {
-        number = mid .number;
-        byte = mid .byte;
-        part = mid .part;
-        opened = mid .opened;
+        sound = mid .sound;
         log = mid .log;
-        fit = mid .fit;
-        proper = mid .proper;
-        sets = mid .sets;
         entries = λ r u. or-either (v .entered 0 r) (sameOutcome r o) (mid .entries r) (λ k. subst (λ (z : Outcome). T (hasDecided h z)) (sym (same-outcome r o k)) d) u;
         places = λ n. place-map t n (stageOf h (suc n)) (stageOf h (suc n)) v (viewPerform 0 t (enter o) v) (isMember n) (λ b. member-entered o) (λ b. stranger-entered t o) (mid .places n);
       }
@@ -260,14 +248,8 @@ module _ {t : ℕ} {v : View} {h : Standing} (mid : Mid t h v) where
     unfolding viewPerform withSent
     send-mid =
         record {
-          number = mid .number;
-          byte = mid .byte;
-          part = mid .part;
-          opened = mid .opened;
+          sound = mid .sound;
           log = mid .log;
-          fit = mid .fit;
-          proper = mid .proper;
-          sets = mid .sets;
           entries = mid .entries;
           places = λ k. place-map t k (stageOf h (suc k)) (stageOf h (suc k)) v (viewPerform 0 t (send g (suc n)) v) (isMember k) (λ b. member-sent k) (stranger-sent k) (mid .places k);
         }

@@ -41,7 +41,7 @@ after {h} x = record { standing = x .standing; inv = x .inv; from = x .from h (f
 
 same-move : {t : ℕ} {h : Standing} {v : View} → Mid t h v → Move v h h
 same-move {h} {v} mid =
-    record { never = refl; fit = mid .fit; proper = mid .proper; sets = mid .sets; passing = λ n m. way-self v n (stageOf h (suc n)) }
+    record { never = refl; fit = mid .sound .fit; proper = mid .sound .proper; sets = mid .sound .sets; passing = λ n m. way-self v n (stageOf h (suc n)) }
 
 -- ---- force
 
@@ -72,8 +72,8 @@ module _ (t : ℕ) (v : View) where
   ended o l mid =
       record {
         never = refl;
-        fit = closed-fits (writesInit (cohortOf v)) o l (mid .fit);
-        proper = closed-proper (writesInit (cohortOf v)) (awaitsCommit (cohortOf v)) o l (mid .fit) (may-close (cohortOf v) o l (mid .sets)) (mid .proper);
+        fit = closed-fits (writesInit (cohortOf v)) o l (mid .sound .fit);
+        proper = closed-proper (writesInit (cohortOf v)) (awaitsCommit (cohortOf v)) o l (mid .sound .fit) (may-close (cohortOf v) o l (mid .sound .sets)) (mid .sound .proper);
         sets = tt;
         passing = λ n m. way-done v n o true;
       }
@@ -88,7 +88,7 @@ module _ (t : ℕ) (v : View) where
   force-next (decided o (waiting w) l) inv = stood inv (same-move (inv .mid)) forced (forced-same true (kindsIn l)) refl (inv .whole) (λ r. refl)
   force-next (decided o (resting false) l) inv = stood inv (same-move (inv .mid)) forced (forced-same true (kindsIn l)) refl tt (λ r. refl)
   force-next (decided o (resting true) l) inv =
-      stood inv (ended o l (inv .mid)) forced (forced-kinds (cohortOf v) t true (kindsIn l) (endRecord o ∷ []) (kindsIn (closed l)) (closed-kinds (writesInit (cohortOf v)) o l (inv .mid .fit))) refl tt (λ r. refl)
+      stood inv (ended o l (inv .mid)) forced (forced-kinds (cohortOf v) t true (kindsIn l) (endRecord o ∷ []) (kindsIn (closed l)) (closed-kinds (writesInit (cohortOf v)) o l (inv .mid .sound .fit))) refl tt (λ r. refl)
   force-next (decided o down l) inv = stood inv (same-move (inv .mid)) forced (forced-same false (kindsIn l)) refl tt (λ r. refl)
 
 -- ---- discard
@@ -125,8 +125,8 @@ module _ (t : ℕ) (v : View) where
   trims o l mid =
       record {
         never = refl;
-        fit = older-fits (writesInit (cohortOf v)) o l (mid .fit);
-        proper = older-proper (writesInit (cohortOf v)) (awaitsCommit (cohortOf v)) l (mid .proper);
+        fit = older-fits (writesInit (cohortOf v)) o l (mid .sound .fit);
+        proper = older-proper (writesInit (cohortOf v)) (awaitsCommit (cohortOf v)) l (mid .sound .proper);
         sets = tt;
         passing = λ n m. way-done v n o true;
       }
@@ -134,8 +134,8 @@ module _ (t : ℕ) (v : View) where
   -- a commit whose acks are awaited, or were
   awaits : (x : Outcome) (w : ℕ) (l : Log) → Mid t (decided x (waiting w) l) v → T (not (empty w)) → T (has 2 (kindsIn l)) → T (awaitsCommit (cohortOf v))
   awaits x w l mid left r =
-      let is = same-outcome x commit (commit-record (writesInit (cohortOf v)) x l r (waiting-down (writesInit (cohortOf v)) x l w (mid .fit))) in
-      not-empty w (owing (cohortOf v) commit) (mid .sets .0) left (λ n k. subst (λ (y : Outcome). T (member (suc n) (owing (cohortOf v) y))) is (mid .sets .1 (suc n) k))
+      let is = same-outcome x commit (commit-record (writesInit (cohortOf v)) x l r (waiting-down (writesInit (cohortOf v)) x l w (mid .sound .fit))) in
+      not-empty w (owing (cohortOf v) commit) (mid .sound .sets .0) left (λ n k. subst (λ (y : Outcome). T (member (suc n) (owing (cohortOf v) y))) is (mid .sound .sets .1 (suc n) k))
 
   awaited : (x : Outcome) (l : Log) → T (sameOutcome x commit) → SetsFit (cohortOf v) (decided x (resting true) l) → T (awaitsCommit (cohortOf v))
   unfolding sameOutcome
@@ -153,15 +153,15 @@ module _ (t : ℕ) (v : View) where
 
   discard-standing : (h : Standing) → Inv t h v → Opened v → Up v 0 → Closes (stableAt (writesInit (cohortOf v)) h) → After t h (viewAt 0 trimmedView v)
   unfolding viewAt
-  discard-standing (never u) inv o up e = absurd (true≢false (inv .mid .opened ∙ o))
+  discard-standing (never u) inv o up e = absurd (true≢false (inv .mid .sound .opened ∙ o))
   discard-standing (initial b) inv o up e = absurd (not-closed (cohortOf v) t l0 tt (λ f. absurd (unfold has any in f)) e)
   discard-standing (collecting w b) inv o up e = absurd (initial-open (writesInit (cohortOf v)) e)
   discard-standing (decided x (waiting w) l) inv o up e =
-      absurd (not-closed (cohortOf v) t l (waiting-unended (writesInit (cohortOf v)) x l w (inv .mid .fit)) (awaits x w l (inv .mid) (inv .whole)) e)
+      absurd (not-closed (cohortOf v) t l (waiting-unended (writesInit (cohortOf v)) x l w (inv .mid .sound .fit)) (awaits x w l (inv .mid) (inv .whole)) e)
   discard-standing (decided x (resting true) l) inv o up e =
       absurd
-      (not-closed (cohortOf v) t l (ending-unended (writesInit (cohortOf v)) x l (inv .mid .fit))
-      (λ r. awaited x l (commit-record (writesInit (cohortOf v)) x l r (resting-down (writesInit (cohortOf v)) x l true (inv .mid .fit))) (inv .mid .sets)) e)
+      (not-closed (cohortOf v) t l (ending-unended (writesInit (cohortOf v)) x l (inv .mid .sound .fit))
+      (λ r. awaited x l (commit-record (writesInit (cohortOf v)) x l r (resting-down (writesInit (cohortOf v)) x l true (inv .mid .sound .fit))) (inv .mid .sound .sets)) e)
   discard-standing (decided x (resting false) l) inv o up e =
       record {
         standing = decided x (resting false) (older l);

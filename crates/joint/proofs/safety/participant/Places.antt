@@ -56,14 +56,8 @@ module _ {t : ℕ} {h : Standing} {v w : View} (inv : Inv t h v) (n : ℕ) where
       record {
         mid =
             record {
-              number = rw (e .cohort) (inv .mid .number);
-              byte = rw (e .cohort) (inv .mid .byte);
-              part = rw (e .cohort) (inv .mid .part);
-              opened = rw (e .cohort) (inv .mid .opened);
+              sound = rw (e .cohort) (inv .mid .sound);
               log = rw (e .cohort) (ap (λ (l : Local). l .site) (e .rest 0 none) ∙ inv .mid .log);
-              fit = rw (e .cohort) (inv .mid .fit);
-              proper = rw (e .cohort) (inv .mid .proper);
-              sets = rw (e .cohort) (inv .mid .sets);
               entries = λ o k. inv .mid .entries o (subst (λ (l : Local). T (l .entered o)) (e .rest 0 none) k);
               places = λ j. subst (λ (g : Cohort). Place (member (suc j) (g .members)) t (stageOf h (suc j)) j w) (sym (e .cohort)) (go j (eqb j n) refl);
             };
