@@ -1,5 +1,5 @@
 -- Laws of Booleans, by cases.
-use mathlib.Core.Path.{_≡_, refl}
+use mathlib.Core.Path.{_≡_, refl, sym, subst}
 use mathlib.Core.Logic.{_⊎_, inl, inr}
 use mathlib.Core.Bool.{Bool, true, false, not, _&&_, _||_}
 use lib.Dec.{T}
@@ -58,6 +58,9 @@ not-true false f = tt
 pub is-false : (b : Bool) → (T b → ⊥) → b ≡ false
 is-false true f = absurd (f tt)
 is-false false f = refl
+
+pub of-false : {b : Bool} → b ≡ false → T (not b)
+of-false e = subst (λ (b : Bool). T (not b)) (sym e) tt
 
 pub both-ways : (b : Bool) → T b → T (not b) → ⊥
 both-ways true t u = u

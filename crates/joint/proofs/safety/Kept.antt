@@ -23,7 +23,7 @@ use Rattle.joint.proofs.safety.coordinator.Steps.{cohortOf, From, own-n
 use Rattle.joint.proofs.safety.coordinator.Crashes.{from-self, crash-next}
 use Rattle.joint.proofs.safety.participant.Participants.{force-kept, crash-kept, start-kept, row-kept, discard-kept, return-kept}
 use Rattle.joint.proofs.safety.coordinator.Coordinators.{coordinator-next}
-use Rattle.joint.proofs.safety.coordinator.Wakes.{After, after, force-next, discard-next}
+use Rattle.joint.proofs.safety.coordinator.Discards.{After, after, force-next, discard-next}
 use Rattle.joint.proofs.safety.coordinator.Resumes.{resume-after, effects-cohort}
 use Rattle.joint.proofs.safety.coordinator.Opens.{open-after, start-after}
 
@@ -86,8 +86,8 @@ after-kept e f x =
 
 module _ {t : ℕ} {es : List Effect} {f : View → View} {v : View} where
   carried-cohort : {w : View} → ((x : View) → cohortOf (f x) ≡ cohortOf x) → Carried t 0 es f v w → cohortOf w ≡ cohortOf v
-  carried-cohort k whole = k _ ∙ effects-cohort t (never true) es v
-  carried-cohort k (cutAfter m n) = unfold viewDown forgotten withCoordinator in effects-cohort t (never true) (take m es) v
+  carried-cohort k whole = k _ ∙ effects-cohort t es v
+  carried-cohort k (cutAfter m n) = unfold viewDown forgotten withCoordinator in effects-cohort t (take m es) v
 
   carried-voted : {w : View} → ((x : View) (n : ℕ) → T (f x .voted (suc n)) → T (x .voted (suc n))) → Carried t 0 es f v w → (n : ℕ)
       → T (w .voted (suc n)) → T (v .voted (suc n))

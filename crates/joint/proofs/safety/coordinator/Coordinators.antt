@@ -12,7 +12,7 @@ use Rattle.site.specs.Cohort.{Cohort, presumptionOf, owing}
 use Rattle.site.specs.Step.{prepare, voteYes, voteNo, tell, ack, Input, begin, timer, received, Row}
 use Rattle.site.specs.Coordinator.{Coordinator, preparing, onBegin, committing, voted, onYes, telling, aborting, onNo, coordinatorTimer, acked, ackedIf, onAck, coordinatorStep, tellAll}
 use Rattle.joint.specs.State.{Site, withCoordinator}
-use Rattle.joint.proofs.Booleans.{or-left, or-right, both-ways}
+use Rattle.joint.proofs.Booleans.{or-left, or-right, both-ways, of-false}
 use Rattle.joint.proofs.view.View.{View, viewSettle}
 use Rattle.joint.proofs.view.Turn.{Carried, Given, Up, Opened}
 use Rattle.joint.proofs.safety.Sets.{member-those, owing-member, no-zero, not-empty, owes-abort, without-part}
@@ -21,8 +21,9 @@ use Rattle.joint.proofs.safety.coordinator.Logs.{commitLog}
 use Rattle.joint.proofs.safety.coordinator.Steps.{cohortOf, same-outcome}
 use Rattle.joint.proofs.safety.coordinator.Crashes.{Next}
 use Rattle.joint.proofs.safety.coordinator.Runs.{Node, Runs, node-stay, row-next}
-use Rattle.joint.proofs.safety.coordinator.Commits.{begin-run, counts, commit-run, untilAckedAs, until-phase, until-between}
-use Rattle.joint.proofs.safety.coordinator.Ends.{abort-run, awaited, abortedAs, aborted-phase, aborted-between, end-run, hears, tell-run, tell-all-run, reply-run}
+use Rattle.joint.proofs.safety.coordinator.Commits.{begin-run, commit-run}
+use Rattle.joint.proofs.safety.coordinator.Ends.{abort-run, end-run, tell-run, tell-all-run, reply-run}
+use Rattle.joint.proofs.safety.coordinator.Shifts.{awaited, counts, hears, settledAs, settled-phase, settled-between}
 
 -- ---- the row that a step gives
 
@@ -50,7 +51,7 @@ module _ (t : ℕ) (v w : View) (row : Row Coordinator) where
   begin-next : Mid t (initial false) v → Opened v → some (preparing g) ≡ some row → Done → Next t (initial false) w
   unfolding preparing
   begin-next mid o e d =
-      finish (preparing g) e (collecting (g .members) false) (begin-run t (initial false) v (writesInit g) refl (start mid)) refl (subst (λ (b : Bool). T (not b)) (sym o) tt) d
+      finish (preparing g) e (collecting (g .members) false) (begin-run t (initial false) v (start mid)) refl (subst (λ (b : Bool). T (not b)) (sym o) tt) d
 
   initial-next : Mid t (initial false) v → Opened v → (i : Input) → coordinatorStep g i Coordinator.initial ≡ some row → Done → Next t (initial false) w
   unfolding coordinatorStep onBegin coordinatorTimer onYes onNo onAck
@@ -68,28 +69,31 @@ module _ (t : ℕ) (v w : View) (row : Row Coordinator) where
     voted-next : (p : ℕ) → T (sentIn v p voteYes) → (b : Bool) → empty (without p c) ≡ b → some (voted g b (without p c)) ≡ some row → Done
         → Next t (collecting c false) w
     unfolding voted committing
-    voted-next p y false q e d =
-        finish (voted g false (without p c)) e (collecting (without p c) false) (node-stay t (collecting c false) (start mid) (counts t (collecting c false) v p c mid y) refl) refl (subst (λ (b : Bool). T (not b)) (sym q) tt) d
-    voted-next p y true q e d =
-        finish (voted g true (without p c)) e (untilAckedAs b commit (owing g commit) (commitLog (writesInit g)))
-        (commit-run t (collecting c false) v (without p c) (subst T (sym q) tt) b refl (node-stay t (collecting c false) (start mid) (counts t (collecting c false) v p c mid y) refl))
-        (until-phase b commit (owing g commit) (commitLog (writesInit g)) refl) (until-between b commit (owing g commit) (commitLog (writesInit g)) refl) d
+    voted-next p y b q e d = go b q e
       where
-        b : Bool
-        b = empty (owing g commit)
+        counted : Node t (collecting c false) v (collecting (without p c) false)
+        counted = node-stay t (collecting c false) (start mid) (counts v p c mid y) refl
+
+        last : Bool
+        last = empty (owing g commit)
+
+        go : (b : Bool) → empty (without p c) ≡ b → some (voted g b (without p c)) ≡ some row → Next t (collecting c false) w
+        go false q e = finish (voted g false (without p c)) e (collecting (without p c) false) (unfold voted in counted) (unfold voted in refl) (of-false q) d
+        go true q e =
+            finish (voted g true (without p c)) e (settledAs last false commit (owing g commit) (commitLog (writesInit g)))
+            (unfold voted in commit-run t (collecting c false) v (without p c) (of-true q) last refl counted)
+            (unfold voted committing in settled-phase last false commit (owing g commit) (commitLog (writesInit g)) refl)
+            (settled-between last false commit (owing g commit) (commitLog (writesInit g)) refl) d
 
     abort-next : (to : ℕ) → ((q : ℕ) → T (member q to) → T (member q (g .members)))
         → ((n : ℕ) → T (member (suc n) (g .members)) → T (not (member (suc n) to)) → T (sentIn v (suc n) voteNo))
         → some (aborting g to) ≡ some row → Done → Next t (collecting c false) w
     unfolding aborting
     abort-next to part said e d =
-        finish (aborting g to) e (abortedAs b (writesInit g) (awaited g to) (initLog (writesInit g)))
-        (abort-run t (collecting c false) v to c part said (start mid) b (writesInit g) refl refl)
-        (aborted-phase b (writesInit g) (awaited g to) (initLog (writesInit g)) refl)
-        (aborted-between b (writesInit g) (awaited g to) (initLog (writesInit g)) refl) d
-      where
-        b : Bool
-        b = empty (awaited g to)
+        finish (aborting g to) e (settledAs (empty (awaited g to)) (writesInit g) abort (awaited g to) (initLog (writesInit g)))
+        (abort-run t (collecting c false) v to c part said (start mid))
+        (settled-phase (empty (awaited g to)) (writesInit g) abort (awaited g to) (initLog (writesInit g)) refl)
+        (settled-between (empty (awaited g to)) (writesInit g) abort (awaited g to) (initLog (writesInit g)) refl) d
 
     -- all but p, who said No
     no-next : (p : ℕ) → T (sentIn v p voteNo) → some (aborting g (without p (g .members))) ≡ some row → Done → Next t (collecting c false) w
@@ -142,10 +146,10 @@ module _ (t : ℕ) (v w : View) (row : Row Coordinator) where
     heard-next : (p : ℕ) → T (sentIn v p (ack o)) → (b : Bool) → empty (without p c) ≡ b → some (acked o b (without p c)) ≡ some row → Done → Next t here w
     unfolding acked
     heard-next p a false q e d =
-        finish (acked o false (without p c)) e (decided o (waiting (without p c)) l) (node-stay t here (start mid) (hears t here v o p c l mid a) refl) refl (subst (λ (b : Bool). T (not b)) (sym q) tt) d
+        finish (acked o false (without p c)) e (decided o (waiting (without p c)) l) (node-stay t here (start mid) (hears v o l p c mid a) refl) refl (subst (λ (b : Bool). T (not b)) (sym q) tt) d
     heard-next p a true q e d =
         finish (acked o true (without p c)) e (decided o (resting true) l)
-        (end-run t here v o (without p c) l (subst T (sym q) tt) (init-written o refl) (acks-owed o refl) (node-stay t here (start mid) (hears t here v o p c l mid a) refl)) refl tt d
+        (end-run t here v o (without p c) l (subst T (sym q) tt) (init-written o refl) (acks-owed o refl) (node-stay t here (start mid) (hears v o l p c mid a) refl)) refl tt d
 
     acked-next : (a : Outcome) (p : ℕ) → T (sentIn v p (ack a)) → (b : Bool) → sameOutcome a o ≡ b → ackedIf b o (without p c) ≡ some row → Done
         → Next t here w
@@ -159,7 +163,7 @@ module _ (t : ℕ) (v w : View) (row : Row Coordinator) where
     unfolding telling
     tell-next zero m e d = absurd (no-zero (g .members) m)
     tell-next (suc n) m e d =
-        finish (telling o (suc n) (Coordinator.awaitingAcks o c)) e here (tell-run t here v o (waiting c) l n m (start mid)) refl some-left d
+        finish (telling o (suc n) (Coordinator.awaitingAcks o c)) e here (tell-run t here v o (waiting c) l (Coordinator.awaitingAcks o c) n m (start mid)) refl some-left d
 
     waiting-next : (i : Input) → Given v i → coordinatorStep g i (Coordinator.awaitingAcks o c) ≡ some row → Done → Next t here w
     unfolding coordinatorStep onBegin coordinatorTimer onYes onNo onAck
@@ -181,7 +185,7 @@ module _ (t : ℕ) (v w : View) (row : Row Coordinator) where
     unfolding telling
     reply-next zero m y e d = absurd (no-zero (g .members) m)
     reply-next (suc n) m y e d =
-        finish (telling (silence (presumptionOf g (suc n))) (suc n) Coordinator.unknown) e (decided o (resting b) l) (reply-run t (decided o (resting b) l) v o b l n m y (start mid)) refl tt d
+        finish (telling (silence (presumptionOf g (suc n))) (suc n) Coordinator.unknown) e (decided o (resting b) l) (reply-run t (decided o (resting b) l) v o b l Coordinator.unknown n m y (start mid)) refl tt d
 
     unknown-next : (i : Input) → Given v i → coordinatorStep g i Coordinator.unknown ≡ some row → Done → Next t (decided o (resting b) l) w
     unfolding coordinatorStep onBegin coordinatorTimer onYes onNo onAck

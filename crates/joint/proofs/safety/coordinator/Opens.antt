@@ -17,7 +17,7 @@ use Rattle.joint.proofs.safety.Tables.{has, fresh, working}
 use Rattle.joint.proofs.safety.Sets.{empty-none}
 use Rattle.joint.proofs.safety.Invariant.{Standing, never, initial, collecting, decided, stageOf, siteWith, Member, Stranger, Place, Inv}
 use Rattle.joint.proofs.safety.coordinator.Steps.{cohortOf, stand}
-use Rattle.joint.proofs.safety.coordinator.Wakes.{After}
+use Rattle.joint.proofs.safety.coordinator.Discards.{After}
 
 -- ---- a transaction that is not opened stands as never
 

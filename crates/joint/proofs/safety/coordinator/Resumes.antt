@@ -1,13 +1,12 @@
--- The coordinator's restart, and the opening of a transaction, keep the invariant.
+-- The coordinator's restart keeps the invariant.
 use Prim.Native.Nat.{ℕ, suc}
 use mathlib.Core.Path.{_≡_, refl, sym, ap, _∙_, subst}
 use mathlib.Core.Bool.{Bool, true, false, not, _&&_, true≢false}
 use mathlib.Core.List.{List, [], _∷_, append-nil}
 use lib.ListN.{take}
 use lib.Dec.{T}
-use Rattle.codec.specs.Sets.{member, empty}
+use Rattle.codec.specs.Sets.{empty}
 use Rattle.codec.specs.laws.Tests.{of-true}
-use Rattle.codec.specs.laws.Masks.{those-below}
 use Rattle.site.specs.Presumption.{Outcome, commit, abort, sameOutcome}
 use Rattle.site.specs.Cohort.{Cohort, owing}
 use Rattle.site.specs.Step.{Effect, append, force, enter, send, Row, given}
@@ -18,79 +17,30 @@ use Rattle.joint.proofs.view.Turn.{Carried, whole, cutAfter, Opened, vi
 use Rattle.joint.proofs.safety.Tables.{has}
 use Rattle.joint.proofs.safety.Sets.{member-owing, empty-none}
 use Rattle.joint.proofs.safety.Invariant.{Log, kindsIn, classOf, resumed, waiting, resting, down, Standing, never, initial, collecting, decided, writesInit, coordinatorAt, between, Mid, Inv}
-use Rattle.joint.proofs.safety.coordinator.Logs.{resumed-waiting, down-resting, resumes-commit, resumes-abort}
+use Rattle.joint.proofs.safety.coordinator.Logs.{resumes-commit, resumes-abort}
 use Rattle.joint.proofs.safety.participant.Local.{holds-kinds}
 use Rattle.joint.proofs.safety.coordinator.Steps.{cohortOf, Shift, shift-keeps, standsAs, stand, settle-mid}
-use Rattle.joint.proofs.safety.coordinator.Crashes.{Next, from-same}
+use Rattle.joint.proofs.safety.coordinator.Crashes.{Next}
 use Rattle.joint.proofs.safety.coordinator.Runs.{Node, Runs, enter-run, runs-at, runs-end, cut-next}
-use Rattle.joint.proofs.safety.coordinator.Commits.{untilAckedAs, until-phase, until-between, enter-tell}
-use Rattle.joint.proofs.safety.coordinator.Wakes.{After, after}
+use Rattle.joint.proofs.safety.coordinator.Commits.{enter-tell}
+use Rattle.joint.proofs.safety.coordinator.Discards.{After, after}
 use Rattle.joint.proofs.safety.coordinator.Ways.{refl-outcome, way-done, way-resume}
+use Rattle.joint.proofs.safety.coordinator.Shifts.{resumes, forgets, settledAs, settled-phase, settled-between}
 
--- ---- the standing that a restart leads to
+-- ---- a restart, whole or cut
+
+pub effects-cohort : (t : ℕ) (es : List Effect) (v : View) → cohortOf (viewEffects 0 t es v) ≡ cohortOf v
+unfolding viewEffects
+effects-cohort t [] v = refl
+effects-cohort t (e ∷ es) v = effects-cohort t es (viewPerform 0 t e v) ∙ one e
+  where
+    one : (e : Effect) → cohortOf (viewPerform 0 t e v) ≡ cohortOf v
+    one (append k fs) = unfold viewPerform viewAt in refl
+    one force = unfold viewPerform viewAt in refl
+    one (enter o) = unfold viewPerform in refl
+    one (send m p) = unfold viewPerform withSent in refl
 
 module _ (t : ℕ) (h0 : Standing) where
-  -- the outcome is resumed: acks are awaited, or none is owed
-  resumes-waiting : (v : View) (o : Outcome) (l : Log) → Mid t (decided o down l) v → T (resumed (classOf l))
-      → Shift v (decided o down l) (decided o (waiting (owing (cohortOf v) o)) l)
-  unfolding owing
-  resumes-waiting v o l mid r =
-      record {
-        move = record {
-          never = refl;
-          fit = resumed-waiting (writesInit (cohortOf v)) o l (owing (cohortOf v) o) r (mid .sound .fit);
-          proper = mid .sound .proper;
-          sets = (those-below _, λ p k. k);
-          passing = λ n m.
-              way-resume v n o (not (resumed (classOf l))) (member (suc n) (owing (cohortOf v) o)) (subst T (sym (member-owing (cohortOf v) o n (mid .sound .byte) m)));
-        };
-        from = λ x. from-same (writesInit (cohortOf v)) o down (waiting (owing (cohortOf v) o)) l l x (λ k. k);
-      }
-
-  resumes-resting : (v : View) (o : Outcome) (l : Log) → Mid t (decided o down l) v → T (empty (owing (cohortOf v) o))
-      → Shift v (decided o down l) (decided o (resting false) l)
-  resumes-resting v o l mid e =
-      record {
-        move = record {
-          never = refl;
-          fit = down-resting (writesInit (cohortOf v)) o l (mid .sound .fit);
-          proper = mid .sound .proper;
-          sets = tt;
-          passing = λ n m.
-              way-resume v n o (not (resumed (classOf l))) false
-              (λ a. empty-none (owing (cohortOf v) o) (suc n) e (subst T (sym (member-owing (cohortOf v) o n (mid .sound .byte) m)) a));
-        };
-        from = λ x. from-same (writesInit (cohortOf v)) o down (resting false) l l x (λ k. k);
-      }
-
-  forgets : (v : View) (o : Outcome) (l : Log) → Mid t (decided o down l) v → resumed (classOf l) ≡ false
-      → Shift v (decided o down l) (decided o (resting false) l)
-  forgets v o l mid e =
-      record {
-        move =
-            record {
-              never = refl;
-              fit = down-resting (writesInit (cohortOf v)) o l (mid .sound .fit);
-              proper = mid .sound .proper;
-              sets = tt;
-              passing = λ n m. rw e (way-done v n o true);
-            };
-        from = λ x. from-same (writesInit (cohortOf v)) o down (resting false) l l x (λ k. k);
-      }
-
-  -- ---- whole or cut
-
-  pub effects-cohort : (es : List Effect) (v : View) → cohortOf (viewEffects 0 t es v) ≡ cohortOf v
-  unfolding viewEffects
-  effects-cohort [] v = refl
-  effects-cohort (e ∷ es) v = effects-cohort es (viewPerform 0 t e v) ∙ one e
-    where
-      one : (e : Effect) → cohortOf (viewPerform 0 t e v) ≡ cohortOf v
-      one (append k fs) = unfold viewPerform viewAt in refl
-      one force = unfold viewPerform viewAt in refl
-      one (enter o) = unfold viewPerform in refl
-      one (send m p) = unfold viewPerform withSent in refl
-
   -- the effects happen while the site is down
   start-next : {v w : View} (es : List Effect) (o : Outcome) (l : Log) (h′ : Standing) (c : Coordinator) → Runs t h0 v es (decided o down l)
       → ((u : View) → cohortOf u ≡ cohortOf v → Mid t (decided o down l) u → Shift u (decided o down l) h′)
@@ -100,7 +50,7 @@ module _ (t : ℕ) (h0 : Standing) where
   start-next {v} es o l h′ c x k q p b whole =
       let y = runs-end t h0 v es (decided o down l) x in
       let u = viewEffects 0 t es v in
-      let s = k u (effects-cohort es v) (y .mid) in
+      let s = k u (effects-cohort t es v) (y .mid) in
       record {
         standing = h′;
         inv = record { mid = settle-mid (stand (y .mid) (s .move) (shift-keeps s) started (q u)) c; phase = p; whole = b };
@@ -123,11 +73,15 @@ module _ (t : ℕ) (h0 : Standing) where
 
   module _ (v : View) (o : Outcome) (l : Log) (r : T (resumed (classOf l))) where
     resume-shift : (b : Bool) → empty (owing (cohortOf v) o) ≡ b → (u : View) → cohortOf u ≡ cohortOf v → Mid t (decided o down l) u
-        → Shift u (decided o down l) (untilAckedAs b o (owing (cohortOf v) o) l)
-    resume-shift true q u e mid = resumes-resting u o l mid (of-true (ap (λ (g : Cohort). empty (owing g o)) e ∙ q))
-    resume-shift false q u e mid = subst (λ (g : Cohort). Shift u (decided o down l) (decided o (waiting (owing g o)) l)) e (resumes-waiting u o l mid r)
+        → Shift u (decided o down l) (settledAs b false o (owing (cohortOf v) o) l)
+    resume-shift true q u e mid =
+        forgets u o l mid
+        (λ n m.
+        way-resume u n o (not (resumed (classOf l))) false
+        (λ a. empty-none (owing (cohortOf u) o) (suc n) (of-true (ap (λ (g : Cohort). empty (owing g o)) e ∙ q)) (subst T (sym (member-owing (cohortOf u) o n (mid .sound .byte) m)) a)))
+    resume-shift false q u e mid = subst (λ (g : Cohort). Shift u (decided o down l) (decided o (waiting (owing g o)) l)) e (resumes u o l mid r)
 
-    resume-stands : (b : Bool) (u : View) → started (standsAs t u (decided o down l)) ≡ standsAs t u (untilAckedAs b o (owing (cohortOf v) o) l)
+    resume-stands : (b : Bool) (u : View) → started (standsAs t u (decided o down l)) ≡ standsAs t u (settledAs b false o (owing (cohortOf v) o) l)
     unfolding started
     resume-stands true u = refl
     resume-stands false u = refl
@@ -136,8 +90,8 @@ module _ (t : ℕ) (h0 : Standing) where
         → Carried t 0 (enter o ∷ given c (tellAll (cohortOf v) o (cohortOf v .members))) (viewStart 0 (withCoordinator (untilAcked o (owing (cohortOf v) o)))) v w
         → Next t h0 w
     resume-next c x d =
-        start-next (enter o ∷ given c (tellAll (cohortOf v) o (cohortOf v .members))) o l (untilAckedAs b o (owing (cohortOf v) o) l) (untilAcked o (owing (cohortOf v) o)) (resume-run o l c x)
-        (resume-shift b refl) (resume-stands b) (until-phase b o (owing (cohortOf v) o) l refl) (until-between b o (owing (cohortOf v) o) l refl) d
+        start-next (enter o ∷ given c (tellAll (cohortOf v) o (cohortOf v .members))) o l (settledAs b false o (owing (cohortOf v) o) l) (untilAcked o (owing (cohortOf v) o)) (resume-run o l c x)
+        (resume-shift b refl) (resume-stands b) (settled-phase b false o (owing (cohortOf v) o) l refl) (settled-between b false o (owing (cohortOf v) o) l refl) d
       where
         b : Bool
         b = empty (owing (cohortOf v) o)
@@ -148,6 +102,14 @@ module _ (t : ℕ) (v w : View) where
   abbrev Woken : Row Coordinator → Type 0
   Woken row = Carried t 0 (row .effects) (viewStart 0 (withCoordinator (row .phase))) v w
 
+  -- nothing is resumed
+  forget-next : (o : Outcome) (l : Log) → Mid t (decided o down l) v → resumed (classOf l) ≡ false
+      → Carried t 0 [] (viewStart 0 (withCoordinator Coordinator.unknown)) v w → Next t (decided o down l) w
+  unfolding started
+  forget-next o l mid q d =
+      start-next t (decided o down l) [] o l (decided o (resting false) l) Coordinator.unknown (record { mid = mid; from = λ x f. f })
+      (λ u e m. forgets u o l m (λ n k. rw q (way-done u n o true))) (λ u. refl) refl tt d
+
   -- what the log says: commit is resumed, abort is resumed, nothing is
   restart-next : (o : Outcome) (l : Log) → Mid t (decided o down l) v → (r : Bool) → resumed (classOf l) ≡ r
       → Woken (restartFrom (cohortOf v) (sameOutcome o commit && r) (sameOutcome o abort && r)) → Next t (decided o down l) w
@@ -156,12 +118,8 @@ module _ (t : ℕ) (v w : View) where
       resume-next t (decided commit down l) v commit l (of-true q) (not (empty (owing (cohortOf v) commit))) (record { mid = mid; from = λ x f. f }) d
   restart-next abort l mid true q d =
       resume-next t (decided abort down l) v abort l (of-true q) true (record { mid = mid; from = λ x f. f }) (unfold given in d)
-  restart-next commit l mid false q d =
-      start-next t (decided commit down l) [] commit l (decided commit (resting false) l) Coordinator.unknown (record { mid = mid; from = λ x f. f })
-      (λ u e m. forgets t (decided commit down l) u commit l m q) (λ u. unfold started in refl) refl tt d
-  restart-next abort l mid false q d =
-      start-next t (decided abort down l) [] abort l (decided abort (resting false) l) Coordinator.unknown (record { mid = mid; from = λ x f. f })
-      (λ u e m. forgets t (decided abort down l) u abort l m q) (λ u. unfold started in refl) refl tt d
+  restart-next commit l mid false q d = forget-next commit l mid q d
+  restart-next abort l mid false q d = forget-next abort l mid q d
 
   kinds-asked : (o : Outcome) (l : Log) → Mid t (decided o down l) v → (k : ℕ) → holds t k (v .site 0 .stable) ≡ has k (kindsIn l)
   kinds-asked o l mid k = ap (λ (s : Site). holds t k (s .stable)) (mid .log) ∙ holds-kinds (cohortOf v) t 0 k (kindsIn l)

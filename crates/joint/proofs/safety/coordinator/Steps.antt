@@ -1,4 +1,4 @@
--- The coordinator's small steps keep the invariant: a change of standing with its log, an entry, a message, a crash.
+-- The coordinator's small steps keep the invariant: a change of standing, with its log or without, an entry, a message.
 use Prim.Native.Nat.{ℕ, suc}
 use mathlib.Core.Path.{_≡_, refl, sym, ap, _∙_, subst}
 use mathlib.Core.Logic.{_⊎_, inl}
@@ -190,27 +190,27 @@ module _ {t : ℕ} {v : View} {h : Standing} (mid : Mid t h v) where
 
   module _ (y : Bool) (n : ℕ) (known : T (member (suc n) (cohortOf v .members))) (answers : T y → T (sentIn v (suc n) voteYes)) (g : Message)
       (may : T (maySend (presumptionOf (cohortOf v) (suc n)) (stageOf h (suc n)) y g)) where
-    abbrev toHim : ℕ → Bool
-    toHim k = eqb (suc k) (suc n)
+    abbrev toMember : ℕ → Bool
+    toMember k = eqb (suc k) (suc n)
 
     abbrev Sent : ℕ → Bool → Status → Type 0
     Sent k b s =
         Fine (presumptionOf (cohortOf v) (suc k)) (stageOf h (suc k)) s (λ j. (b && eqb (messageKind j) (messageKind g)) || sentIn v (suc k) j)
         (v .entered (suc k)) (v .voted (suc k))
 
-    fine-sent : (k : ℕ) (b : Bool) → toHim k ≡ b → (x : Member t (stageOf h (suc k)) k v) → Sent k b (x .status)
+    fine-sent : (k : ℕ) (b : Bool) → toMember k ≡ b → (x : Member t (stageOf h (suc k)) k v) → Sent k b (x .status)
     fine-sent k false e x = x .fine
     fine-sent k true e x =
-        send-fine (x .fine) y (subst (λ (z : ℕ). T y → T (sentIn v z voteYes)) (sym him) answers) g
-        (subst (λ (z : ℕ). T (maySend (presumptionOf (cohortOf v) z) (stageOf h z) y g)) (sym him) may)
+        send-fine (x .fine) y (subst (λ (z : ℕ). T y → T (sentIn v z voteYes)) (sym addressee) answers) g
+        (subst (λ (z : ℕ). T (maySend (presumptionOf (cohortOf v) z) (stageOf h z) y g)) (sym addressee) may)
       where
-        him : suc k ≡ suc n
-        him = eqb-true (suc k) (suc n) e
+        addressee : suc k ≡ suc n
+        addressee = eqb-true (suc k) (suc n) e
 
     member-sent : (k : ℕ) → Member t (stageOf h (suc k)) k v → Member t (stageOf h (suc k)) k (viewPerform 0 t (send g (suc n)) v)
     unfolding viewPerform withSent
     member-sent k x =
-        let f = fine-sent k (toHim k) refl x in
+        let f = fine-sent k (toMember k) refl x in
         record {
           status = x .status;
           site = x .site;
@@ -225,10 +225,10 @@ module _ {t : ℕ} {v : View} {h : Standing} (mid : Mid t h v) where
               };
         }
 
-    not-him : (k : ℕ) → T (not (member (suc k) (cohortOf v .members))) → toHim k ≡ false
-    not-him k u = go (toHim k) refl
+    not-member : (k : ℕ) → T (not (member (suc k) (cohortOf v .members))) → toMember k ≡ false
+    not-member k u = go (toMember k) refl
       where
-        go : (b : Bool) → toHim k ≡ b → toHim k ≡ false
+        go : (b : Bool) → toMember k ≡ b → toMember k ≡ false
         go false e = e
         go true e =
             absurd
@@ -240,7 +240,7 @@ module _ {t : ℕ} {v : View} {h : Standing} (mid : Mid t h v) where
         record {
           stable = x .stable;
           unforced = x .unforced;
-          sent = λ m. rw (not-him k u) (x .sent m);
+          sent = λ m. rw (not-member k u) (x .sent m);
           entered = x .entered;
         }
 

@@ -1,4 +1,4 @@
--- Restart, force and discard at the coordinator, and the opening, keep the invariant.
+-- A force and a discard at the coordinator keep the invariant.
 use Prim.Native.Nat.{ℕ, suc}
 use mathlib.Core.Path.{_≡_, refl, sym, ap, _∙_, subst}
 use mathlib.Core.Logic.{inl}
@@ -131,16 +131,16 @@ module _ (t : ℕ) (v : View) where
         passing = λ n m. way-done v n o true;
       }
 
-  -- a commit whose acks are awaited, or were
-  awaits : (x : Outcome) (w : ℕ) (l : Log) → Mid t (decided x (waiting w) l) v → T (not (empty w)) → T (has 2 (kindsIn l)) → T (awaitsCommit (cohortOf v))
-  awaits x w l mid left r =
+  -- a commit whose acks are were-awaited, or were
+  are-awaited : (x : Outcome) (w : ℕ) (l : Log) → Mid t (decided x (waiting w) l) v → T (not (empty w)) → T (has 2 (kindsIn l)) → T (awaitsCommit (cohortOf v))
+  are-awaited x w l mid left r =
       let is = same-outcome x commit (commit-record (writesInit (cohortOf v)) x l r (waiting-down (writesInit (cohortOf v)) x l w (mid .sound .fit))) in
       not-empty w (owing (cohortOf v) commit) (mid .sound .sets .0) left (λ n k. subst (λ (y : Outcome). T (member (suc n) (owing (cohortOf v) y))) is (mid .sound .sets .1 (suc n) k))
 
-  awaited : (x : Outcome) (l : Log) → T (sameOutcome x commit) → SetsFit (cohortOf v) (decided x (resting true) l) → T (awaitsCommit (cohortOf v))
+  were-awaited : (x : Outcome) (l : Log) → T (sameOutcome x commit) → SetsFit (cohortOf v) (decided x (resting true) l) → T (awaitsCommit (cohortOf v))
   unfolding sameOutcome
-  awaited commit l c s = s
-  awaited abort l c s = absurd c
+  were-awaited commit l c s = s
+  were-awaited abort l c s = absurd c
 
   initial-open : (j : Bool) → Closes (kindsIn (initLog j)) → ⊥
   unfolding has any
@@ -157,11 +157,11 @@ module _ (t : ℕ) (v : View) where
   discard-standing (initial b) inv o up e = absurd (not-closed (cohortOf v) t l0 tt (λ f. absurd (unfold has any in f)) e)
   discard-standing (collecting w b) inv o up e = absurd (initial-open (writesInit (cohortOf v)) e)
   discard-standing (decided x (waiting w) l) inv o up e =
-      absurd (not-closed (cohortOf v) t l (waiting-unended (writesInit (cohortOf v)) x l w (inv .mid .sound .fit)) (awaits x w l (inv .mid) (inv .whole)) e)
+      absurd (not-closed (cohortOf v) t l (waiting-unended (writesInit (cohortOf v)) x l w (inv .mid .sound .fit)) (are-awaited x w l (inv .mid) (inv .whole)) e)
   discard-standing (decided x (resting true) l) inv o up e =
       absurd
       (not-closed (cohortOf v) t l (ending-unended (writesInit (cohortOf v)) x l (inv .mid .sound .fit))
-      (λ r. awaited x l (commit-record (writesInit (cohortOf v)) x l r (resting-down (writesInit (cohortOf v)) x l true (inv .mid .sound .fit))) (inv .mid .sound .sets)) e)
+      (λ r. were-awaited x l (commit-record (writesInit (cohortOf v)) x l r (resting-down (writesInit (cohortOf v)) x l true (inv .mid .sound .fit))) (inv .mid .sound .sets)) e)
   discard-standing (decided x (resting false) l) inv o up e =
       record {
         standing = decided x (resting false) (older l);
