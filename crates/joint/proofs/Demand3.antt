@@ -23,17 +23,11 @@ use Rattle.joint.proofs.view.Acts.{holds-select}
 use Rattle.joint.proofs.safety.Tables.{Status, stableKinds, has, doubtful, agrees, isWorking, Stage, done, mayEnter}
 use Rattle.joint.proofs.safety.Sets.{empty-none, no-zero}
 use Rattle.joint.proofs.safety.participant.Local.{holds-kinds}
-use Rattle.joint.proofs.safety.Invariant.{Log, waiting, resting, down, Standing, never, initial, collecting, decided, stageOf, hasDecided, sentIn, Member, Place, Mid, Inv}
-use Rattle.joint.proofs.safety.coordinator.Steps.{cohortOf, same-outcome}
+use Rattle.joint.proofs.safety.Invariant.{Log, waiting, resting, down, Standing, never, initial, collecting, decided, stageOf, hasDecided, sentIn, Member, Place, Mid, Inv, cohortOf}
 use Rattle.joint.proofs.safety.Tracked.{seenAfter, next-kept, Tracked, tracked, track-later}
-use Rattle.joint.proofs.safety.coordinator.Ways.{refl-outcome}
+use Rattle.joint.proofs.safety.Outcomes.{refl-outcome, same-outcome, one-outcome}
 
--- ---- an entry is of what is decided
-
-one-outcome : (o : Outcome) → T (sameOutcome o commit) → T (sameOutcome o abort) → ⊥
-unfolding sameOutcome
-one-outcome commit c a = a
-one-outcome abort c a = c
+-- ---- an entry of commit is of a decided commit; where abort was entered, commit is not decided
 
 both-decided : (h : Standing) → T (hasDecided h commit) → T (hasDecided h abort) → ⊥
 both-decided (never u) c a = c

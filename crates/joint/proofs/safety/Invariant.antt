@@ -203,6 +203,9 @@ recordFor g t s k = record { kind = k; transaction = t; fields = fieldsAt g s k 
 abbrev pub siteWith : Cohort → ℕ → ℕ → Bool → List ℕ → List ℕ → Site
 siteWith g t s u ks js = record { up = u; stable = map (recordFor g t s) ks; unforced = map (recordFor g t s) js }
 
+abbrev pub cohortOf : View → Cohort
+cohortOf v = v .transaction .cohort
+
 -- ---- the participants
 
 abbrev pub sentIn : View → ℕ → Message → Bool
@@ -211,9 +214,9 @@ sentIn v p m = v .transaction .sent p (messageKind m)
 -- participant suc n is a member; m is how the coordinator stands to it
 pub record Member (t : ℕ) (m : Stage) (n : ℕ) (v : View) : Type 0 where
   pub status : Status
-  pub site : v .site (suc n) ≡ siteWith (v .transaction .cohort) t (suc n) (isUp status) (stableKinds status) (unforcedKinds status)
+  pub site : v .site (suc n) ≡ siteWith (cohortOf v) t (suc n) (isUp status) (stableKinds status) (unforcedKinds status)
   pub phase : v .transaction .participant (suc n) ≡ phaseOf status
-  pub fine : Fine (presumptionOf (v .transaction .cohort) (suc n)) m status (sentIn v (suc n)) (v .entered (suc n)) (v .voted (suc n))
+  pub fine : Fine (presumptionOf (cohortOf v) (suc n)) m status (sentIn v (suc n)) (v .entered (suc n)) (v .voted (suc n))
 
 -- it is none: nothing is recorded, sent or entered
 pub record Stranger (n : ℕ) (v : View) : Type 0 where
@@ -244,13 +247,13 @@ pub record Sound (t : ℕ) (g : Cohort) (h : Standing) : Type 0 where
   pub sets : SetsFit g h
 
 pub record Mid (t : ℕ) (h : Standing) (v : View) : Type 0 where
-  pub sound : Sound t (v .transaction .cohort) h
+  pub sound : Sound t (cohortOf v) h
   -- the coordinator is up or down, and has the records, as its standing says
-  pub log : v .site 0 ≡ siteWith (v .transaction .cohort) t 0 (standingUp h) (stableAt (writesInit (v .transaction .cohort)) h) (unforcedAt h)
+  pub log : v .site 0 ≡ siteWith (cohortOf v) t 0 (standingUp h) (stableAt (writesInit (cohortOf v)) h) (unforcedAt h)
   -- it has entered nothing but what is decided
   pub entries : (o : Outcome) → T (v .entered 0 o) → T (hasDecided h o)
   -- each member is fine, and nothing has happened at anyone else
-  pub places : (n : ℕ) → Place (member (suc n) (v .transaction .cohort .members)) t (stageOf h (suc n)) n v
+  pub places : (n : ℕ) → Place (member (suc n) (cohortOf v .members)) t (stageOf h (suc n)) n v
 
 -- ---- the invariant between events
 

@@ -109,7 +109,7 @@ early s = not (hasOutcome (stableKinds s)) && not (hasOutcome (unforcedKinds s))
 abbrev pub blank : Status → Bool
 blank s = early s && not (has 5 (stableKinds s)) && not (isWorking s)
 
--- the records are of outcome o, one that is acknowledged is forced, and a participant that still works aborts
+-- the records are of outcome o; one in doubt has no unforced record of an outcome that it acknowledges; and where it still works, o is abort
 abbrev pub agrees : Presumption → Outcome → Status → Bool
 agrees c o s =
     not (has (outcomeRecord (other o)) (stableKinds s))
@@ -158,7 +158,7 @@ mayEnter fresh s o = sameOutcome o abort && blank s
 mayEnter (asking w) s o = sameOutcome o abort && blank s
 mayEnter (done d u) s o = sameOutcome d o
 
--- its vote was counted
+-- its vote was counted, or commit is decided
 abbrev pub needsYes : Stage → Bool
 needsYes fresh = false
 needsYes (asking w) = not w
@@ -166,10 +166,14 @@ needsYes (done o u) = sameOutcome o commit
 
 -- sent: its messages; entered: its entries; voted: it voted Yes from a stable record
 pub record Fine (c : Presumption) (m : Stage) (s : Status) (sent : Message → Bool) (entered : Outcome → Bool) (voted : Bool) : Type 0 where
+  -- its state is one that the stage allows
   pub shape : T (fits c m s (sent prepare))
+  -- only such messages were sent, and entries made, as the stage and its state allow
   pub messages : (g : Message) → T (sent g) → T (may m s (sent prepare) g)
   pub entries : (o : Outcome) → T (entered o) → T (mayEnter m s o)
+  -- if its vote was counted, or commit is decided, it has sent a Yes
   pub counted : T (needsYes m) → T (sent voteYes)
+  -- if it has sent a Yes, it has sent one from a stable record
   pub honest : T (sent voteYes) → T voted
 
 -- ---- how the coordinator may pass from stage to stage; y, n, a: the participant sent a Yes, a No, an ack of the outcome that is decided
@@ -186,7 +190,7 @@ passes c y n a (done o u) fresh = false
 passes c y n a (done o u) (asking w) = false
 passes c y n a (done o u) (done d v) = sameOutcome o d && (not v || u || sameOutcome (silence c) o || a)
 
--- what the participant may have acknowledged
+-- of these messages, an ack of what is decided
 abbrev pub acked : (Message → Bool) → Stage → Bool
 acked f fresh = false
 acked f (asking w) = false

@@ -22,9 +22,8 @@ use Rattle.joint.proofs.view.Events.{event-turns}
 use Rattle.joint.proofs.safety.Tables.{has, Stage}
 use Rattle.joint.proofs.safety.Sets.{none-in-0}
 use Rattle.joint.proofs.safety.participant.Local.{holds-kinds}
-use Rattle.joint.proofs.safety.Invariant.{kindsIn, waiting, resting, down, Standing, never, initial, collecting, decided, hasDecided, initLog, writesInit, stableAt, Place, Mid, Inv}
+use Rattle.joint.proofs.safety.Invariant.{kindsIn, waiting, resting, down, Standing, never, initial, collecting, decided, hasDecided, initLog, writesInit, stableAt, Place, Mid, Inv, cohortOf}
 use Rattle.joint.proofs.safety.coordinator.Logs.{waiting-down, resting-down, commit-record}
-use Rattle.joint.proofs.safety.coordinator.Steps.{cohortOf}
 use Rattle.joint.proofs.safety.Kept.{Kept, turns-kept}
 
 part-none : part 0 0 ≡ true

@@ -12,12 +12,11 @@ use Rattle.site.specs.Coordinator.{inTurn, inOrder, tellAll, preparing, committ
 use Rattle.joint.specs.State.{appended, forced}
 use Rattle.joint.proofs.Booleans.{or-left}
 use Rattle.joint.proofs.view.View.{View, viewAt, viewPerform}
-use Rattle.joint.proofs.safety.Invariant.{Log, kindsIn, waiting, Pace, Standing, initial, collecting, decided, writesInit, initLog, siteWith}
+use Rattle.joint.proofs.safety.Invariant.{Log, kindsIn, waiting, Pace, Standing, initial, collecting, decided, writesInit, initLog, siteWith, cohortOf}
 use Rattle.joint.proofs.safety.coordinator.Logs.{commitLog, end-unwritten, commit-kinds}
-use Rattle.joint.proofs.safety.coordinator.Steps.{cohortOf}
-use Rattle.joint.proofs.safety.coordinator.Ways.{refl-outcome}
 use Rattle.joint.proofs.safety.coordinator.Shifts.{writes, begins, marks, commits, ends, settledAs}
 use Rattle.joint.proofs.safety.coordinator.Runs.{Each, Addressee, Node, Runs, node-stay, append-run, force-run, enter-run, sends-run, each-in-turn, each-ordered}
+use Rattle.joint.proofs.safety.Outcomes.{refl-outcome}
 
 -- ---- begin
 

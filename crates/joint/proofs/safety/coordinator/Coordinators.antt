@@ -16,14 +16,14 @@ use Rattle.joint.proofs.Booleans.{or-left, or-right, both-ways, of-fals
 use Rattle.joint.proofs.view.View.{View, viewSettle}
 use Rattle.joint.proofs.view.Turn.{Carried, Given, Up, Opened}
 use Rattle.joint.proofs.safety.Sets.{member-those, owing-member, no-zero, not-empty, owes-abort, without-part}
-use Rattle.joint.proofs.safety.Invariant.{Log, waiting, resting, down, Standing, never, initial, collecting, decided, SetsFit, writesInit, initLog, coordinatorAt, between, sentIn, Mid, Inv}
+use Rattle.joint.proofs.safety.Invariant.{Log, waiting, resting, down, Standing, never, initial, collecting, decided, SetsFit, writesInit, initLog, coordinatorAt, between, sentIn, Mid, Inv, cohortOf}
 use Rattle.joint.proofs.safety.coordinator.Logs.{commitLog}
-use Rattle.joint.proofs.safety.coordinator.Steps.{cohortOf, same-outcome}
 use Rattle.joint.proofs.safety.coordinator.Crashes.{Next}
 use Rattle.joint.proofs.safety.coordinator.Runs.{Node, Runs, node-stay, row-next}
 use Rattle.joint.proofs.safety.coordinator.Commits.{begin-run, commit-run}
 use Rattle.joint.proofs.safety.coordinator.Ends.{abort-run, end-run, tell-run, tell-all-run, reply-run}
 use Rattle.joint.proofs.safety.coordinator.Shifts.{awaited, counts, hears, settledAs, settled-phase, settled-between}
+use Rattle.joint.proofs.safety.Outcomes.{same-outcome}
 
 -- ---- the row that a step gives
 

@@ -14,14 +14,15 @@ use Rattle.joint.specs.State.{stopped, withCoordinator, forgotten}
 use Rattle.joint.proofs.Booleans.{not-true, mp}
 use Rattle.joint.proofs.view.View.{View, viewAt, viewSettle, viewDown}
 use Rattle.joint.proofs.safety.Tables.{has, done}
-use Rattle.joint.proofs.safety.Invariant.{Log, l0, l1, kindsIn, classOf, resumed, waiting, resting, down, Pace, Standing, never, initial, collecting, decided, hasDecided, logFits, properLog, awaitsCommit, SetsFit, writesInit, initLog, stableAt, coordinatorAt, between, siteWith, Mid, Inv}
+use Rattle.joint.proofs.safety.Invariant.{Log, l0, l1, kindsIn, classOf, resumed, waiting, resting, down, Pace, Standing, never, initial, collecting, decided, hasDecided, logFits, properLog, awaitsCommit, SetsFit, writesInit, initLog, stableAt, coordinatorAt, between, siteWith, Mid, Inv, cohortOf}
 use Rattle.joint.proofs.safety.coordinator.Logs.{closed, commitLog, waiting-down, resting-down, closed-fits, closed-kinds, abort-unwritten, closed-has, closed-proper, may-close, abort-down, abort-resumed, commit-down, commit-resumed, commit-has, commit-kinds, initial-proper, commit-proper, none-proper, first-proper}
-use Rattle.joint.proofs.safety.coordinator.Steps.{cohortOf, From, Shift, shift-keeps, standsAs, stand, settle-mid}
+use Rattle.joint.proofs.safety.coordinator.Steps.{From, Shift, shift-keeps, standsAs, stand, settle-mid}
 use Rattle.joint.proofs.safety.coordinator.Ways.{way-commit, way-lost, way-done, way-self, way-down}
 use Rattle.codec.specs.laws.Tests.{of-true}
 
--- ---- a turn's result: the standing after it
+-- ---- what a crash or a row leads to
 
+-- the invariant, with another standing; from whatever standing h was reached, so is that (a stable record 2 stays, until a discard drops it)
 pub record Next (t : ℕ) (h : Standing) (w : View) : Type 0 where
   pub standing : Standing
   pub inv : Inv t standing w

@@ -12,13 +12,12 @@ use Rattle.site.specs.Coordinator.{Coordinator, endRecord, inOrder, tellAll, ab
 use Rattle.joint.specs.State.{appended}
 use Rattle.joint.proofs.Booleans.{or-left, or-right}
 use Rattle.joint.proofs.view.View.{View}
-use Rattle.joint.proofs.safety.Invariant.{Log, kindsIn, waiting, resting, Pace, Standing, collecting, decided, SetsFit, writesInit, initLog, sentIn, siteWith}
+use Rattle.joint.proofs.safety.Invariant.{Log, kindsIn, waiting, resting, Pace, Standing, collecting, decided, SetsFit, writesInit, initLog, sentIn, siteWith, cohortOf}
 use Rattle.joint.proofs.safety.coordinator.Logs.{end-written}
-use Rattle.joint.proofs.safety.coordinator.Steps.{cohortOf}
 use Rattle.joint.proofs.safety.coordinator.Runs.{Node, Runs, node-stay, append-run, send-run, sends-run}
 use Rattle.joint.proofs.safety.coordinator.Commits.{told, settle-node, enter-tell}
 use Rattle.joint.proofs.safety.coordinator.Shifts.{awaited, aborts, ends, settledAs}
-use Rattle.joint.proofs.safety.coordinator.Ways.{refl-outcome}
+use Rattle.joint.proofs.safety.Outcomes.{refl-outcome}
 
 -- ---- an end record
 

@@ -15,8 +15,8 @@ use Rattle.joint.proofs.view.View.{View, viewAt, viewSettle}
 use Rattle.joint.proofs.view.Turn.{Up}
 use Rattle.joint.proofs.safety.Tables.{has, fresh, working}
 use Rattle.joint.proofs.safety.Sets.{empty-none}
-use Rattle.joint.proofs.safety.Invariant.{Standing, never, initial, collecting, decided, stageOf, siteWith, Member, Stranger, Place, Inv}
-use Rattle.joint.proofs.safety.coordinator.Steps.{cohortOf, stand}
+use Rattle.joint.proofs.safety.Invariant.{Standing, never, initial, collecting, decided, stageOf, siteWith, Member, Stranger, Place, Inv, cohortOf}
+use Rattle.joint.proofs.safety.coordinator.Steps.{stand}
 use Rattle.joint.proofs.safety.coordinator.Discards.{After}
 
 -- ---- a transaction that is not opened stands as never

@@ -16,16 +16,17 @@ use Rattle.joint.proofs.view.View.{View, viewAt, viewSettle, viewPerfor
 use Rattle.joint.proofs.view.Turn.{Carried, whole, cutAfter, Opened, viewStart}
 use Rattle.joint.proofs.safety.Tables.{has}
 use Rattle.joint.proofs.safety.Sets.{member-owing, empty-none}
-use Rattle.joint.proofs.safety.Invariant.{Log, kindsIn, classOf, resumed, waiting, resting, down, Standing, never, initial, collecting, decided, writesInit, coordinatorAt, between, Mid, Inv}
+use Rattle.joint.proofs.safety.Invariant.{Log, kindsIn, classOf, resumed, waiting, resting, down, Standing, never, initial, collecting, decided, writesInit, coordinatorAt, between, Mid, Inv, cohortOf}
 use Rattle.joint.proofs.safety.coordinator.Logs.{resumes-commit, resumes-abort}
 use Rattle.joint.proofs.safety.participant.Local.{holds-kinds}
-use Rattle.joint.proofs.safety.coordinator.Steps.{cohortOf, Shift, shift-keeps, standsAs, stand, settle-mid}
+use Rattle.joint.proofs.safety.coordinator.Steps.{Shift, shift-keeps, standsAs, stand, settle-mid}
 use Rattle.joint.proofs.safety.coordinator.Crashes.{Next}
 use Rattle.joint.proofs.safety.coordinator.Runs.{Node, Runs, enter-run, runs-at, runs-end, cut-next}
 use Rattle.joint.proofs.safety.coordinator.Commits.{enter-tell}
 use Rattle.joint.proofs.safety.coordinator.Discards.{After, after}
-use Rattle.joint.proofs.safety.coordinator.Ways.{refl-outcome, way-done, way-resume}
+use Rattle.joint.proofs.safety.coordinator.Ways.{way-done, way-resume}
 use Rattle.joint.proofs.safety.coordinator.Shifts.{resumes, forgets, settledAs, settled-phase, settled-between}
+use Rattle.joint.proofs.safety.Outcomes.{refl-outcome}
 
 -- ---- a restart, whole or cut
 

@@ -16,8 +16,8 @@ use Rattle.joint.proofs.view.View.{View, viewAt, viewSettle, viewPerfor
 use Rattle.joint.proofs.view.Turn.{Carried, whole, cutAfter}
 use Rattle.joint.proofs.safety.Tables.{maySend}
 use Rattle.joint.proofs.safety.Sets.{no-zero}
-use Rattle.joint.proofs.safety.Invariant.{Standing, stageOf, hasDecided, writesInit, coordinatorAt, between, sentIn, Mid}
-use Rattle.joint.proofs.safety.coordinator.Steps.{cohortOf, From, Shift, shift-keeps, standsAs, stay, stand, settle-mid, enter-mid, send-mid}
+use Rattle.joint.proofs.safety.Invariant.{Standing, stageOf, hasDecided, writesInit, coordinatorAt, between, sentIn, Mid, cohortOf}
+use Rattle.joint.proofs.safety.coordinator.Steps.{From, Shift, shift-keeps, standsAs, stay, stand, settle-mid, enter-mid, send-mid}
 use Rattle.joint.proofs.safety.coordinator.Crashes.{Next, crash-next}
 
 -- ---- addressees
@@ -33,6 +33,7 @@ Each P (p ∷ ps) = P p × Each P ps
 
 -- ---- runs
 
+-- in front of an effect of a row that began with the standing h0: the invariant holds, with the standing h
 pub record Node (t : ℕ) (h0 : Standing) (v : View) (h : Standing) : Type 0 where
   pub mid : Mid t h v
   pub from : (x : Standing) → From (writesInit (cohortOf v)) x h0 → From (writesInit (cohortOf v)) x h

@@ -15,9 +15,9 @@ use Rattle.joint.proofs.Booleans.{and-both, not-true, is-false}
 use Rattle.joint.proofs.view.View.{View}
 use Rattle.joint.proofs.safety.Tables.{Stage, asking}
 use Rattle.joint.proofs.safety.Sets.{of-those, member-those, member-owing, empty-none, no-zero, without-part}
-use Rattle.joint.proofs.safety.Invariant.{Log, classOf, resumed, waiting, resting, down, Standing, initial, collecting, decided, hasDecided, logFits, SetsFit, writesInit, awaitsCommit, initLog, sentIn, coordinatorAt, between, Mid}
+use Rattle.joint.proofs.safety.Invariant.{Log, classOf, resumed, waiting, resting, down, Standing, initial, collecting, decided, hasDecided, logFits, SetsFit, writesInit, awaitsCommit, initLog, sentIn, coordinatorAt, between, Mid, cohortOf}
 use Rattle.joint.proofs.safety.coordinator.Logs.{commitLog, resumed-waiting, down-resting, abort-waits, commit-waits, commit-has, initial-proper, commit-proper}
-use Rattle.joint.proofs.safety.coordinator.Steps.{cohortOf, PassesAt, From, Shift}
+use Rattle.joint.proofs.safety.coordinator.Steps.{PassesAt, From, Shift}
 use Rattle.joint.proofs.safety.coordinator.Ways.{way-count, way-commit, way-abort, way-done, way-hear, way-resume, way-self}
 use Rattle.joint.proofs.safety.coordinator.Crashes.{from-same, from-none}
 

@@ -17,17 +17,15 @@ use Rattle.joint.proofs.view.Updates.{update-other}
 use Rattle.joint.proofs.view.View.{View, viewAt, viewSettle, viewPerform}
 use Rattle.joint.proofs.safety.Tables.{Status, has, Stage, Fine, passes, acked, maySend}
 use Rattle.joint.proofs.safety.coordinator.Passes.{pass-fine, send-fine}
-use Rattle.joint.proofs.safety.Invariant.{Standing, never, stageOf, hasDecided, standingFits, properLog, awaitsCommit, SetsFit, writesInit, standingUp, stableAt, unforcedAt, isNever, siteWith, sentIn, Member, Stranger, Place, Sound, Mid}
+use Rattle.joint.proofs.safety.Invariant.{Standing, never, stageOf, hasDecided, standingFits, properLog, awaitsCommit, SetsFit, writesInit, standingUp, stableAt, unforcedAt, isNever, siteWith, sentIn, Member, Stranger, Place, Sound, Mid, cohortOf}
+use Rattle.joint.proofs.safety.Outcomes.{same-outcome}
 
 -- ---- what changes of the standing are allowed
-
-abbrev pub cohortOf : View → Cohort
-cohortOf v = v .transaction .cohort
 
 abbrev pub PassesAt : View → Stage → Stage → ℕ → Type 0
 PassesAt v m m′ n = T (passes (presumptionOf (cohortOf v) (suc n)) (sentIn v (suc n) voteYes) (sentIn v (suc n) voteNo) (acked (sentIn v (suc n)) m) m m′)
 
--- from h0 to h: what is decided stays, and a new commit has a stable record 2
+-- from the standing h0 to h: what is decided stays decided, and a commit that is new has its record 2 stable
 pub record From (i : Bool) (h0 h : Standing) : Type 0 where
   pub keeps : (o : Outcome) → T (hasDecided h0 o) → T (hasDecided h o)
   pub new : T (hasDecided h commit) → T (hasDecided h0 commit) ⊎ T (has 2 (stableAt i h))
@@ -117,13 +115,6 @@ stranger-entered : (t : ℕ) {v : View} {n : ℕ} (o : Outcome) → Stranger n v
 unfolding viewPerform
 stranger-entered t {v} {n} o x =
     record { stable = x .stable; unforced = x .unforced; sent = x .sent; entered = λ d. rw (x .entered d, own-number n) refl }
-
-pub same-outcome : (r o : Outcome) → T (sameOutcome r o) → r ≡ o
-unfolding sameOutcome
-same-outcome commit commit u = refl
-same-outcome commit abort u = absurd u
-same-outcome abort commit u = absurd u
-same-outcome abort abort u = refl
 
 -- ---- standings
 

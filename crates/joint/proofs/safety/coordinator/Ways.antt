@@ -12,21 +12,9 @@ use Rattle.joint.proofs.Booleans.{and-both, or-left, or-right, or-first
 use Rattle.joint.proofs.view.View.{View}
 use Rattle.joint.proofs.safety.Tables.{Stage, fresh, asking, done}
 use Rattle.joint.proofs.safety.Sets.{empty-none}
-use Rattle.joint.proofs.safety.Invariant.{writesInit, sentIn}
-use Rattle.joint.proofs.safety.coordinator.Steps.{cohortOf, PassesAt}
-
-pub refl-outcome : (o : Outcome) → T (sameOutcome o o)
-unfolding sameOutcome
-refl-outcome commit = tt
-refl-outcome abort = tt
-
--- an ack is owed where silence means the other outcome
-pub owes : (c : Presumption) (o : Outcome) → T (sameOutcome (silence c) o || acks c o)
-unfolding sameOutcome silence acks
-owes presumedAbort commit = tt
-owes presumedAbort abort = tt
-owes presumedCommit commit = tt
-owes presumedCommit abort = tt
+use Rattle.joint.proofs.safety.Invariant.{writesInit, sentIn, cohortOf}
+use Rattle.joint.proofs.safety.coordinator.Steps.{PassesAt}
+use Rattle.joint.proofs.safety.Outcomes.{refl-outcome, owes}
 
 -- record 1 is written where silence means commit to someone
 pub begun : (g : Cohort) (p : ℕ) → T (sameOutcome (silence (presumptionOf g p)) abort || writesInit g)
