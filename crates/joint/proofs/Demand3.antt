@@ -22,7 +22,7 @@ use Rattle.joint.proofs.view.View.{View, siteView, isEntryAt, view}
 use Rattle.joint.proofs.view.Acts.{holds-select}
 use Rattle.joint.proofs.safety.Tables.{Status, stableKinds, has, doubtful, agrees, isWorking, Stage, done, mayEnter}
 use Rattle.joint.proofs.safety.Sets.{empty-none, no-zero}
-use Rattle.joint.proofs.safety.participant.Local.{holds-kinds}
+use Rattle.joint.proofs.safety.Holds.{holds-at}
 use Rattle.joint.proofs.safety.Invariant.{Log, waiting, resting, down, Standing, never, initial, collecting, decided, stageOf, hasDecided, sentIn, Member, Place, Mid, Inv, cohortOf}
 use Rattle.joint.proofs.safety.Tracked.{seenAfter, next-kept, Tracked, tracked, track-later}
 use Rattle.joint.proofs.safety.Outcomes.{refl-outcome, same-outcome, one-outcome}
@@ -154,8 +154,7 @@ in-doubt t es m n x k =
   where
     kind : (k : ℕ) → holds t k (after fresh es .site (suc n) .stable) ≡ has k (stableKinds (x .status))
     kind k =
-        sym (holds-select t k (after fresh es .site (suc n) .stable)) ∙ ap (λ (y : Site). holds t k (y .stable)) (x .site)
-        ∙ holds-kinds (cohortOf (seenAfter t es)) t (suc n) k (stableKinds (x .status))
+        sym (holds-select t k (after fresh es .site (suc n) .stable)) ∙ holds-at (cohortOf (seenAfter t es)) t (suc n) (stableKinds (x .status)) (x .site) k
 
 -- what silence means to a member in doubt is decided
 silence-decided : (t : ℕ) (es : List (List ℕ)) (h : Standing) → Inv t h (seenAfter t es) → Resting h → (n : ℕ)

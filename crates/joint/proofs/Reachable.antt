@@ -1,9 +1,10 @@
 -- What holds in every run that events can reach: of the logs and their images, of the cohorts, and of the waiting sets.
 use Prim.Native.Nat.{ℕ, _≤_, _<_}
-use mathlib.Core.Path.{_≡_}
+use mathlib.Core.Path.{_≡_, subst}
 use mathlib.Core.Bool.{true, false}
 use mathlib.Core.List.{List, [], _++_}
-use lib.ListN.{length, getD}
+use lib.ListN.{length, length-append, getD}
+use native.Mathlib.Omega.{arith}
 use Rattle.codec.specs.Lists.{select, first}
 use Rattle.codec.specs.Records.{LogRecord, ofTransaction}
 use Rattle.codec.specs.Image.{most, accepted, readImage, logRefusals}
@@ -14,53 +15,65 @@ use Rattle.joint.specs.Run.{after, siteImage}
 use Rattle.joint.specs.Safety.{history}
 use Rattle.joint.proofs.DownEmpty.{down-sites-empty}
 use Rattle.joint.proofs.view.View.{view}
-use Rattle.joint.proofs.safety.Invariant.{Standing, Inv}
+use Rattle.joint.proofs.safety.Each.{Each, each-at, each-back, each-map}
+use Rattle.joint.proofs.safety.Invariant.{Inv}
 use Rattle.joint.proofs.safety.Tracked.{tracked}
-use Rattle.joint.proofs.logs.Counts.{EachRecord, each-record-at}
-use Rattle.joint.proofs.logs.Orders.{Ranged}
-use Rattle.joint.proofs.logs.Facts.{OwnRecord, cohort-ranged, set-ranged, own-records, log-most, unforced-one, unforced-most, log-accepted, stable-accepted}
+use Rattle.joint.proofs.logs.Counts.{each-transaction, counted-most}
+use Rattle.joint.proofs.logs.Orders.{Ranged, log-passes}
+use Rattle.joint.proofs.logs.Kinds.{share, Kinds, kinds-at, opened-ranged}
+use Rattle.joint.proofs.logs.Facts.{OwnRecord, few-of, few-unforced, each-of, follows-whole, follows-stable, shares, standing-waits}
 
 module _ (es : List (List ℕ)) where
   abbrev r : Run
   r = after fresh es
 
-  inv : (t : ℕ) → (h : Standing) × Inv t h (view t (history fresh es) r)
-  inv t =
-      let x = tracked t es in
-      (x .standing, x .inv)
+  inv : (t : ℕ) → Inv t (tracked t es .standing) (view t (history fresh es) r)
+  inv t = tracked t es .inv
+
+  -- the kinds of the records of transaction t at site s
+  kinds : (t s : ℕ) → Kinds r t s
+  kinds t = kinds-at t (history fresh es) r (tracked t es .standing) (inv t .mid)
 
   -- ---- transactions
 
   -- an opened transaction is one of 0 to 7; its members are a byte and not 0, and PC is a part of them
   pub cohorts-in-range : (t : ℕ) → opened r t ≡ true → (t < 8) × Ranged (r .transaction t .cohort)
-  cohorts-in-range = cohort-ranged (history fresh es) r inv
+  cohorts-in-range t = opened-ranged t (history fresh es) r (tracked t es .standing) (inv t .mid)
 
   -- opened or not
   pub waiting-in-range : (t : ℕ)
       → waitingInRange (r .transaction t .cohort) (coordinatorPhase (r .transaction t .coordinator)) (waitingSet (r .transaction t .coordinator)) ≡ true
-  waiting-in-range = set-ranged (history fresh es) r inv
+  unfolding view
+  waiting-in-range t = rw (inv t .phase) (standing-waits (r .transaction t .cohort) (tracked t es .standing) (inv t .mid .sound .sets) (inv t .whole))
 
   -- ---- logs
 
   module _ (s : ℕ) where
+    abbrev log : List LogRecord
+    log = r .site s .stable ++ r .site s .unforced
+
     -- each record is its transaction's own
-    pub records-own : EachRecord (OwnRecord r s) (r .site s .stable ++ r .site s .unforced)
-    records-own = own-records (history fresh es) r inv s
+    pub records-own : Each (OwnRecord r s) (r .site s .stable ++ r .site s .unforced)
+    records-own = each-transaction (OwnRecord r s) log (λ t. each-of (kinds t s))
 
     pub record-own : (i : ℕ) → i < length (r .site s .stable ++ r .site s .unforced) → (x : LogRecord)
         → OwnRecord r s (getD (r .site s .stable ++ r .site s .unforced) i x)
-    record-own = each-record-at (OwnRecord r s) (r .site s .stable ++ r .site s .unforced) records-own
+    record-own = each-at (OwnRecord r s) log records-own
+
+    numbers : Each (λ x. x .transaction < 8) log
+    numbers = each-map (OwnRecord r s) (λ x. x .transaction < 8) (λ x o. o .known .number) log records-own
 
     -- 24 at the coordinator, 16 at a participant
     pub logs-bounded : length (r .site s .stable ++ r .site s .unforced) ≤ most s
-    logs-bounded = log-most (history fresh es) r inv s
+    logs-bounded = subst (λ (n : ℕ). length log ≤ n) (shares s) (counted-most 8 (share s) log numbers (λ t. few-of (kinds t s)))
 
     -- of each transaction at most one record is unforced
     pub unforced-single : (t : ℕ) → length (select (ofTransaction t) (r .site s .unforced)) ≤ 1
-    unforced-single = unforced-one (history fresh es) r inv s
+    unforced-single t = few-unforced (kinds t s)
 
     pub unforced-bounded : length (r .site s .unforced) ≤ 8
-    unforced-bounded = unforced-most (history fresh es) r inv s
+    unforced-bounded =
+        counted-most 8 1 (r .site s .unforced) (each-back (λ x. x .transaction < 8) (r .site s .stable) (r .site s .unforced) numbers) unforced-single
 
     pub down-unforced : r .site s .up ≡ false → r .site s .unforced ≡ []
     down-unforced = down-sites-empty es s
@@ -70,10 +83,12 @@ module _ (es : List (List ℕ)) where
     module _ (small : s ≤ 8) where
       -- no refusal strikes a log, its unforced records with it
       pub logs-accepted : first (logRefusals s (r .site s .stable ++ r .site s .unforced)) ≡ 0
-      logs-accepted = log-accepted (history fresh es) r inv s small
+      logs-accepted = log-passes (λ t. r .transaction t .cohort) s log small logs-bounded (λ t. follows-whole (kinds t s) (cohorts-in-range t))
 
       pub images-accepted : first (logRefusals s (r .site s .stable)) ≡ 0
-      images-accepted = stable-accepted (history fresh es) r inv s small
+      images-accepted =
+          log-passes (λ t. r .transaction t .cohort) s (r .site s .stable) small (omega (arith, rw length-append at logs-bounded))
+          (λ t. follows-stable (kinds t s) (cohorts-in-range t))
 
       -- so its image is read, and tells the stable records
       pub images-read : readImage (siteImage r s) ≡ accepted s (r .site s .stable)

@@ -23,11 +23,10 @@ use Rattle.joint.proofs.view.View.{siteView, view}
 use Rattle.joint.proofs.safety.Tables.{Status, stableKinds, unforcedKinds, has}
 use Rattle.joint.proofs.safety.Finite.{allBool, at-bool, at-status}
 use Rattle.joint.proofs.safety.Sets.{empty-none}
-use Rattle.joint.proofs.safety.Invariant.{Log, l0, l1, l12, l2, l123, l23, l3, l14, l4, kindsIn, classOf, resting, waiting, down, Standing, never, initial, collecting, decided, stageOf, logFits, standingFits, SetsFit, writesInit, awaitsCommit, properKinds, properLog, initLog, stableAt, kindIf, unforcedAt, isNever, recordFor, Place, Mid}
-use Rattle.joint.proofs.safety.coordinator.Logs.{closed, closed-kinds}
-use Rattle.joint.proofs.safety.coordinator.Logs.{closed-proper, may-close}
-use Rattle.joint.proofs.logs.Counts.{own}
-use Rattle.joint.proofs.logs.Orders.{inOrder, Ranged}
+use Rattle.joint.proofs.safety.Invariant.{Log, kindsIn, classOf, resting, waiting, down, Standing, never, initial, collecting, decided, stageOf, logFits, standingFits, SetsFit, writesInit, awaitsCommit, properKinds, properLog, initLog, stableAt, kindIf, unforcedAt, isNever, recordFor, Place, Mid}
+use Rattle.joint.proofs.safety.coordinator.Logs.{closed, at-log, closed-kinds, closed-proper, may-close}
+use Rattle.joint.proofs.logs.Counts.{recordsOf}
+use Rattle.joint.proofs.logs.Orders.{orderly, Ranged}
 
 -- ---- the kinds of one transaction's records
 
@@ -36,10 +35,11 @@ abbrev pub share : ℕ → ℕ
 share zero = 3
 share (suc n) = 2
 
+-- in order, and not too many; i: record 1 is written at begin, a: acks are owed for a commit
 abbrev pub fine : ℕ → Bool → Bool → List ℕ → Bool
-fine s i a ks = inOrder s i a [] ks && leb (length ks) (share s)
+fine s i a ks = orderly s i a [] ks && leb (length ks) (share s)
 
--- ks: of the stable records, js: of the unforced ones
+-- ks, of the stable records, and js, of the unforced ones, are fine, and js is one kind at most
 abbrev pub tidy : ℕ → Bool → Bool → List ℕ → List ℕ → Bool
 tidy s i a ks js = fine s i a (ks ++ js) && leb (length js) 1
 
@@ -47,26 +47,22 @@ status-tidy : (n : ℕ) (i a : Bool) (x : Status) → T (tidy (suc n) i a (stabl
 unfolding recordKindAt any same sequences outcomeRecord
 status-tidy n i a x = at-status (λ x. tidy (suc n) i a (stableKinds x) (unforcedKinds x)) tt x
 
+-- the records of a proper log are fine
 abbrev logTest : Log → Bool
 logTest l = allBool (λ i. allBool (λ a. properKinds i a (kindsIn l) ⇒ fine 0 i a (kindsIn l)))
 
 log-tests : (l : Log) → T (logTest l)
 unfolding recordKindAt any same sequences has
-log-tests l0 = tt
-log-tests l1 = tt
-log-tests l12 = tt
-log-tests l2 = tt
-log-tests l123 = tt
-log-tests l23 = tt
-log-tests l3 = tt
-log-tests l14 = tt
-log-tests l4 = tt
+log-tests = at-log logTest tt
 
 module _ (i a : Bool) where
   log-fine : (l : Log) → T (properKinds i a (kindsIn l)) → T (fine 0 i a (kindsIn l))
   log-fine l =
       mp (properKinds i a (kindsIn l)) (fine 0 i a (kindsIn l))
-      (at-bool (λ a. properKinds i a (kindsIn l) ⇒ fine 0 i a (kindsIn l)) (at-bool (λ i. allBool (λ a. properKinds i a (kindsIn l) ⇒ fine 0 i a (kindsIn l))) (log-tests l) i) a)
+      (at-bool (test i) (at-bool (λ i. allBool (test i)) (log-tests l) i) a)
+    where
+      test : Bool → Bool → Bool
+      test i a = properKinds i a (kindsIn l) ⇒ fine 0 i a (kindsIn l)
 
   to-tidy : (ks js ms : List ℕ) → ms ≡ ks ++ js → T (leb (length js) 1) → T (fine 0 i a ms) → T (tidy 0 i a ks js)
   to-tidy ks js ms e u t = and-both (fine 0 i a (ks ++ js)) (leb (length js) 1) (subst (λ (l : List ℕ). T (fine 0 i a l)) e t) u
@@ -106,20 +102,22 @@ standing-tidy g (decided o down l) f e p = log-tidy (writesInit g) (awaitsCommit
 
 -- ---- the records of transaction t at site s
 
+-- the cohort of transaction t
 abbrev pub cohortIn : Run → ℕ → Cohort
 cohortIn r t = r .transaction t .cohort
 
--- t has records at s only if it is opened and s takes part in it
+-- transaction t is opened, and site s takes part in it
 pub record Known (r : Run) (t s : ℕ) : Type 0 where
   pub number : t < 8
   pub opens : opened r t ≡ true
   pub takes : takesPart r t s ≡ true
 
+-- the kinds of t's records at s: they are tidy, and there are none unless s knows t
 pub record Kinds (r : Run) (t s : ℕ) : Type 0 where
   pub stable : List ℕ
   pub unforced : List ℕ
-  pub is-stable : own t (r .site s .stable) ≡ map (recordFor (cohortIn r t) t s) stable
-  pub is-unforced : own t (r .site s .unforced) ≡ map (recordFor (cohortIn r t) t s) unforced
+  pub is-stable : recordsOf t (r .site s .stable) ≡ map (recordFor (cohortIn r t) t s) stable
+  pub is-unforced : recordsOf t (r .site s .unforced) ≡ map (recordFor (cohortIn r t) t s) unforced
   pub tidies : T (tidy s (writesInit (cohortIn r t)) (awaitsCommit (cohortIn r t)) stable unforced)
   pub known : (stable ++ unforced ≡ []) ⊎ Known r t s
 
@@ -129,8 +127,8 @@ never-none i (initial b) e = absurd (false≢true e)
 never-none i (collecting w b) e = absurd (false≢true e)
 never-none i (decided o pace l) e = absurd (false≢true e)
 
-not-empty : (m p : ℕ) → member p m ≡ true → empty m ≡ false
-not-empty m p e = go (empty m) refl
+has-member : (m p : ℕ) → member p m ≡ true → empty m ≡ false
+has-member m p e = go (empty m) refl
   where
     go : (b : Bool) → empty m ≡ b → empty m ≡ false
     go true f = absurd (empty-none m p (of-true f) (of-true e))
@@ -169,7 +167,7 @@ module _ (t : ℕ) (ms : List Moment) (r : Run) (h : Standing) (mid : Mid t h (v
             is-stable = ap (λ (y : Site). y .stable) (x .site);
             is-unforced = ap (λ (y : Site). y .unforced) (x .site);
             tidies = status-tidy n (writesInit (cohortIn r t)) (awaitsCommit (cohortIn r t)) (x .status);
-            known = inr (known-as (suc n) (not-empty (cohortIn r t .members) (suc n) e) (unfold takesPart in e));
+            known = inr (known-as (suc n) (has-member (cohortIn r t .members) (suc n) e) (unfold takesPart in e));
           }
       go false e x =
           record { stable = []; unforced = []; is-stable = x .stable; is-unforced = x .unforced; tidies = tt; known = inl refl }

@@ -1,5 +1,5 @@
 -- Logs whose records of each transaction are its records, in order: no refusal strikes them.
-use Prim.Native.Nat.{ℕ, zero, suc, _≤_, _<_}
+use Prim.Native.Nat.{ℕ, zero, suc, _+_, _≤_, _<_}
 use mathlib.Core.Path.{_≡_, refl, sym, ap, ap₂, _∙_, subst}
 use mathlib.Core.Logic.{_⊎_, inl, inr, ⊎-elim}
 use mathlib.Core.Bool.{Bool, true, false, cond, not, _&&_, _||_}
@@ -7,20 +7,19 @@ use mathlib.Core.List.{List, [], _∷_, _++_, map, append-nil, map-append}
 use lib.ListN.{length}
 use lib.Dec.{T, eqb, leb}
 use native.Mathlib.Omega.{arith}
-use borrow.Author.Tests.{eq-eqb, le-leb, le-ltb, eqb-true}
+use borrow.Author.Tests.{eq-eqb, le-leb, le-ltb, eqb-true, leb-true}
 use Rattle.codec.specs.Lists.{select, any, all, every, same, first}
 use Rattle.codec.specs.Sets.{member, empty, part}
 use Rattle.codec.specs.Records.{LogRecord, bytesOf, recordOf, lengths, lengthOf, membersIn, presumeCommitIn, awaitsAcks, recordKindAt, masksInRange, fieldsInRange, isRecord, sequences, agrees, ofTransaction, inSequence, recordTests, recordRefusals}
 use Rattle.codec.specs.Image.{most, overLimit, logRefusals}
 use Rattle.codec.specs.laws.Tests.{and-left, and-right, true-of, lt-or-le}
-use Rattle.codec.specs.laws.Fields.{no-kind-high}
 use Rattle.site.specs.Presumption.{presumptionNumber, presumedAbort, presumedCommit}
 use Rattle.site.specs.Cohort.{Cohort, masksOf, presumptionOf}
 use Rattle.joint.proofs.Booleans.{and-both}
 use Rattle.joint.proofs.view.Updates.{select-append}
-use Rattle.joint.proofs.safety.Invariant.{writesInit, awaitsCommit, fieldsAt, recordFor}
-use Rattle.joint.proofs.logs.Counts.{own, own-head}
 use Rattle.joint.proofs.safety.Sets.{owing-minus}
+use Rattle.joint.proofs.safety.Invariant.{writesInit, awaitsCommit, fieldsAt, recordFor}
+use Rattle.joint.proofs.logs.Counts.{recordsOf, records-head}
 
 -- ---- kinds
 
@@ -28,17 +27,19 @@ use Rattle.joint.proofs.safety.Sets.{owing-minus}
 abbrev pub mayStand : ℕ → Bool → Bool → List ℕ → ℕ → Bool
 mayStand s i a ks k = recordKindAt s k && ((not (eqb k 1) || i) && ((not (eqb k 3) || a) && any (same (ks ++ (k ∷ []))) sequences))
 
-abbrev pub inOrder : ℕ → Bool → Bool → List ℕ → List ℕ → Bool
-inOrder s i a ks [] = true
-inOrder s i a ks (j ∷ js) = mayStand s i a ks j && inOrder s i a (ks ++ (j ∷ [])) js
+-- each of the kinds js may stand behind ks and those before it
+abbrev pub orderly : ℕ → Bool → Bool → List ℕ → List ℕ → Bool
+orderly s i a ks [] = true
+orderly s i a ks (j ∷ js) = mayStand s i a ks j && orderly s i a (ks ++ (j ∷ [])) js
 
-pub order-front : (s : ℕ) (i a : Bool) (ks js ms : List ℕ) → T (inOrder s i a ks (js ++ ms)) → T (inOrder s i a ks js)
+pub order-front : (s : ℕ) (i a : Bool) (ks js ms : List ℕ) → T (orderly s i a ks (js ++ ms)) → T (orderly s i a ks js)
 order-front s i a ks [] ms t = tt
 order-front s i a ks (j ∷ js) ms t =
     and-both (mayStand s i a ks j) _ (and-left (mayStand s i a ks j) _ t) (order-front s i a (ks ++ (j ∷ [])) js ms (and-right (mayStand s i a ks j) _ t))
 
 -- ---- a cohort in range, and its records
 
+-- its members are a byte and not 0, and PC is a part of them
 pub record Ranged (g : Cohort) : Type 0 where
   pub some : 1 ≤ g .members
   pub byte : g .members < 256
@@ -52,8 +53,22 @@ presumption-small g s = go (member s (g .presumeCommit))
     go true = refl
     go false = refl
 
-kind-below : (s k : ℕ) → T (recordKindAt s k) → k < 8
-kind-below s k a = ⊎-elim (λ h. h) (λ h. absurd (subst T (no-kind-high s k h) a)) (lt-or-le k 8)
+-- P holds of the n numbers from a on
+abbrev From : (ℕ → Type 0) → ℕ → ℕ → Type 0
+From P a zero = Unit {0}
+From P a (suc n) = P a × From P (suc a) n
+
+from-at : (P : ℕ → Type 0) (a n k : ℕ) → From P a n → a ≤ k → k < a + n → P k
+from-at P a zero k f h l = absurd (omega arith)
+from-at P a (suc n) k f h l =
+    ⊎-elim (λ m. from-at P (suc a) n k (f .1) m (omega arith)) (λ m. subst P (omega arith) (f .0)) (lt-or-le a k)
+
+-- so it holds of a number from a to a + n
+in-between : (P : ℕ → Type 0) (a n k : ℕ) → From P a (suc n) → T (leb a k && leb k (a + n)) → P k
+in-between P a n k f t =
+    let low = leb-true a k (true-of _ (and-left (leb a k) (leb k (a + n)) t)) in
+    let high = leb-true k (a + n) (true-of _ (and-right (leb a k) (leb k (a + n)) t)) in
+    from-at P a (suc n) k f low (omega (arith, high))
 
 module _ (g : Cohort) (t : ℕ) (h : t < 8) (m : Ranged g) where
   in-range : leb t 7 ≡ true
@@ -64,28 +79,17 @@ module _ (g : Cohort) (t : ℕ) (h : t < 8) (m : Ranged g) where
   unfolding masksInRange membersIn presumeCommitIn masksOf every
   masks k = rw (le-leb 1 (g .members) (m .some), le-leb (g .members) 255 (omega (arith, m .byte)), m .part)
 
-  record-fields : (s k : ℕ) → k < 8 → T (recordKindAt s k) → T (not (eqb k 1) || writesInit g) → isRecord s (bytesOf (recordFor g t s k)) ≡ true
-  unfolding recordKindAt isRecord recordOf bytesOf every lengthOf lengths fieldsInRange masksOf presumeCommitIn
-  record-fields zero zero l a b = absurd a
-  record-fields zero (suc zero) l a b = rw (in-range, masks 1, true-of (not (empty (g .presumeCommit))) b)
-  record-fields zero (suc (suc zero)) l a b = rw (in-range, masks 2)
-  record-fields zero (suc (suc (suc zero))) l a b = rw in-range
-  record-fields zero (suc (suc (suc (suc zero)))) l a b = rw in-range
-  record-fields zero (suc (suc (suc (suc (suc zero))))) l a b = absurd a
-  record-fields zero (suc (suc (suc (suc (suc (suc zero)))))) l a b = absurd a
-  record-fields zero (suc (suc (suc (suc (suc (suc (suc zero))))))) l a b = absurd a
-  record-fields (suc s) zero l a b = absurd a
-  record-fields (suc s) (suc zero) l a b = absurd a
-  record-fields (suc s) (suc (suc zero)) l a b = absurd a
-  record-fields (suc s) (suc (suc (suc zero))) l a b = absurd a
-  record-fields (suc s) (suc (suc (suc (suc zero)))) l a b = absurd a
-  record-fields (suc s) (suc (suc (suc (suc (suc zero))))) l a b = rw (in-range, presumption-small g (suc s))
-  record-fields (suc s) (suc (suc (suc (suc (suc (suc zero)))))) l a b = rw in-range
-  record-fields (suc s) (suc (suc (suc (suc (suc (suc (suc zero))))))) l a b = rw in-range
-  record-fields s (suc (suc (suc (suc (suc (suc (suc (suc k)))))))) l a b = absurd (omega (arith, l))
+  -- the record of kind k passes, a record 1 where it is written
+  abbrev Passes : ℕ → ℕ → Type 0
+  Passes s k = T (not (eqb k 1) || writesInit g) → isRecord s (bytesOf (recordFor g t s k)) ≡ true
 
-  record-is : (s k : ℕ) → T (recordKindAt s k) → T (not (eqb k 1) || writesInit g) → isRecord s (bytesOf (recordFor g t s k)) ≡ true
-  record-is s k a b = record-fields s k (kind-below s k a) a b
+  record-is : (s k : ℕ) → T (recordKindAt s k) → Passes s k
+  unfolding recordKindAt isRecord recordOf bytesOf every lengthOf lengths fieldsInRange masksOf presumeCommitIn
+  record-is zero k =
+      in-between (Passes 0) 1 3 k
+      (λ b. rw (in-range, masks 1, true-of (not (empty (g .presumeCommit))) b), (λ b. rw (in-range, masks 2), (λ b. rw in-range, (λ b. rw in-range, tt))))
+  record-is (suc s) k =
+      in-between (Passes (suc s)) 5 2 k (λ b. rw (in-range, presumption-small g (suc s)), (λ b. rw in-range, (λ b. rw in-range, tt)))
 
 -- ---- the order of a transaction's records
 
@@ -122,7 +126,7 @@ module _ (g : Cohort) (t s : ℕ) where
   all-agree k a [] = refl
   all-agree k a (j ∷ ks) = rw (records-agree j k a, all-agree k a ks)
 
-  record-follows : (before : List LogRecord) (ks : List ℕ) (k : ℕ) → own t before ≡ map (recordFor g t s) ks → T (not (eqb k 3) || awaitsCommit g)
+  record-follows : (before : List LogRecord) (ks : List ℕ) (k : ℕ) → recordsOf t before ≡ map (recordFor g t s) ks → T (not (eqb k 3) || awaitsCommit g)
       → T (any (same (ks ++ (k ∷ []))) sequences) → inSequence before (recordFor g t s k) ≡ true
   unfolding inSequence
   record-follows before ks k e a b = rw (e, kinds-of ks, all-agree k a ks, true-of (any (same (ks ++ (k ∷ []))) sequences) b)
@@ -134,13 +138,13 @@ module _ (g : ℕ → Cohort) (s : ℕ) where
   pub record Follows (t : ℕ) (before log : List LogRecord) : Type 0 where
     pub earlier : List ℕ
     pub later : List ℕ
-    pub is-earlier : own t before ≡ map (recordFor (g t) t s) earlier
-    pub is-later : own t log ≡ map (recordFor (g t) t s) later
-    pub orderly : T (inOrder s (writesInit (g t)) (awaitsCommit (g t)) earlier later)
+    pub is-earlier : recordsOf t before ≡ map (recordFor (g t) t s) earlier
+    pub is-later : recordsOf t log ≡ map (recordFor (g t) t s) later
+    pub order : T (orderly s (writesInit (g t)) (awaitsCommit (g t)) earlier later)
     pub ranged : (later ≡ []) ⊎ ((t < 8) × Ranged (g t))
 
-  own-one : (x : LogRecord) → own (x .transaction) (x ∷ []) ≡ x ∷ []
-  own-one x = own-head x [] ∙ unfold select in refl
+  records-one : (x : LogRecord) → recordsOf (x .transaction) (x ∷ []) ≡ x ∷ []
+  records-one x = records-head x [] ∙ unfold select in refl
 
   record Head (x : LogRecord) (before log : List LogRecord) : Type 0 where
     fits : isRecord s (bytesOf x) ≡ true
@@ -148,7 +152,7 @@ module _ (g : ℕ → Cohort) (s : ℕ) where
     rest : Follows (x .transaction) (before ++ (x ∷ [])) log
 
   head-of : (x : LogRecord) (before log : List LogRecord) → Follows (x .transaction) before (x ∷ log) → Head x before log
-  head-of x before log f = go (f .later) (sym (own-head x log) ∙ f .is-later) (f .orderly) (f .ranged)
+  head-of x before log f = go (f .later) (sym (records-head x log) ∙ f .is-later) (f .order) (f .ranged)
     where
       u : ℕ
       u = x .transaction
@@ -162,11 +166,11 @@ module _ (g : ℕ → Cohort) (s : ℕ) where
       a : Bool
       a = awaitsCommit (g u)
 
-      seen : (k : ℕ) → x ≡ put k → own u (before ++ (x ∷ [])) ≡ map put (f .earlier ++ (k ∷ []))
+      seen : (k : ℕ) → x ≡ put k → recordsOf u (before ++ (x ∷ [])) ≡ map put (f .earlier ++ (k ∷ []))
       seen k e =
-          select-append (ofTransaction u) before (x ∷ []) ∙ ap₂ _++_ (f .is-earlier) (own-one x ∙ ap (λ (y : LogRecord). y ∷ []) e) ∙ sym (map-append put (f .earlier) (k ∷ []))
+          select-append (ofTransaction u) before (x ∷ []) ∙ ap₂ _++_ (f .is-earlier) (records-one x ∙ ap (λ (y : LogRecord). y ∷ []) e) ∙ sym (map-append put (f .earlier) (k ∷ []))
 
-      go : (ks : List ℕ) → x ∷ own u log ≡ map put ks → T (inOrder s i a (f .earlier) ks) → (ks ≡ []) ⊎ ((u < 8) × Ranged (g u)) → Head x before log
+      go : (ks : List ℕ) → x ∷ recordsOf u log ≡ map put ks → T (orderly s i a (f .earlier) ks) → (ks ≡ []) ⊎ ((u < 8) × Ranged (g u)) → Head x before log
       go [] e o r = absurd (omega (arith, ap length e))
       go (k ∷ ks) e o (inl q) = absurd (omega (arith, ap length q))
       go (k ∷ ks) e o (inr r) =
@@ -185,7 +189,7 @@ module _ (g : ℕ → Cohort) (s : ℕ) where
                   later = ks;
                   is-earlier = seen k here;
                   is-later = cc;
-                  orderly = and-right (mayStand s i a (f .earlier) k) _ o;
+                  order = and-right (mayStand s i a (f .earlier) k) _ o;
                   ranged = inr r;
                 };
           }
@@ -200,7 +204,7 @@ module _ (g : ℕ → Cohort) (s : ℕ) where
         later = f .later;
         is-earlier = rw (select-append, e, append-nil) (f .is-earlier);
         is-later = rw e at (f .is-later);
-        orderly = f .orderly;
+        order = f .order;
         ranged = f .ranged;
       }
 

@@ -2,6 +2,7 @@
 use mathlib.Core.Bool.{Bool, true, false, _&&_}
 use mathlib.Core.List.{List, [], _∷_}
 use Prim.Native.Nat.{ℕ, zero, suc}
+use lib.ListN.{getD}
 use lib.Dec.{T}
 use Rattle.codec.specs.laws.Tests.{and-left, and-right}
 use Rattle.site.specs.Presumption.{Outcome, commit, abort, Presumption, presumedAbort, presumedCommit}
@@ -10,14 +11,14 @@ use Rattle.joint.proofs.safety.Tables.{Status, working, prepared, gone,
 
 -- ---- the n-th of tests that all hold
 
+-- the codec's `every`, which does not compute in a test by itself, as an abbreviation; `look` is its `every-at`
 abbrev pub allOf : List Bool → Bool
 allOf [] = true
 allOf (b ∷ l) = b && allOf l
 
+-- behind the last there are only tests that hold
 abbrev pub nth : ℕ → List Bool → Bool
-nth n [] = true
-nth zero (b ∷ l) = b
-nth (suc n) (b ∷ l) = nth n l
+nth n l = getD l n true
 
 pub look : (n : ℕ) (l : List Bool) → T (allOf l) → T (nth n l)
 look n [] t = tt

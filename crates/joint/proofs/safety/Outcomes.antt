@@ -1,6 +1,6 @@
 -- Laws of outcomes and presumptions, by cases.
 use mathlib.Core.Path.{_≡_, refl}
-use mathlib.Core.Bool.{Bool, _||_}
+use mathlib.Core.Bool.{_||_}
 use lib.Dec.{T}
 use Rattle.site.specs.Presumption.{Outcome, commit, abort, sameOutcome, Presumption, presumedAbort, presumedCommit, acks, silence}
 

@@ -130,3 +130,7 @@ owing-minus g =
     go : (b : Bool) → acks (cond b presumedCommit presumedAbort) commit ≡ not b
     go true = refl
     go false = refl
+
+-- participant suc n is a member of the cohort
+abbrev pub belongs : Cohort → ℕ → Bool
+belongs g n = member (suc n) (g .members)

@@ -9,7 +9,7 @@ use native.Mathlib.Omega.{arith}
 use Rattle.codec.specs.Lists.{any, select}
 use Rattle.codec.specs.Sets.{participants, member, empty, bits, those, both, part}
 use Rattle.site.specs.Presumption.{Outcome, commit}
-use Rattle.joint.specs.State.{Site, fresh, opened, holds}
+use Rattle.joint.specs.State.{fresh, opened, holds}
 use Rattle.joint.specs.Run.{event, after}
 use Rattle.joint.specs.Safety.{happened, history, along, leaves, commitStable}
 use Rattle.joint.proofs.Booleans.{or-left, or-right, or-either}
@@ -21,7 +21,7 @@ use Rattle.joint.proofs.view.Acts.{holds-select}
 use Rattle.joint.proofs.view.Events.{event-turns}
 use Rattle.joint.proofs.safety.Tables.{has, Stage}
 use Rattle.joint.proofs.safety.Sets.{none-in-0}
-use Rattle.joint.proofs.safety.participant.Local.{holds-kinds}
+use Rattle.joint.proofs.safety.Holds.{holds-at}
 use Rattle.joint.proofs.safety.Invariant.{kindsIn, waiting, resting, down, Standing, never, initial, collecting, decided, hasDecided, initLog, writesInit, stableAt, Place, Mid, Inv, cohortOf}
 use Rattle.joint.proofs.safety.coordinator.Logs.{waiting-down, resting-down, commit-record}
 use Rattle.joint.proofs.safety.Kept.{Kept, turns-kept}
@@ -70,8 +70,8 @@ module _ (t : ℕ) where
       → commitStable t (after fresh es) ≡ has 2 (stableAt (writesInit (cohortOf (seenAfter es))) h)
   unfolding view commitStable siteView
   record-stands es h inv =
-      sym (holds-select t 2 (after fresh es .site 0 .stable)) ∙ ap (λ (s : Site). holds t 2 (s .stable)) (inv .mid .log)
-      ∙ holds-kinds (cohortOf (seenAfter es)) t 0 2 (stableAt (writesInit (cohortOf (seenAfter es))) h)
+      sym (holds-select t 2 (after fresh es .site 0 .stable))
+      ∙ holds-at (cohortOf (seenAfter es)) t 0 (stableAt (writesInit (cohortOf (seenAfter es))) h) (inv .mid .log) 2
 
   -- ---- every list of events
 

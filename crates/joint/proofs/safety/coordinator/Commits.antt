@@ -15,8 +15,9 @@ use Rattle.joint.proofs.view.View.{View, viewAt, viewPerform}
 use Rattle.joint.proofs.safety.Invariant.{Log, kindsIn, waiting, Pace, Standing, initial, collecting, decided, writesInit, initLog, siteWith, cohortOf}
 use Rattle.joint.proofs.safety.coordinator.Logs.{commitLog, end-unwritten, commit-kinds}
 use Rattle.joint.proofs.safety.coordinator.Shifts.{writes, begins, marks, commits, ends, settledAs}
-use Rattle.joint.proofs.safety.coordinator.Runs.{Each, Addressee, Node, Runs, node-stay, append-run, force-run, enter-run, sends-run, each-in-turn, each-ordered}
+use Rattle.joint.proofs.safety.coordinator.Runs.{Addressee, Node, Runs, node-stay, append-run, force-run, enter-run, sends-run, each-in-turn, each-ordered}
 use Rattle.joint.proofs.safety.Outcomes.{refl-outcome}
+use Rattle.joint.proofs.safety.Each.{Each}
 
 -- ---- begin
 

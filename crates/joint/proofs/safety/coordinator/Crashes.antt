@@ -4,7 +4,6 @@ use mathlib.Core.Path.{_≡_, refl}
 use mathlib.Core.Logic.{_⊎_, inl, inr, ⊎-elim}
 use mathlib.Core.Bool.{Bool, true, false, not, _&&_}
 use mathlib.Core.List.{List, [], _∷_, _++_, append-nil, map-append}
-use lib.ListN.{take}
 use lib.Dec.{T}
 use Rattle.codec.specs.Sets.{member}
 use Rattle.site.specs.Presumption.{Outcome, commit, abort, sameOutcome}
@@ -19,6 +18,7 @@ use Rattle.joint.proofs.safety.coordinator.Logs.{closed, commitLog, wai
 use Rattle.joint.proofs.safety.coordinator.Steps.{From, Shift, shift-keeps, standsAs, stand, settle-mid}
 use Rattle.joint.proofs.safety.coordinator.Ways.{way-commit, way-lost, way-done, way-self, way-down}
 use Rattle.codec.specs.laws.Tests.{of-true}
+use Rattle.joint.proofs.safety.Each.{take-none}
 
 -- ---- what a crash or a row leads to
 
@@ -31,14 +31,10 @@ pub record Next (t : ℕ) (h : Standing) (w : View) : Type 0 where
 -- ---- logs
 
 module _ (g : Cohort) (t : ℕ) (u : Bool) where
-  take-nil {ℓ} : {A : Type ℓ} (k : ℕ) → take {A = A} k [] ≡ []
-  take-nil zero = refl
-  take-nil (suc k) = refl
-
   -- nothing is unforced, or nothing is kept
   stopped-none : (k : ℕ) (ks : List ℕ) → stopped k (siteWith g t 0 u ks []) ≡ siteWith g t 0 false ks []
   unfolding stopped
-  stopped-none k ks = rw (take-nil k, append-nil) refl
+  stopped-none k ks = rw (take-none k, append-nil) refl
 
   stopped-lost : (ks js : List ℕ) → stopped 0 (siteWith g t 0 u ks js) ≡ siteWith g t 0 false ks []
   unfolding stopped
@@ -46,7 +42,7 @@ module _ (g : Cohort) (t : ℕ) (u : Bool) where
 
   stopped-kept : (k : ℕ) (ks ms : List ℕ) (j : ℕ) → ms ≡ ks ++ (j ∷ []) → stopped (suc k) (siteWith g t 0 u ks (j ∷ [])) ≡ siteWith g t 0 false ms []
   unfolding stopped
-  stopped-kept k ks ms j e = rw (e, map-append, take-nil k) refl
+  stopped-kept k ks ms j e = rw (e, map-append, take-none k) refl
 
 -- ---- the ways from standing to standing
 

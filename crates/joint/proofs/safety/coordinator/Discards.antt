@@ -4,11 +4,10 @@ use mathlib.Core.Path.{_≡_, refl, sym, ap, _∙_, subst}
 use mathlib.Core.Logic.{inl}
 use mathlib.Core.Bool.{Bool, true, false, not, true≢false}
 use mathlib.Core.List.{List, [], _∷_, map, append-nil}
-use lib.ListN.{drop}
 use lib.Dec.{T}
 use Rattle.codec.specs.Lists.{any}
 use Rattle.codec.specs.Sets.{member, empty}
-use Rattle.codec.specs.Records.{LogRecord, awaitsAcks, membersIn, presumeCommitIn}
+use Rattle.codec.specs.Records.{awaitsAcks, membersIn, presumeCommitIn}
 use Rattle.codec.specs.laws.Tests.{of-true}
 use Rattle.site.specs.Presumption.{Outcome, commit, abort, sameOutcome}
 use Rattle.site.specs.Cohort.{Cohort, masksOf, owing}
@@ -27,6 +26,7 @@ use Rattle.joint.proofs.safety.coordinator.Crashes.{Next, from-self}
 use Rattle.joint.proofs.safety.coordinator.Commits.{forced-kinds}
 use Rattle.joint.proofs.safety.coordinator.Ways.{way-done, way-self}
 use Rattle.joint.proofs.safety.Outcomes.{same-outcome}
+use Rattle.joint.proofs.safety.Each.{drop-map}
 
 -- ---- what a turn leads to
 
@@ -114,10 +114,6 @@ module _ (g : Cohort) (t : ℕ) where
   not-closed l3 o a e = absurd o
   not-closed l14 o a e = absurd o
   not-closed l4 o a e = absurd o
-
-drop-map : (f : ℕ → LogRecord) (ks : List ℕ) → drop 1 (map f ks) ≡ map f (drop 1 ks)
-drop-map f [] = refl
-drop-map f (k ∷ ks) = refl
 
 module _ (t : ℕ) (v : View) where
   abbrev Closes : List ℕ → Type 0

@@ -55,7 +55,7 @@ unended (ended o) = false
 abbrev logs : (Log → Bool) → List Bool
 logs f = f l0 ∷ f l1 ∷ f l12 ∷ f l2 ∷ f l123 ∷ f l23 ∷ f l3 ∷ f l14 ∷ f l4 ∷ []
 
-at-log : (f : Log → Bool) → T (allOf (logs f)) → (l : Log) → T (f l)
+pub at-log : (f : Log → Bool) → T (allOf (logs f)) → (l : Log) → T (f l)
 at-log f t l0 = look 0 (logs f) t
 at-log f t l1 = look 1 (logs f) t
 at-log f t l12 = look 2 (logs f) t

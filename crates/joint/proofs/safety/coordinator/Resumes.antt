@@ -14,11 +14,10 @@ use Rattle.site.specs.Coordinator.{Coordinator, tellAll, untilAcked, restartFro
 use Rattle.joint.specs.State.{Site, holds, started, withCoordinator, withSent}
 use Rattle.joint.proofs.view.View.{View, viewAt, viewSettle, viewPerform, viewEffects}
 use Rattle.joint.proofs.view.Turn.{Carried, whole, cutAfter, Opened, viewStart}
-use Rattle.joint.proofs.safety.Tables.{has}
 use Rattle.joint.proofs.safety.Sets.{member-owing, empty-none}
 use Rattle.joint.proofs.safety.Invariant.{Log, kindsIn, classOf, resumed, waiting, resting, down, Standing, never, initial, collecting, decided, writesInit, coordinatorAt, between, Mid, Inv, cohortOf}
 use Rattle.joint.proofs.safety.coordinator.Logs.{resumes-commit, resumes-abort}
-use Rattle.joint.proofs.safety.participant.Local.{holds-kinds}
+use Rattle.joint.proofs.safety.Holds.{holds-at}
 use Rattle.joint.proofs.safety.coordinator.Steps.{Shift, shift-keeps, standsAs, stand, settle-mid}
 use Rattle.joint.proofs.safety.coordinator.Crashes.{Next}
 use Rattle.joint.proofs.safety.coordinator.Runs.{Node, Runs, enter-run, runs-at, runs-end, cut-next}
@@ -122,14 +121,11 @@ module _ (t : ℕ) (v w : View) where
   restart-next commit l mid false q d = forget-next commit l mid q d
   restart-next abort l mid false q d = forget-next abort l mid q d
 
-  kinds-asked : (o : Outcome) (l : Log) → Mid t (decided o down l) v → (k : ℕ) → holds t k (v .site 0 .stable) ≡ has k (kindsIn l)
-  kinds-asked o l mid k = ap (λ (s : Site). holds t k (s .stable)) (mid .log) ∙ holds-kinds (cohortOf v) t 0 k (kindsIn l)
-
   restart-row : (o : Outcome) (l : Log) → Mid t (decided o down l) v
       → coordinatorRestart (cohortOf v) (λ k. holds t k (v .site 0 .stable)) ≡ restartFrom (cohortOf v) (sameOutcome o commit && resumed (classOf l)) (sameOutcome o abort && resumed (classOf l))
   unfolding coordinatorRestart
   restart-row o l mid =
-      rw (kinds-asked o l mid 1, kinds-asked o l mid 2, kinds-asked o l mid 3, kinds-asked o l mid 4, resumes-commit (writesInit (cohortOf v)) o l (mid .sound .fit), resumes-abort (writesInit (cohortOf v)) o l (mid .sound .fit)) refl
+      rw (holds-at (cohortOf v) t 0 (kindsIn l) (mid .log) 1, holds-at (cohortOf v) t 0 (kindsIn l) (mid .log) 2, holds-at (cohortOf v) t 0 (kindsIn l) (mid .log) 3, holds-at (cohortOf v) t 0 (kindsIn l) (mid .log) 4, resumes-commit (writesInit (cohortOf v)) o l (mid .sound .fit), resumes-abort (writesInit (cohortOf v)) o l (mid .sound .fit)) refl
 
   pub resume-after : (h : Standing) → Inv t h v → Opened v → v .site 0 .up ≡ false → {row : Row Coordinator}
       → coordinatorRestart (cohortOf v) (λ k. holds t k (v .site 0 .stable)) ≡ row

@@ -19,6 +19,7 @@ use Rattle.joint.proofs.safety.Sets.{no-zero}
 use Rattle.joint.proofs.safety.Invariant.{Standing, stageOf, hasDecided, writesInit, coordinatorAt, between, sentIn, Mid, cohortOf}
 use Rattle.joint.proofs.safety.coordinator.Steps.{From, Shift, shift-keeps, standsAs, stay, stand, settle-mid, enter-mid, send-mid}
 use Rattle.joint.proofs.safety.coordinator.Crashes.{Next, crash-next}
+use Rattle.joint.proofs.safety.Each.{Each, each-append}
 
 -- ---- addressees
 
@@ -26,10 +27,6 @@ use Rattle.joint.proofs.safety.coordinator.Crashes.{Next, crash-next}
 abbrev pub Addressee : Cohort → Standing → Message → ℕ → Type 0
 Addressee c h g zero = ⊥
 Addressee c h g (suc n) = T (member (suc n) (c .members)) × T (maySend (presumptionOf c (suc n)) (stageOf h (suc n)) false g)
-
-abbrev pub Each : (ℕ → Type 0) → List ℕ → Type 0
-Each P [] = Unit {0}
-Each P (p ∷ ps) = P p × Each P ps
 
 -- ---- runs
 
@@ -121,10 +118,6 @@ module _ (t : ℕ) (h0 : Standing) where
 -- ---- the order of sending
 
 module _ (P : ℕ → Type 0) where
-  each-append : (xs ys : List ℕ) → Each P xs → Each P ys → Each P (xs ++ ys)
-  each-append [] ys a b = b
-  each-append (x ∷ xs) ys a b = (a .0, each-append xs ys (a .1) b)
-
   each-cond : (b : Bool) (x : ℕ) (xs : List ℕ) → (T b → P x) → Each P xs → Each P (cond b (x ∷ xs) xs)
   each-cond true x xs h a = (h tt, a)
   each-cond false x xs h a = a
@@ -152,5 +145,5 @@ module _ (P : ℕ → Type 0) where
   unfolding ordered
   each-ordered first to h =
       let a = each-in-turn to h in
-      each-append (select (λ p. member p first) (inTurn to)) (select (λ p. not (member p first)) (inTurn to))
+      each-append P (select (λ p. member p first) (inTurn to)) (select (λ p. not (member p first)) (inTurn to))
       (each-kept (λ p. member p first) (inTurn to) a) (each-kept (λ p. not (member p first)) (inTurn to) a)

@@ -7,8 +7,8 @@ use lib.Dec.{T, eqb}
 use native.Mathlib.Omega.{arith}
 use borrow.Author.Tests.{ne-eqb, eqb-true}
 use Rattle.codec.specs.Sets.{member}
-use Rattle.site.specs.Presumption.{Outcome, commit, abort, sameOutcome}
-use Rattle.site.specs.Cohort.{Cohort, presumptionOf}
+use Rattle.site.specs.Presumption.{Outcome, commit, sameOutcome}
+use Rattle.site.specs.Cohort.{presumptionOf}
 use Rattle.site.specs.Step.{Message, voteYes, voteNo, messageKind, enter, send}
 use Rattle.site.specs.Coordinator.{Coordinator}
 use Rattle.joint.specs.State.{Site, update, withCoordinator, withSent}
@@ -19,6 +19,7 @@ use Rattle.joint.proofs.safety.Tables.{Status, has, Stage, Fine, passes
 use Rattle.joint.proofs.safety.coordinator.Passes.{pass-fine, send-fine}
 use Rattle.joint.proofs.safety.Invariant.{Standing, never, stageOf, hasDecided, standingFits, properLog, awaitsCommit, SetsFit, writesInit, standingUp, stableAt, unforcedAt, isNever, siteWith, sentIn, Member, Stranger, Place, Sound, Mid, cohortOf}
 use Rattle.joint.proofs.safety.Outcomes.{same-outcome}
+use Rattle.joint.proofs.safety.Sets.{belongs}
 
 -- ---- what changes of the standing are allowed
 
@@ -119,9 +120,6 @@ stranger-entered t {v} {n} o x =
 -- ---- standings
 
 module _ {t : ℕ} {v : View} {h : Standing} (mid : Mid t h v) where
-  abbrev isMember : ℕ → Bool
-  isMember n = member (suc n) (cohortOf v .members)
-
   sound-as : {h′ : Standing} → Move v h h′ → Sound t (cohortOf v) h′
   sound-as x =
       record {
@@ -141,7 +139,7 @@ module _ {t : ℕ} {v : View} {h : Standing} (mid : Mid t h v) where
         sound = sound-as x;
         log = mid .log ∙ e;
         entries = λ o u. keeps o (mid .entries o u);
-        places = λ n. place-map t n (stageOf h (suc n)) (stageOf h′ (suc n)) v v (isMember n) (λ b. member-pass (stageOf h′ (suc n)) (x .passing n b)) (λ b s. s) (mid .places n);
+        places = λ n. place-map t n (stageOf h (suc n)) (stageOf h′ (suc n)) v v (belongs (cohortOf v) n) (λ b. member-pass (stageOf h′ (suc n)) (x .passing n b)) (λ b s. s) (mid .places n);
       }
 
   -- with a change of the log
@@ -152,7 +150,7 @@ module _ {t : ℕ} {v : View} {h : Standing} (mid : Mid t h v) where
         sound = sound-as x;
         log = ap k (mid .log) ∙ e;
         entries = λ o u. keeps o (mid .entries o u);
-        places = λ n. place-map t n (stageOf h (suc n)) (stageOf h′ (suc n)) v (viewAt 0 k v) (isMember n) (λ b y. member-beside k (member-pass (stageOf h′ (suc n)) (x .passing n b) y)) (λ b. stranger-beside k) (mid .places n);
+        places = λ n. place-map t n (stageOf h (suc n)) (stageOf h′ (suc n)) v (viewAt 0 k v) (belongs (cohortOf v) n) (λ b y. member-beside k (member-pass (stageOf h′ (suc n)) (x .passing n b) y)) (λ b. stranger-beside k) (mid .places n);
       }
 
   pub settle-mid : (c : Coordinator) → Mid t h (viewSettle (withCoordinator c) v)
@@ -162,7 +160,7 @@ module _ {t : ℕ} {v : View} {h : Standing} (mid : Mid t h v) where
         sound = mid .sound;
         log = mid .log;
         entries = mid .entries;
-        places = λ n. place-map t n (stageOf h (suc n)) (stageOf h (suc n)) v (viewSettle (withCoordinator c) v) (isMember n) (λ b. member-settle c) (λ b. stranger-settle c) (mid .places n);
+        places = λ n. place-map t n (stageOf h (suc n)) (stageOf h (suc n)) v (viewSettle (withCoordinator c) v) (belongs (cohortOf v) n) (λ b. member-settle c) (λ b. stranger-settle c) (mid .places n);
       }
 
   -- ---- an entry
@@ -174,7 +172,7 @@ module _ {t : ℕ} {v : View} {h : Standing} (mid : Mid t h v) where
         sound = mid .sound;
         log = mid .log;
         entries = λ r u. or-either (v .entered 0 r) (sameOutcome r o) (mid .entries r) (λ k. subst (λ (z : Outcome). T (hasDecided h z)) (sym (same-outcome r o k)) d) u;
-        places = λ n. place-map t n (stageOf h (suc n)) (stageOf h (suc n)) v (viewPerform 0 t (enter o) v) (isMember n) (λ b. member-entered o) (λ b. stranger-entered t o) (mid .places n);
+        places = λ n. place-map t n (stageOf h (suc n)) (stageOf h (suc n)) v (viewPerform 0 t (enter o) v) (belongs (cohortOf v) n) (λ b. member-entered o) (λ b. stranger-entered t o) (mid .places n);
       }
 
   -- ---- a message to the member suc n; y: whether it answers a Yes
@@ -242,5 +240,5 @@ module _ {t : ℕ} {v : View} {h : Standing} (mid : Mid t h v) where
           sound = mid .sound;
           log = mid .log;
           entries = mid .entries;
-          places = λ k. place-map t k (stageOf h (suc k)) (stageOf h (suc k)) v (viewPerform 0 t (send g (suc n)) v) (isMember k) (λ b. member-sent k) (stranger-sent k) (mid .places k);
+          places = λ k. place-map t k (stageOf h (suc k)) (stageOf h (suc k)) v (viewPerform 0 t (send g (suc n)) v) (belongs (cohortOf v) k) (λ b. member-sent k) (stranger-sent k) (mid .places k);
         }

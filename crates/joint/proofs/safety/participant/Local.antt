@@ -1,14 +1,13 @@
 -- What happens at one participant: the view follows the kinds of its records, and elsewhere stays as it is.
-use Prim.Native.Nat.{ℕ, zero, suc}
-use mathlib.Core.Path.{_≡_, refl, sym, ap, ap₂, subst, _∙_}
+use Prim.Native.Nat.{ℕ, suc}
+use mathlib.Core.Path.{_≡_, refl, sym, ap, ap₂, subst, _∙_, fun-ext}
 use mathlib.Core.Logic.{_≢_}
-use mathlib.Core.Bool.{Bool, true, false, not, _&&_, _||_, and-true, or-false, or-assoc}
+use mathlib.Core.Bool.{Bool, true, false, not, _&&_, _||_, and-true, or-false, or-assoc, or-comm}
 use mathlib.Core.List.{List, [], _∷_, _++_, map, map-append}
 use lib.ListN.{take, drop}
 use lib.Dec.{eqb, eqb·suc-zero}
 use borrow.Author.Tests.{eq-eqb, ne-eqb}
-use Rattle.codec.specs.Lists.{any}
-use Rattle.codec.specs.Records.{LogRecord, ofTransaction}
+use Rattle.codec.specs.Records.{LogRecord}
 use Rattle.site.specs.Presumption.{Outcome, sameOutcome}
 use Rattle.site.specs.Cohort.{Cohort}
 use Rattle.site.specs.Step.{Message, voteYes, messageKind, Effect, append, force, enter, send}
@@ -19,23 +18,14 @@ use Rattle.joint.proofs.view.Updates.{update-same, update-other}
 use Rattle.joint.proofs.view.View.{View, viewAt, viewSettle, viewPerform, viewEffects, viewDown}
 use Rattle.joint.proofs.view.Turn.{viewStart, viewDiscard, viewForget, trimmedView, noRecord, isNil}
 use Rattle.joint.proofs.safety.Tables.{has}
+use Rattle.joint.proofs.safety.Each.{Each, map-take, drop-map}
 use Rattle.joint.proofs.safety.Invariant.{fieldsAt, recordFor, siteWith, sentIn}
+use Rattle.joint.proofs.safety.Holds.{holds-at}
 use Rattle.joint.proofs.safety.participant.Rows.{Part, moved, effect, effects, halted, settled, woken, dropped, phaseLeft}
 
--- ---- lists
+-- ---- one site, and all others
 
-map-take {ℓ κ} : {A : Type ℓ} {B : Type κ} (f : A → B) (k : ℕ) (xs : List A) → map f (take k xs) ≡ take k (map f xs)
-map-take f zero xs = refl
-map-take f (suc k) [] = refl
-map-take {B} f (suc k) (x ∷ xs) = ap (λ (l : List B). f x ∷ l) (map-take f k xs)
-
-pub holds-kinds : (g : Cohort) (t p k : ℕ) (ks : List ℕ) → holds t k (map (recordFor g t p) ks) ≡ has k ks
-unfolding holds has any ofTransaction
-holds-kinds g t p k [] = refl
-holds-kinds g t p k (j ∷ ks) = rw (eq-eqb t t refl) (ap (λ (b : Bool). eqb j k || b) (holds-kinds g t p k ks))
-
--- ---- what of a view is at site s
-
+-- what a view tells of one site
 pub record Local : Type 0 where
   pub site : Site
   pub participant : Participant
@@ -43,6 +33,7 @@ pub record Local : Type 0 where
   pub entered : Outcome → Bool
   pub voted : Bool
 
+-- of site s
 abbrev pub local : ℕ → View → Local
 local s v =
     record {
@@ -53,14 +44,28 @@ local s v =
       voted = v .voted s;
     }
 
--- w is as v but at site p
+-- w is as v, but perhaps at site p
 pub record Elsewhere (p : ℕ) (v w : View) : Type 0 where
   pub cohort : w .transaction .cohort ≡ v .transaction .cohort
   pub coordinator : w .transaction .coordinator ≡ v .transaction .coordinator
   pub rest : (s : ℕ) → s ≢ p → local s w ≡ local s v
 
--- ---- w is v after what took the participant to y
+-- nothing changed
+pub elsewhere-none : {p : ℕ} {v : View} → Elsewhere p v v
+elsewhere-none = record { cohort = refl; coordinator = refl; rest = λ s h. refl }
 
+-- one change at p after another
+elsewhere-then : {p : ℕ} {u v w : View} → Elsewhere p u v → Elsewhere p v w → Elsewhere p u w
+elsewhere-then a b =
+    record { cohort = b .cohort ∙ a .cohort; coordinator = b .coordinator ∙ a .coordinator; rest = λ s h. b .rest s h ∙ a .rest s h }
+
+-- field by field
+local-same : {x y : Local} → x .site ≡ y .site → x .participant ≡ y .participant → x .sent ≡ y .sent → x .entered ≡ y .entered → x .voted ≡ y .voted → x ≡ y
+local-same a b c d e = λ i. record { site = a i; participant = b i; sent = c i; entered = d i; voted = e i }
+
+-- ---- what happens at participant p
+
+-- w is v after what took p to y; what y sent, entered and voted comes to what v tells of p
 pub record Reached (t p : ℕ) (v : View) (y : Part) (w : View) : Type 0 where
   pub site : w .site p ≡ siteWith (v .transaction .cohort) t p (y .up) (y .stable) (y .unforced)
   pub phase : w .transaction .participant p ≡ y .phase
@@ -69,12 +74,17 @@ pub record Reached (t p : ℕ) (v : View) (y : Part) (w : View) : Type 0 where
   pub voted : w .voted p ≡ (y .voted || v .voted p)
   pub elsewhere : Elsewhere p v w
 
+or-last : (a b c : Bool) → ((a || b) || c) ≡ ((c || a) || b)
+or-last a b c = or-comm (a || b) c ∙ sym (or-assoc c a b)
+
 module _ (t p : ℕ) (v : View) where
+  -- the site of p with records of these kinds
   abbrev here : Bool → List ℕ → List ℕ → Site
   here u ks js = siteWith (v .transaction .cohort) t p u ks js
 
-  abbrev own : ℕ → LogRecord
-  own k = recordFor (v .transaction .cohort) t p k
+  -- its record of kind k
+  abbrev put : ℕ → LogRecord
+  put k = recordFor (v .transaction .cohort) t p k
 
   -- the site changes
   reach-site : (f : Site → Site) (u : Bool) (ks js : List ℕ) {y : Part} {w : View}
@@ -89,19 +99,7 @@ module _ (t p : ℕ) (v : View) where
         entered = r .entered;
         voted = r .voted;
         elsewhere =
-            record {
-              cohort = r .elsewhere .cohort;
-              coordinator = r .elsewhere .coordinator;
-              rest =
-                  λ s h. (λ i. record {
-                    site = update-other p s f (w .site) h i;
-                    participant = w .transaction .participant s;
-                    sent = w .transaction .sent s;
-                    entered = w .entered s;
-                    voted = w .voted s;
-                  })
-                  ∙ r .elsewhere .rest s h;
-            };
+            elsewhere-then (r .elsewhere) (record { cohort = refl; coordinator = refl; rest = λ s h. local-same (update-other p s f (w .site) h) refl refl refl refl });
       }
 
   -- the phase changes
@@ -115,43 +113,23 @@ module _ (t p : ℕ) (v : View) where
         entered = r .entered;
         voted = r .voted;
         elsewhere =
-            record {
-              cohort = r .elsewhere .cohort;
-              coordinator = r .elsewhere .coordinator;
-              rest =
-                  λ s h. (λ i. record {
-                    site = w .site s;
-                    participant = update-other p s (λ _. x) (w .transaction .participant) h i;
-                    sent = w .transaction .sent s;
-                    entered = w .entered s;
-                    voted = w .voted s;
-                  })
-                  ∙ r .elsewhere .rest s h;
-            };
+            elsewhere-then (r .elsewhere) (record { cohort = refl; coordinator = refl; rest = λ s h. local-same refl (update-other p s (λ _. x) (w .transaction .participant) h) refl refl refl });
       }
 
   -- ---- effects
 
-  or-last : (a b c : Bool) → ((a || b) || c) ≡ ((c || a) || b)
-  or-last true b true = refl
-  or-last true b false = refl
-  or-last false true true = refl
-  or-last false true false = refl
-  or-last false false true = refl
-  or-last false false false = refl
-
   reach-append : (k : ℕ) {y : Part} {w : View} → Reached t p v y w
-      → Reached t p v (effect (append k (fieldsAt (v .transaction .cohort) p k)) y) (viewAt p (appended (own k)) w)
+      → Reached t p v (effect (append k (fieldsAt (v .transaction .cohort) p k)) y) (viewAt p (appended (put k)) w)
   unfolding appended
   reach-append k {y} r =
-      reach-site (appended (own k)) _ _ _
-      (ap (λ (l : List LogRecord). record { up = y .up; stable = map own (y .stable); unforced = l }) (sym (map-append own (y .unforced) (k ∷ [])))) r
+      reach-site (appended (put k)) _ _ _
+      (ap (λ (l : List LogRecord). record { up = y .up; stable = map put (y .stable); unforced = l }) (sym (map-append put (y .unforced) (k ∷ [])))) r
 
   pub reach-force : {y : Part} {w : View} → Reached t p v y w → Reached t p v (effect force y) (viewAt p forced w)
   unfolding forced
   reach-force {y} r =
       reach-site forced _ _ _
-      (ap (λ (l : List LogRecord). record { up = y .up; stable = l; unforced = [] }) (sym (map-append own (y .stable) (y .unforced)))) r
+      (ap (λ (l : List LogRecord). record { up = y .up; stable = l; unforced = [] }) (sym (map-append put (y .stable) (y .unforced)))) r
 
   reach-enter : (o : Outcome) {y : Part} {w : View} → Reached t p v y w → Reached t p v (effect (enter o) y) (viewPerform p t (enter o) w)
   unfolding viewPerform
@@ -163,23 +141,11 @@ module _ (t p : ℕ) (v : View) where
         entered = λ d. rw (eq-eqb p p refl, r .entered d) (or-last (y .entered d) (v .entered p d) (sameOutcome d o));
         voted = r .voted;
         elsewhere =
-            record {
-              cohort = r .elsewhere .cohort;
-              coordinator = r .elsewhere .coordinator;
-              rest =
-                  λ s h. (λ i. record {
-                    site = w .site s;
-                    participant = w .transaction .participant s;
-                    sent = w .transaction .sent s;
-                    entered = λ d. elsewhere-entered s h d i;
-                    voted = w .voted s;
-                  })
-                  ∙ r .elsewhere .rest s h;
-            };
+            elsewhere-then (r .elsewhere) (record { cohort = refl; coordinator = refl; rest = λ s h. local-same refl refl refl (fun-ext (entered-there s h)) refl });
       }
     where
-      elsewhere-entered : (s : ℕ) → s ≢ p → (d : Outcome) → (w .entered s d || (eqb p s && sameOutcome d o)) ≡ w .entered s d
-      elsewhere-entered s h d = rw (ne-eqb p s (λ e. h (sym e))) (or-false (w .entered s d))
+      entered-there : (s : ℕ) → s ≢ p → (d : Outcome) → (w .entered s d || (eqb p s && sameOutcome d o)) ≡ w .entered s d
+      entered-there s h d = rw (ne-eqb p s (λ e. h (sym e))) (or-false (w .entered s d))
 
   reach-send : (m : Message) {y : Part} {w : View} → Reached t p v y w → Reached t p v (effect (send m p) y) (viewPerform p t (send m p) w)
   unfolding viewPerform withSent sends
@@ -191,29 +157,14 @@ module _ (t p : ℕ) (v : View) where
         entered = r .entered;
         voted = voted-here;
         elsewhere =
-            record {
-              cohort = r .elsewhere .cohort;
-              coordinator = r .elsewhere .coordinator;
-              rest =
-                  λ s h. (λ i. record {
-                    site = w .site s;
-                    participant = w .transaction .participant s;
-                    sent = λ j. sent-there s h j i;
-                    entered = w .entered s;
-                    voted = voted-there s h i;
-                  })
-                  ∙ r .elsewhere .rest s h;
-            };
+            elsewhere-then (r .elsewhere) (record { cohort = refl; coordinator = refl; rest = λ s h. local-same refl refl (fun-ext (sent-there s h)) refl (voted-there s h) });
       }
     where
       isYes : Bool
       isYes = eqb (messageKind voteYes) (messageKind m)
 
-      known : holds t 5 (w .site p .stable) ≡ has 5 (y .stable)
-      known = ap (λ (x : Site). holds t 5 (x .stable)) (r .site) ∙ holds-kinds (v .transaction .cohort) t p 5 (y .stable)
-
       voted-here : (w .voted p || (eqb p p && (isYes && eqb p p) && holds t 5 (w .site p .stable))) ≡ (((isYes && has 5 (y .stable)) || y .voted) || v .voted p)
-      voted-here = rw (eq-eqb p p refl, known, r .voted, and-true isYes) (or-last (y .voted) (v .voted p) (isYes && has 5 (y .stable)))
+      voted-here = rw (eq-eqb p p refl, holds-at (v .transaction .cohort) t p (y .stable) (r .site) 5, r .voted, and-true isYes) (or-last (y .voted) (v .voted p) (isYes && has 5 (y .stable)))
 
       sent-there : (s : ℕ) → s ≢ p → (j : ℕ) → ((eqb s p && eqb j (messageKind m)) || w .transaction .sent s j) ≡ w .transaction .sent s j
       sent-there s h j = rw (ne-eqb s p h) refl
@@ -221,21 +172,16 @@ module _ (t p : ℕ) (v : View) where
       voted-there : (s : ℕ) → s ≢ p → (w .voted s || (eqb p s && (isYes && eqb s p) && holds t 5 (w .site s .stable))) ≡ w .voted s
       voted-there s h = rw (ne-eqb p s (λ e. h (sym e))) (or-false (w .voted s))
 
--- the fields are those of the participant's records, and its messages are its own
+-- the fields are those of the participant's records, and its messages bear its own number
 abbrev pub Proper : Cohort → ℕ → Effect → Type 0
 Proper g p (append k fs) = fs ≡ fieldsAt g p k
 Proper g p force = Unit {0}
 Proper g p (enter o) = Unit {0}
 Proper g p (send m q) = q ≡ p
 
+-- each of these effects is proper
 abbrev pub AllProper : Cohort → ℕ → List Effect → Type 0
-AllProper g p [] = Unit {0}
-AllProper g p (e ∷ es) = Proper g p e × AllProper g p es
-
-pub take-proper : (g : Cohort) (p m : ℕ) (es : List Effect) → AllProper g p es → AllProper g p (take m es)
-take-proper g p zero es h = tt
-take-proper g p (suc m) [] h = tt
-take-proper g p (suc m) (e ∷ es) h = (h .0, take-proper g p m es (h .1))
+AllProper g p = Each (Proper g p)
 
 module _ (t p : ℕ) (v : View) where
   reach-effect : (e : Effect) {y : Part} {w : View} → Proper (v .transaction .cohort) p e → Reached t p v y w
@@ -258,16 +204,17 @@ module _ (t p : ℕ) (v : View) where
 -- ---- a crash, a start, discard
 
 module _ (t n : ℕ) (v : View) where
-  kinds : List ℕ → List LogRecord
-  kinds ks = map (recordFor (v .transaction .cohort) t (suc n)) ks
+  -- the records of these kinds
+  abbrev written : List ℕ → List LogRecord
+  written ks = map (recordFor (v .transaction .cohort) t (suc n)) ks
 
   pub reach-down : (k : ℕ) {y : Part} {w : View} → Reached t (suc n) v y w
       → Reached t (suc n) v (halted (take k (y .unforced)) y) (viewDown (suc n) k w)
-  unfolding viewDown viewAt viewSettle forgotten stopped kinds
+  unfolding viewDown viewAt viewSettle forgotten stopped
   reach-down k {y} r =
       reach-site t (suc n) v (stopped k) false _ []
       (ap (λ (l : List LogRecord). record { up = false; stable = l; unforced = [] })
-      (ap (λ (l : List LogRecord). kinds (y .stable) ++ l) (sym (map-take _ k (y .unforced))) ∙ sym (map-append _ (y .stable) (take k (y .unforced)))))
+      (ap (λ (l : List LogRecord). written (y .stable) ++ l) (sym (map-take _ k (y .unforced))) ∙ sym (map-append _ (y .stable) (take k (y .unforced)))))
       (reach-phase t (suc n) v Participant.unknown r)
 
   pub reach-started : {y : Part} {w : View} → Reached t (suc n) v y w → Reached t (suc n) v (woken (y .phase) y) (viewAt (suc n) started w)
@@ -281,24 +228,20 @@ module _ (t n : ℕ) (v : View) where
 
   -- the participant with these records left
   reach-forget : (ks : List ℕ) {y : Part} {w : View} → Reached t (suc n) v y w
-      → Reached t (suc n) v (settled (phaseLeft ks (y .phase)) y) (viewForget (not (isNil (kinds ks))) (suc n) w)
-  unfolding viewForget isNil kinds
+      → Reached t (suc n) v (settled (phaseLeft ks (y .phase)) y) (viewForget (not (isNil (written ks))) (suc n) w)
+  unfolding viewForget isNil
   reach-forget [] r = reach-phase t (suc n) v Participant.unknown r
   reach-forget (k ∷ ks) r = r
 
   reach-trimmed : {y : Part} {w : View} → Reached t (suc n) v y w
       → Reached t (suc n) v (moved (y .up) (y .phase) (drop 1 (y .stable)) (y .unforced) y) (viewAt (suc n) trimmedView w)
-  unfolding trimmedView kinds
+  unfolding trimmedView
   reach-trimmed {y} r =
       reach-site t (suc n) v trimmedView (y .up) (drop 1 (y .stable)) (y .unforced)
-      (ap (λ (l : List LogRecord). record { up = y .up; stable = l; unforced = kinds (y .unforced) }) (oldest (y .stable))) r
-    where
-      oldest : (ks : List ℕ) → drop 1 (kinds ks) ≡ kinds (drop 1 ks)
-      oldest [] = unfold kinds in refl
-      oldest (k ∷ ks) = unfold kinds in refl
+      (ap (λ (l : List LogRecord). record { up = y .up; stable = l; unforced = written (y .unforced) }) (drop-map _ (y .stable))) r
 
   pub reach-dropped : {y : Part} {w : View} → Reached t (suc n) v y w → Reached t (suc n) v (dropped y) (viewDiscard (suc n) w)
-  unfolding viewDiscard noRecord kinds
+  unfolding viewDiscard noRecord
   reach-dropped {y} {w} r =
       subst (λ (b : Bool). Reached t (suc n) v (dropped y) (viewForget b (suc n) (viewAt (suc n) trimmedView w)))
       (sym (ap₂ (λ (a b : Bool). a || not b) (eqb·suc-zero n) (ap noRecord (trim .site) ∙ ap isNil (sym (map-append _ (drop 1 (y .stable)) (y .unforced))))))

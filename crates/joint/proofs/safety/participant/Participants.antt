@@ -2,15 +2,12 @@
 use Prim.Native.Nat.{ℕ, suc}
 use mathlib.Core.Path.{_≡_, refl, sym, ap, subst, _∙_, fun-ext}
 use mathlib.Core.Bool.{Bool, true, false, not, true≢false}
-use mathlib.Core.List.{List, [], _∷_, _++_, map}
+use mathlib.Core.List.{List, [], _∷_, map}
 use mathlib.Core.Option.{Option, none, some}
-use native.Mathlib.Omega.{arith}
 use lib.Dec.{T}
-use borrow.Author.Tests.{eqb-true}
 use Rattle.codec.specs.Lists.{any}
 use Rattle.codec.specs.Records.{LogRecord}
 use Rattle.codec.specs.Sets.{member, empty}
-use Rattle.codec.specs.laws.Members.{high-bits}
 use Rattle.codec.specs.laws.Tests.{true-of, of-true}
 use Rattle.site.specs.Presumption.{Outcome, commit, abort, sameOutcome, Presumption, acks}
 use Rattle.site.specs.Cohort.{Cohort, presumptionOf}
@@ -21,44 +18,46 @@ use Rattle.joint.specs.Plan.{closes, newest}
 use Rattle.joint.proofs.Booleans.{mp}
 use Rattle.joint.proofs.view.View.{View, viewAt, viewSettle, viewDown}
 use Rattle.joint.proofs.view.Turn.{Carried, Given, Own, Up, Opened, viewDiscard, viewStart}
-use Rattle.joint.proofs.safety.Tables.{Stage, isUp, stableKinds, has}
+use Rattle.joint.proofs.safety.Tables.{Stage, isUp, stableKinds}
+use Rattle.joint.proofs.safety.Sets.{empty-none, belongs}
+use Rattle.joint.proofs.safety.Each.{each-append, take-none}
 use Rattle.joint.proofs.safety.Invariant.{Standing, recordFor, stageOf, sentIn, Member, Place, Inv}
-use Rattle.joint.proofs.safety.participant.Rows.{ofStatus, effects, settled, woken, dropped, heard, lands, rowTest, onRow, step-at, restart-at, force-at, crash-at, discard-at}
-use Rattle.joint.proofs.safety.participant.Local.{holds-kinds, Elsewhere, AllProper, reach-phase, reach-force, reach-down, reach-started, reach-woken, reach-dropped}
-use Rattle.joint.proofs.safety.participant.Places.{isMember, only-at, from-member, member-after, member-carried, from-stranger, stranger-after, take-none, stranger-carried}
+use Rattle.joint.proofs.safety.Holds.{holds-at}
+use Rattle.joint.proofs.safety.participant.Rows.{ofStatus, settled, woken, dropped, heard, lands, rowTest, onRow, step-at, restart-at, force-at, crash-at, discard-at}
+use Rattle.joint.proofs.safety.participant.Local.{Elsewhere, AllProper, reach-phase, reach-force, reach-down, reach-started, reach-woken, reach-dropped}
+use Rattle.joint.proofs.safety.participant.Places.{only-at, from-member, member-after, member-carried, from-stranger, stranger-after, stranger-carried}
 
 -- ---- a participant's rows write records with its own fields, and send its own messages
 
+-- P holds of the row, if there is one
 abbrev OnRow : (Row Participant → Type 0) → Option (Row Participant) → Type 0
 OnRow P none = Unit {0}
 OnRow P (some r) = P r
 
 module _ (g : Cohort) (p : ℕ) where
-  abbrev own : Presumption
-  own = presumptionOf g p
+  -- its presumption
+  abbrev c : Presumption
+  c = presumptionOf g p
 
   given-proper : (b : Bool) (es : List Effect) → AllProper g p es → AllProper g p (given b es)
   unfolding given
   given-proper true es h = h
   given-proper false es h = tt
 
-  then-proper : (es fs : List Effect) → AllProper g p es → AllProper g p fs → AllProper g p (es ++ fs)
-  then-proper [] fs h k = k
-  then-proper (e ∷ es) fs h k = (h .0, then-proper es fs (h .1) k)
-
-  acking-proper : (o : Outcome) → AllProper g p (acking own p o)
+  acking-proper : (o : Outcome) → AllProper g p (acking c p o)
   unfolding acking
-  acking-proper o = given-proper (acks own o) (send (ack o) p ∷ []) (refl, tt)
+  acking-proper o = given-proper (acks c o) (send (ack o) p ∷ []) (refl, tt)
 
-  finish-proper : (o : Outcome) → AllProper g p (finish own p o .effects)
+  finish-proper : (o : Outcome) → AllProper g p (finish c p o .effects)
   unfolding finish outcomeRecord
-  finish-proper commit = (refl, then-proper (given (acks own commit) (force ∷ [])) _ (given-proper _ _ (tt, tt)) (tt, acking-proper commit))
-  finish-proper abort = (refl, then-proper (given (acks own abort) (force ∷ [])) _ (given-proper _ _ (tt, tt)) (tt, acking-proper abort))
+  finish-proper commit = (refl, each-append _ (given (acks c commit) (force ∷ [])) _ (given-proper _ _ (tt, tt)) (tt, acking-proper commit))
+  finish-proper abort = (refl, each-append _ (given (acks c abort) (force ∷ [])) _ (given-proper _ _ (tt, tt)) (tt, acking-proper abort))
 
-  abbrev Good : Option (Row Participant) → Type 0
-  Good = OnRow (λ r. AllProper g p (r .effects))
+  -- the effects of the row, if there is one, are proper
+  abbrev WellFormed : Option (Row Participant) → Type 0
+  WellFormed = OnRow (λ r. AllProper g p (r .effects))
 
-  prepare-proper : (x : Participant) → Good (onPrepare own p x)
+  prepare-proper : (x : Participant) → WellFormed (onPrepare c p x)
   unfolding onPrepare promising voting
   prepare-proper Participant.working = (refl, (tt, (refl, tt)))
   prepare-proper Participant.prepared = (refl, tt)
@@ -66,12 +65,12 @@ module _ (g : Cohort) (p : ℕ) where
   prepare-proper (Participant.decided abort) = (refl, tt)
   prepare-proper Participant.unknown = (refl, tt)
 
-  if-proper : (b : Bool) (o : Outcome) → Good (ackingIf own p b o)
+  if-proper : (b : Bool) (o : Outcome) → WellFormed (ackingIf c p b o)
   unfolding ackingIf acknowledging
   if-proper true o = acking-proper o
   if-proper false o = tt
 
-  tell-proper : (o : Outcome) (x : Participant) → Good (onTell own p o x)
+  tell-proper : (o : Outcome) (x : Participant) → WellFormed (onTell c p o x)
   unfolding onTell acknowledging
   tell-proper commit Participant.working = tt
   tell-proper abort Participant.working = finish-proper abort
@@ -82,14 +81,14 @@ module _ (g : Cohort) (p : ℕ) where
   tell-proper commit Participant.unknown = acking-proper commit
   tell-proper abort Participant.unknown = acking-proper abort
 
-  timer-proper : (x : Participant) → Good (participantTimer own p x)
+  timer-proper : (x : Participant) → WellFormed (participantTimer c p x)
   unfolding participantTimer voting
   timer-proper Participant.working = (tt, tt)
   timer-proper Participant.prepared = (refl, tt)
   timer-proper (Participant.decided o) = tt
   timer-proper Participant.unknown = tt
 
-  step-proper : (i : Input) (x : Participant) → Good (participantStep own p i x)
+  step-proper : (i : Input) (x : Participant) → WellFormed (participantStep c p i x)
   unfolding participantStep
   step-proper begin x = tt
   step-proper timer x = timer-proper x
@@ -99,48 +98,46 @@ module _ (g : Cohort) (p : ℕ) where
   step-proper (received (tell o) q) x = tell-proper o x
   step-proper (received (ack o) q) x = tt
 
-  restart-proper : (a b d : Bool) → AllProper g p (restartWith own p a b d .effects)
+  restart-proper : (a b d : Bool) → AllProper g p (restartWith c p a b d .effects)
   unfolding restartWith voting
   restart-proper true b d = (tt, tt)
   restart-proper false true d = (tt, tt)
   restart-proper false false true = (refl, tt)
   restart-proper false false false = tt
 
-  returned-proper : (f : ℕ → Bool) → AllProper g p (participantRestart own p f .effects)
+  returned-proper : (f : ℕ → Bool) → AllProper g p (participantRestart c p f .effects)
   unfolding participantRestart
   returned-proper f = restart-proper (f 6) (f 7) (f 5)
 
 -- ---- at a member the tests apply
 
 module _ {t : ℕ} {m : Stage} {n : ℕ} {v : View} (x : Member t m n v) where
-  abbrev habit : Presumption
-  habit = presumptionOf (v .transaction .cohort) (suc n)
+  -- its presumption
+  abbrev presumption : Presumption
+  presumption = presumptionOf (v .transaction .cohort) (suc n)
 
   is-up : {b : Bool} → v .site (suc n) .up ≡ b → isUp (x .status) ≡ b
   is-up u = sym (ap (λ (z : Site). z .up) (x .site)) ∙ u
 
-  discard-passed : Up v (suc n) → newest closes (v .site (suc n) .stable) ≡ true → T (lands habit timer (x .status) (dropped (ofStatus (x .status))))
+  discard-passed : Up v (suc n) → newest closes (v .site (suc n) .stable) ≡ true → T (lands presumption timer (x .status) (dropped (ofStatus (x .status))))
   discard-passed u e =
       mp (newest closes (map (recordFor (v .transaction .cohort) t (suc n)) (stableKinds (x .status)))) _
-      (mp (isUp (x .status)) _ (discard-at (v .transaction .cohort) t (suc n) habit (x .status)) (of-true (is-up u)))
+      (mp (isUp (x .status)) _ (discard-at (v .transaction .cohort) t (suc n) presumption (x .status)) (of-true (is-up u)))
       (of-true (sym (ap (λ (z : Site). newest closes (z .stable)) (x .site)) ∙ e))
 
-  step-passed : {row : Row Participant} (i : Input) → Up v (suc n) → participantStep habit (suc n) i (v .transaction .participant (suc n)) ≡ some row
-      → T (rowTest habit i (x .status) settled row)
+  step-passed : {row : Row Participant} (i : Input) → Up v (suc n) → participantStep presumption (suc n) i (v .transaction .participant (suc n)) ≡ some row
+      → T (rowTest presumption i (x .status) settled row)
   step-passed i u e =
-      subst (λ (o : Option (Row Participant)). T (onRow (rowTest habit i (x .status) settled) o))
-      (ap (participantStep habit (suc n) i) (sym (x .phase)) ∙ e)
-      (mp (isUp (x .status)) _ (step-at habit (suc n) (x .status) i) (of-true (is-up u)))
-
-  kinds-held : (k : ℕ) → holds t k (v .site (suc n) .stable) ≡ has k (stableKinds (x .status))
-  kinds-held k = ap (λ (z : Site). holds t k (z .stable)) (x .site) ∙ holds-kinds (v .transaction .cohort) t (suc n) k (stableKinds (x .status))
+      subst (λ (o : Option (Row Participant)). T (onRow (rowTest presumption i (x .status) settled) o))
+      (ap (participantStep presumption (suc n) i) (sym (x .phase)) ∙ e)
+      (mp (isUp (x .status)) _ (step-at presumption (suc n) (x .status) i) (of-true (is-up u)))
 
   restart-passed : {row : Row Participant} → v .site (suc n) .up ≡ false
-      → participantRestart habit (suc n) (λ k. holds t k (v .site (suc n) .stable)) ≡ row → T (rowTest habit timer (x .status) woken row)
+      → participantRestart presumption (suc n) (λ k. holds t k (v .site (suc n) .stable)) ≡ row → T (rowTest presumption timer (x .status) woken row)
   restart-passed u e =
-      subst (λ (r : Row Participant). T (rowTest habit timer (x .status) woken r))
-      (ap (participantRestart habit (suc n)) (sym (fun-ext kinds-held)) ∙ e)
-      (mp (not (isUp (x .status))) _ (restart-at habit (suc n) (x .status)) (of-true (ap not (is-up u))))
+      subst (λ (r : Row Participant). T (rowTest presumption timer (x .status) woken r))
+      (ap (participantRestart presumption (suc n)) (sym (fun-ext (holds-at _ t (suc n) _ (x .site)))) ∙ e)
+      (mp (not (isUp (x .status))) _ (restart-at presumption (suc n) (x .status)) (of-true (ap not (is-up u))))
 
 heard-given : (v : View) (p : ℕ) (i : Input) → Given v i → Own p i → T (heard i (sentIn v p))
 heard-given v p begin g o = tt
@@ -157,19 +154,15 @@ none-closes : newest closes [] ≡ false
 unfolding newest
 none-closes = refl
 
-none-in-empty : (p m : ℕ) → empty m ≡ true → member p m ≡ false
-unfolding empty member
-none-in-empty p m e = rw (eqb-true m 0 e) (rw (high-bits 0 0 p (omega arith) (omega arith)) refl)
-
 -- ---- the events
 
 module _ (t : ℕ) (h : Standing) (v : View) (inv : Inv t h v) where
   -- a participant that is a member (b), or none
   abbrev Moves : ℕ → View → Bool → Type 0
-  Moves n w b = isMember v n ≡ b → Place b t (stageOf h (suc n)) n v → Elsewhere (suc n) v w × Place b t (stageOf h (suc n)) n w
+  Moves n w b = belongs (v .transaction .cohort) n ≡ b → Place b t (stageOf h (suc n)) n v → Elsewhere (suc n) v w × Place b t (stageOf h (suc n)) n w
 
   either : (n : ℕ) {w : View} → ((b : Bool) → Moves n w b) → Inv t h w
-  either n f = only-at inv n (f (isMember v n) refl (inv .mid .places n))
+  either n f = only-at inv n (f (belongs (v .transaction .cohort) n) refl (inv .mid .places n))
 
   pub force-kept : (n : ℕ) → Up v (suc n) → Inv t h (viewAt (suc n) forced v)
   force-kept n u = either n go
@@ -189,7 +182,7 @@ module _ (t : ℕ) (h : Standing) (v : View) (inv : Inv t h v) where
   start-kept n u = either n go
     where
       go : (b : Bool) → Moves n (viewAt (suc n) started v) b
-      go true e x = absurd (true≢false (sym e ∙ none-in-empty (suc n) (v .transaction .cohort .members) u))
+      go true e x = absurd (empty-none (v .transaction .cohort .members) (suc n) (of-true u) (of-true e))
       go false e x = stranger-after refl x (reach-started t n v (from-stranger x))
 
   pub row-kept : {row : Row Participant} {w : View} (n : ℕ) (i : Input) → T (member (suc n) (v .transaction .cohort .members)) → Up v (suc n) → Given v i
@@ -201,9 +194,9 @@ module _ (t : ℕ) (h : Standing) (v : View) (inv : Inv t h v) where
       go : (b : Bool) → Moves n w b
       go true q x =
           member-carried i x (heard-given v (suc n) i d o)
-          (subst (Good (v .transaction .cohort) (suc n)) e (step-proper (v .transaction .cohort) (suc n) i (v .transaction .participant (suc n))))
+          (subst (WellFormed (v .transaction .cohort) (suc n)) e (step-proper (v .transaction .cohort) (suc n) i (v .transaction .participant (suc n))))
           settled _ (λ y z r. reach-phase t (suc n) v (row .phase) r) (step-passed x i u e) c
-      go false q x = absurd (true≢false (sym (true-of (isMember v n) k) ∙ q))
+      go false q x = absurd (true≢false (sym (true-of (belongs (v .transaction .cohort) n) k) ∙ q))
 
   pub discard-kept : (n : ℕ) → Up v (suc n) → Opened v → newest closes (v .site (suc n) .stable) ≡ true → Inv t h (viewDiscard (suc n) v)
   discard-kept n u o c = either n go

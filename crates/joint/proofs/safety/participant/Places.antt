@@ -8,7 +8,6 @@ use native.Mathlib.Omega.{arith}
 use lib.ListN.{take}
 use lib.Dec.{T, eqb}
 use borrow.Author.Tests.{eqb-true, eqb-false}
-use Rattle.codec.specs.Sets.{member}
 use Rattle.codec.specs.laws.Tests.{and-left, and-right}
 use Rattle.site.specs.Presumption.{Outcome, Presumption}
 use Rattle.site.specs.Cohort.{Cohort, presumptionOf}
@@ -20,13 +19,16 @@ use Rattle.joint.proofs.view.View.{View, viewEffects}
 use Rattle.joint.proofs.view.Turn.{Carried, whole, cutAfter, viewStart}
 use Rattle.joint.proofs.safety.Tables.{Status, isUp, stableKinds, unforcedKinds, Stage, fits, may, mayEnter, Fine}
 use Rattle.joint.proofs.safety.Finite.{allMessage, at-message, allOutcome, at-outcome}
+use Rattle.joint.proofs.safety.Sets.{belongs}
+use Rattle.joint.proofs.safety.Each.{each-take, take-none}
 use Rattle.joint.proofs.safety.Invariant.{Standing, stageOf, siteWith, sentIn, Member, Stranger, Place, Inv}
-use Rattle.joint.proofs.safety.participant.Rows.{Part, still, ofStatus, effects, heard, lands, rowTest, Landed, landed, row-whole, row-cut}
-use Rattle.joint.proofs.safety.participant.Local.{Local, local, Elsewhere, Reached, AllProper, take-proper, reach-effects, reach-down, reach-woken}
+use Rattle.joint.proofs.safety.participant.Rows.{Part, still, ofStatus, heard, lands, rowTest, Landed, landed, row-whole, row-cut}
+use Rattle.joint.proofs.safety.participant.Local.{Local, local, Elsewhere, elsewhere-none, Reached, AllProper, reach-effects, reach-down, reach-woken}
 
 -- ---- what is elsewhere stays as it is
 
 module _ (t : ℕ) (v w : View) (g : w .transaction .cohort ≡ v .transaction .cohort) where
+  -- what the site tells is fine
   abbrev FineAt : Presumption → Stage → Status → Local → Type 0
   FineAt c m s x = Fine c m s (λ k. x .sent (messageKind k)) (x .entered) (x .voted)
 
@@ -46,12 +48,9 @@ module _ (t : ℕ) (v w : View) (g : w .transaction .cohort ≡ v .transaction .
         entered = λ o. ap (λ (l : Local). l .entered o) e ∙ x .entered o;
       }
 
-abbrev pub isMember : View → ℕ → Bool
-isMember v n = member (suc n) (v .transaction .cohort .members)
-
 -- only participant suc n changes
 module _ {t : ℕ} {h : Standing} {v w : View} (inv : Inv t h v) (n : ℕ) where
-  pub only-at : Elsewhere (suc n) v w × Place (isMember v n) t (stageOf h (suc n)) n w → Inv t h w
+  pub only-at : Elsewhere (suc n) v w × Place (belongs (v .transaction .cohort) n) t (stageOf h (suc n)) n w → Inv t h w
   only-at (e, here) =
       record {
         mid =
@@ -59,7 +58,7 @@ module _ {t : ℕ} {h : Standing} {v w : View} (inv : Inv t h v) (n : ℕ) where
               sound = rw (e .cohort) (inv .mid .sound);
               log = rw (e .cohort) (ap (λ (l : Local). l .site) (e .rest 0 none) ∙ inv .mid .log);
               entries = λ o k. inv .mid .entries o (subst (λ (l : Local). T (l .entered o)) (e .rest 0 none) k);
-              places = λ j. subst (λ (g : Cohort). Place (member (suc j) (g .members)) t (stageOf h (suc j)) j w) (sym (e .cohort)) (go j (eqb j n) refl);
+              places = λ j. subst (λ (g : Cohort). Place (belongs g j) t (stageOf h (suc j)) j w) (sym (e .cohort)) (go j (eqb j n) refl);
             };
         phase = e .coordinator ∙ inv .phase;
         whole = inv .whole;
@@ -71,9 +70,9 @@ module _ {t : ℕ} {h : Standing} {v w : View} (inv : Inv t h v) (n : ℕ) where
       there : (j : ℕ) → eqb j n ≡ false → suc j ≢ suc n
       there j q k = eqb-false j n q (omega (arith, k))
 
-      go : (j : ℕ) (b : Bool) → eqb j n ≡ b → Place (isMember v j) t (stageOf h (suc j)) j w
-      go j true q = subst (λ (k : ℕ). Place (isMember v k) t (stageOf h (suc k)) k w) (sym (eqb-true j n q)) here
-      go j false q = place-same t v w (e .cohort) (isMember v j) (stageOf h (suc j)) j (e .rest (suc j) (there j q)) (inv .mid .places j)
+      go : (j : ℕ) (b : Bool) → eqb j n ≡ b → Place (belongs (v .transaction .cohort) j) t (stageOf h (suc j)) j w
+      go j true q = subst (λ (k : ℕ). Place (belongs (v .transaction .cohort) k) t (stageOf h (suc k)) k w) (sym (eqb-true j n q)) here
+      go j false q = place-same t v w (e .cohort) (belongs (v .transaction .cohort) j) (stageOf h (suc j)) j (e .rest (suc j) (there j q)) (inv .mid .places j)
 
 -- ---- a member
 
@@ -148,7 +147,7 @@ module _ {t : ℕ} {m : Stage} {n : ℕ} {v : View} where
         sent = λ g. refl;
         entered = λ o. refl;
         voted = refl;
-        elsewhere = record { cohort = refl; coordinator = refl; rest = λ s e. refl };
+        elsewhere = elsewhere-none;
       }
 
   pub member-after : {w : View} {y : Part} (i : Input) (x : Member t m n v) → T (heard i (sentIn v (suc n)))
@@ -181,13 +180,9 @@ module _ {t : ℕ} {m : Stage} {n : ℕ} {v : View} where
       member-after i x d (row-whole _ i (x .status) f row k) (reach _ _ (reach-effects t (suc n) v (row .effects) h (from-member x)))
   member-carried {row} i x d h f g reach k (cutAfter a b) =
       member-after i x d (row-cut _ i (x .status) f row k a b)
-      (reach-down t n v b (reach-effects t (suc n) v (take a (row .effects)) (take-proper _ (suc n) a (row .effects) h) (from-member x)))
+      (reach-down t n v b (reach-effects t (suc n) v (take a (row .effects)) (each-take _ a (row .effects) h) (from-member x)))
 
 -- ---- no member
-
-pub take-none : (k : ℕ) → take {A = ℕ} k [] ≡ []
-take-none zero = refl
-take-none (suc k) = refl
 
 module _ {t n : ℕ} {v : View} where
   pub from-stranger : (x : Stranger n v) → Reached t (suc n) v (still (v .site (suc n) .up) (v .transaction .participant (suc n)) [] []) v
@@ -198,7 +193,7 @@ module _ {t n : ℕ} {v : View} where
         sent = λ g. refl;
         entered = λ o. refl;
         voted = refl;
-        elsewhere = record { cohort = refl; coordinator = refl; rest = λ s e. refl };
+        elsewhere = elsewhere-none;
       }
 
   pub stranger-after : {w : View} {u : Bool} {x : Participant} {ks : List ℕ} → ks ≡ [] → Stranger n v → Reached t (suc n) v (still u x ks []) w
