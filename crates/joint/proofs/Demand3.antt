@@ -16,7 +16,8 @@ use Rattle.joint.specs.State.{Run, Site, fresh, holds}
 use Rattle.joint.specs.Run.{event, after}
 use Rattle.joint.specs.Safety.{Moment, happened, history, along, isEntry, isVote, isReply, inDoubt, commitStable, outcome, Happens, Safe, Demand3}
 use Rattle.joint.proofs.History.{history-snoc}
-use Rattle.joint.proofs.Moments.{any-found, any-more, any-middle, placed, moment-start, moment-cohort}
+use Rattle.joint.proofs.Lists.{any-found, any-more, any-middle}
+use Rattle.joint.proofs.Moments.{placed, moment-start, moment-cohort}
 use Rattle.joint.proofs.EventMoments.{reply-silence}
 use Rattle.joint.proofs.view.View.{View, siteView, isEntryAt, view}
 use Rattle.joint.proofs.view.Acts.{holds-select}

@@ -1,53 +1,45 @@
--- What the moments of one event tell: a reply from Unknown is what silence means, and a commit record that was stable at one of them stays so to the end.
+-- What the moments of one event tell: a reply from Unknown is what silence means, and a commit record that was stable at one of them stays so to the end of the event.
 use Prim.Native.Nat.{ℕ, zero, suc, _≤_, _<_}
-use mathlib.Core.Path.{_≡_, refl, sym, ap, _∙_}
+use mathlib.Core.Path.{_≡_, refl, sym, ap, subst, _∙_}
 use mathlib.Core.Logic.{_⊎_, inl, inr, ⊎-elim}
-use mathlib.Core.Bool.{Bool, true, false}
+use mathlib.Core.Bool.{true, false}
 use mathlib.Core.List.{List, [], _∷_, _++_, map}
-use mathlib.Core.Option.{Option, none, some}
+use mathlib.Core.Option.{some}
 use native.Mathlib.Omega.{arith}
 use lib.ListN.{length, getD, take}
 use lib.Seq.{take-length, getD-take}
 use lib.Dec.{T}
-use borrow.Author.Tests.{leb-true, not-false}
-use Rattle.codec.specs.Lists.{any, onlyIf, first}
+use borrow.Author.Tests.{not-false}
+use Rattle.codec.specs.Lists.{any, first}
 use Rattle.codec.specs.Sets.{member}
 use Rattle.codec.specs.Records.{LogRecord}
 use Rattle.codec.specs.laws.Tests.{true-of, of-true, every-at, same-list}
 use Rattle.site.specs.Presumption.{Outcome, commit, abort, silence}
-use Rattle.site.specs.Step.{messages, voteYes, tell, messageKind, receiver, Input, begin, timer, received, Effect, append, force, enter, send, Row}
+use Rattle.site.specs.Step.{messages, voteYes, tell, messageKind, receiver, Input, begin, timer, received, Effect, append, force, enter, send}
 use Rattle.site.specs.Cohort.{presumptionOf}
 use Rattle.site.specs.Coordinator.{Coordinator, telling, onYes, coordinatorStep}
-use Rattle.joint.specs.State.{Run, Site, Transaction, Act, atSite, atTransaction, takesPart, holds, appended, forced, stopped, started, down, perform, performAll}
-use Rattle.joint.specs.Event.{Event, opening, beginning, delivery, timeout, forcing, discarding, crash, restart, eventOf, ranges, bytesInRange, Parsed, parse}
+use Rattle.joint.specs.State.{Run, Site, Act, atSite, atTransaction, takesPart, holds, appended, forced, stopped, started, down, perform, performAll}
+use Rattle.joint.specs.Event.{Event, opening, beginning, delivery, timeout, forcing, discarding, crash, restart, eventOf, Parsed, parse}
 use Rattle.joint.specs.Refusals.{stranger, refusals}
 use Rattle.joint.specs.Plan.{Plan, acting, rowPlan, planned, step, orNothing, restarting, joined, restartAll, plan}
 use Rattle.joint.specs.Run.{Result, refuse, partly, cutShort, carry, event}
 use Rattle.joint.specs.Safety.{Moment, moments, happened, leaves, sends, isReply, commitStable}
 use Rattle.joint.proofs.Booleans.{or-cases}
-use Rattle.joint.proofs.History.{Accepted, EventCase, refused, whole, cut, event-case, passed, any-cases}
-use Rattle.joint.proofs.DownEmpty.{All, passes, is-up}
-use Rattle.joint.proofs.Moments.{not-empty, any-more, Within, moment-within}
-use Rattle.joint.proofs.view.Updates.{update-point}
+use Rattle.joint.proofs.Lists.{not-empty, any-cases, any-more}
+use Rattle.joint.proofs.Updates.{update-point}
+use Rattle.joint.proofs.Ranges.{InRange, only-some, parse-range}
+use Rattle.joint.proofs.History.{Accepted, EventCase, refused, whole, cut, event-case, passed}
+use Rattle.joint.proofs.Moments.{Within, moment-within}
+use Rattle.joint.proofs.Plans.{not-struck, is-up, All, all-step, all-or, all-only}
 
 -- ---- the bytes of a delivered Yes
 
-only-some {ℓ} : {A : Type ℓ} (b : Bool) (a x : A) → onlyIf b a ≡ some x → (b ≡ true) × (x ≡ a)
-unfolding onlyIf
-only-some true a x e = (refl, cc)
-only-some false a x e = let z : _≡_ {A = ℕ} 0 1 = cc in absurd (omega arith)
-
--- the fields are in range, and the event is made of them
-parse-fields : (b : List ℕ) (x : Parsed) → parse b ≡ some x
-    → (bytesInRange (getD b 0 0) (getD b 1 0) (getD b 2 0) (getD b 3 0) ≡ true) × (x .event ≡ eventOf (getD b 0 0) (getD b 1 0) (getD b 2 0) (getD b 3 0))
-unfolding parse
-parse-fields b x e = let d = only-some _ _ x e in (every-at _ (d .0) 1, ap (λ (y : Parsed). y .event) (d .1))
-
 delivered : (b : List ℕ) (x : Parsed) → parse b ≡ some x → (t p : ℕ) → take 4 b ≡ 2 ∷ t ∷ p ∷ 1 ∷ [] → (x .event ≡ delivery t p voteYes) × (1 ≤ p)
-unfolding eventOf bytesInRange ranges messages
+unfolding parse eventOf messages
 delivered b x e t p q =
-    let d = simp (at 0 (omega arith), at 1 (omega arith), at 2 (omega arith), at 3 (omega arith)) at (parse-fields b x e) in
-    (d .1, leb-true 1 p (every-at _ (d .0) 2))
+    let made : x .event ≡ eventOf (getD b 0 0) (getD b 1 0) (getD b 2 0) (getD b 3 0) = ap (λ (y : Parsed). y .event) (sym (only-some _ _ x e .1)) in
+    let d : x .event ≡ delivery t p voteYes = simp (at 0 (omega arith), at 1 (omega arith), at 2 (omega arith), at 3 (omega arith)) at made in
+    (d, subst InRange d (parse-range b x e))
   where
     at : (i : ℕ) → i < 4 → getD b i 0 ≡ getD (2 ∷ t ∷ p ∷ 1 ∷ []) i 0
     at i h = sym (getD-take 4 b i 0 h) ∙ ap (λ (l : List ℕ). getD l i 0) q
@@ -67,7 +59,8 @@ told commit abort p q h = absurd h
 told abort commit p q h = absurd h
 told abort abort p q h = refl
 
-abbrev Silent : Run → ℕ → ℕ → Outcome → Type 0
+-- o is what silence means to p, which is a member, and site 0 is up
+abbrev pub Silent : Run → ℕ → ℕ → Outcome → Type 0
 Silent r t p o = (o ≡ silence (presumptionOf (r .transaction t .cohort) p)) × T (member p (r .transaction t .cohort .members)) × (r .site 0 .up ≡ true)
 
 -- the acts of p's delivered Yes where the coordinator is Unknown
@@ -86,8 +79,8 @@ yes-passes : (r : Run) (t p : ℕ) → 1 ≤ p → first (refusals r (delivery t
     → T (member p (r .transaction t .cohort .members)) × (r .site 0 .up ≡ true)
 unfolding refusals receiver stranger
 yes-passes r t p l h =
-    let k = passes 2 _ _ h .1 in
-    (part-member r t p l (not-false _ (passes 3 _ _ k .0)), is-up r 0 _ (passes 3 _ _ k .1))
+    let k = not-struck 2 _ _ h .1 in
+    (part-member r t p l (not-false _ (not-struck 3 _ _ k .0)), is-up r 0 _ (not-struck 3 _ _ k .1))
 
 module _ (r : Run) (e : List ℕ) (m : Moment) (t p : ℕ) (o : Outcome) (reply : T (isReply t p o m)) (u : r .transaction t .coordinator ≡ Coordinator.unknown) where
   -- the only act of the event is m's
@@ -107,10 +100,9 @@ module _ (r : Run) (e : List ℕ) (m : Moment) (t p : ℕ) (o : Outcome) (reply 
   reply-case (whole {p = q} a c) w = reply-accepted a (w .event-is) (length (q .acts)) (w .first) (w .next) (take-length (q .acts) ∙ w .acts)
   reply-case (cut n k a c b) w = reply-accepted a (w .event-is) n (w .first) (w .next) (w .acts)
 
--- upon p's Yes a coordinator in Unknown replies what silence means to p; p is a member, and site 0 is up
+-- upon p's Yes a coordinator in Unknown replies what silence means to p
 pub reply-silence : (r : Run) (e : List ℕ) (seen : List Moment) (m : Moment) (rest : List Moment) → happened r e ≡ seen ++ (m ∷ rest)
-    → (t p : ℕ) (o : Outcome) → T (isReply t p o m) → r .transaction t .coordinator ≡ Coordinator.unknown
-    → (o ≡ silence (presumptionOf (r .transaction t .cohort) p)) × T (member p (r .transaction t .cohort .members)) × (r .site 0 .up ≡ true)
+    → (t p : ℕ) (o : Outcome) → T (isReply t p o m) → r .transaction t .coordinator ≡ Coordinator.unknown → Silent r t p o
 reply-silence r e seen m rest h t p o reply u = reply-case r e m t p o reply u (event-case r e) (moment-within r e seen m rest h)
 
 -- ---- a stable commit record
@@ -153,25 +145,9 @@ module _ (t : ℕ) where
   abbrev Keeps : Plan → Type 0
   Keeps p = (p .acts ≡ []) ⊎ ((x : Run) → T (commitStable t x) → T (commitStable t (p .settle x)))
 
-  planned-keeps : {P : Type 0} (s u : ℕ) (g : P → Transaction → Transaction) (row : Option (Row P)) → All Keeps (planned s u g row)
-  unfolding planned rowPlan atTransaction commitStable
-  planned-keeps s u g none = tt
-  planned-keeps s u g (some row) = inr (λ x h. h)
-
   step-keeps : (r : Run) (u s : ℕ) (i : Input) → All Keeps (step r u s i)
-  unfolding step
-  step-keeps r u zero i = planned-keeps 0 u _ _
-  step-keeps r u (suc n) i = planned-keeps (suc n) u _ _
-
-  or-keeps : (s : ℕ) (o : Option Plan) → All Keeps o → Keeps (orNothing s o)
-  unfolding orNothing
-  or-keeps s none h = inl refl
-  or-keeps s (some p) h = h
-
-  only-keeps : (b : Bool) (p : Plan) → Keeps p → All Keeps (onlyIf b p)
-  unfolding onlyIf
-  only-keeps true p h = h
-  only-keeps false p h = tt
+  unfolding rowPlan atTransaction commitStable
+  step-keeps r u s i = all-step Keeps r u s i (λ X g x. inr (λ y h. h))
 
   restarting-stable : (r : Run) (s u : ℕ) (x : Run) → T (commitStable t x) → T (commitStable t (restarting r s u .settle x))
   unfolding restarting rowPlan atTransaction commitStable
@@ -187,10 +163,10 @@ module _ (t : ℕ) where
   unfolding plan
   plan-keeps r (opening u M C) = inl refl
   plan-keeps r (beginning u) = step-keeps r u 0 begin
-  plan-keeps r (delivery u p m) = or-keeps (receiver m p) _ (step-keeps r u (receiver m p) (received m p))
+  plan-keeps r (delivery u p m) = all-or Keeps (receiver m p) _ (inl refl) (step-keeps r u (receiver m p) (received m p))
   plan-keeps r (timeout u s) = step-keeps r u s timer
   plan-keeps r (forcing s) = inr (λ x h. h)
-  plan-keeps r (discarding u s) = only-keeps _ _ (inl refl)
+  plan-keeps r (discarding u s) = all-only Keeps _ _ (λ e. inl refl)
   plan-keeps r (crash s) = inl refl
   plan-keeps r (restart s) = inr (restart-stable r s _)
 

@@ -1,11 +1,9 @@
--- The run and its history, one event at a time: what a proof by induction over the list of events uses.
+-- One event: refused, carried out whole, or cut; and one event more: what it adds to the run, to its history and to the runs passed through.
 use Prim.Native.Nat.{ℕ, zero, suc}
 use mathlib.Core.Path.{_≡_, refl, ap}
-use mathlib.Core.Logic.{_⊎_}
-use mathlib.Core.Bool.{Bool, true, false, _||_, or-assoc}
+use mathlib.Core.Bool.{Bool, true, false, _||_}
 use mathlib.Core.List.{List, [], _∷_, _++_, map, append-assoc, append-nil}
 use mathlib.Core.Option.{Option, none, some}
-use lib.Dec.{T}
 use native.Mathlib.Omega.{arith}
 use Rattle.codec.specs.Lists.{any, first}
 use Rattle.joint.specs.State.{Run, fresh}
@@ -14,7 +12,7 @@ use Rattle.joint.specs.Refusals.{refusals}
 use Rattle.joint.specs.Plan.{Plan, plan}
 use Rattle.joint.specs.Run.{Result, refuse, canCut, cutShort, carry, carryPlan, carryUnless, eventParsed, event, after}
 use Rattle.joint.specs.Safety.{happened, history, leaves, along, commitStable}
-use Rattle.joint.proofs.Booleans.{or-cases}
+use Rattle.joint.proofs.Lists.{any-append}
 
 -- ---- one event: refused, carried out whole, or cut
 
@@ -104,14 +102,6 @@ pub along-snoc : (r : Run) (es : List (List ℕ)) (e : List ℕ) → along r (es
 unfolding after along passed
 along-snoc r [] e = refl
 along-snoc r (x ∷ es) e = rw (along-snoc (event r x .run) es e, append-assoc)
-
-pub any-append {ℓ} : {A : Type ℓ} (f : A → Bool) (xs ys : List A) → any f (xs ++ ys) ≡ (any f xs || any f ys)
-unfolding any
-any-append f [] ys = refl
-any-append f (x ∷ xs) ys = rw (any-append f xs ys, or-assoc)
-
-pub any-cases {ℓ} : {A : Type ℓ} (f : A → Bool) (xs ys : List A) → T (any f (xs ++ ys)) → T (any f xs) ⊎ T (any f ys)
-any-cases f xs ys h = or-cases (any f xs) (any f ys) (rw any-append at h)
 
 -- record 2 of t is stable at some moment: it was before, or it is in a run that the event passes through or leaves
 pub committed-snoc : (t : ℕ) (es : List (List ℕ)) (e : List ℕ)

@@ -1,56 +1,18 @@
 -- Where a moment of the history lies: in which event, and after which acts of it.
 use Prim.Native.Nat.{ℕ}
 use mathlib.Core.Path.{_≡_, refl, sym, ap, _∙_}
-use mathlib.Core.Logic.{_⊎_, inl, inr, ⊎-elim}
+use mathlib.Core.Logic.{⊎-elim}
 use mathlib.Core.Bool.{Bool}
 use mathlib.Core.List.{List, [], _∷_, _++_, append-assoc}
-use native.Mathlib.Omega.{arith}
 use lib.Dec.{T}
 use Rattle.codec.specs.Lists.{any}
 use Rattle.site.specs.Step.{Effect, append, force, enter, send}
 use Rattle.joint.specs.State.{Run, Act, fresh, atSite, atTransaction, withSent, withEntered, perform, performAll}
 use Rattle.joint.specs.Run.{event, after}
 use Rattle.joint.specs.Safety.{Moment, moments, happened, history, Happens}
-use Rattle.joint.proofs.Booleans.{or-left, or-right, or-cases}
-use Rattle.joint.proofs.view.Updates.{update-keeps}
-use Rattle.joint.proofs.History.{by-events, history-snoc, any-append}
-
--- ---- lists
-
-module _ {ℓ} {A : Type ℓ} where
-  pub not-empty : (a : List A) (m : A) (b : List A) → [] ≡ a ++ (m ∷ b) → ⊥
-  not-empty [] m b e = let z : _≡_ {A = ℕ} 0 1 = cc in omega arith
-  not-empty (x ∷ a) m b e = let z : _≡_ {A = ℕ} 0 1 = cc in omega arith
-
-  -- an element of two lists is in the first or in the second
-  pub append-split : (xs ys a : List A) (m : A) (b : List A) → xs ++ ys ≡ a ++ (m ∷ b)
-      → ((c : List A) × (xs ≡ a ++ (m ∷ c))) ⊎ ((d : List A) × (a ≡ xs ++ d) × (ys ≡ d ++ (m ∷ b)))
-  append-split [] ys a m b e = inr (a, refl, e)
-  append-split (x ∷ xs) ys [] m b e = inl (xs, cc)
-  append-split (x ∷ xs) ys (y ∷ a) m b e = go (append-split xs ys a m b (cc))
-    where
-      go : ((c : List A) × (xs ≡ a ++ (m ∷ c))) ⊎ ((d : List A) × (a ≡ xs ++ d) × (ys ≡ d ++ (m ∷ b)))
-          → ((c : List A) × (x ∷ xs ≡ y ∷ a ++ (m ∷ c))) ⊎ ((d : List A) × (y ∷ a ≡ x ∷ xs ++ d) × (ys ≡ d ++ (m ∷ b)))
-      go (inl (c, p)) = inl (c, cc)
-      go (inr (d, p, q)) = inr (d, cc, q)
-
-  -- a test that some element passes is passed by one of them
-  pub any-found : (f : A → Bool) (xs : List A) → T (any f xs) → (a : List A) × (m : A) × (b : List A) × (xs ≡ a ++ (m ∷ b)) × T (f m)
-  unfolding any
-  any-found f [] h = absurd h
-  any-found f (x ∷ xs) h =
-      ⊎-elim (λ k. ([], x, xs, refl, k))
-      (λ k. let d = any-found f xs k in (x ∷ d .0, d .1, d .2, ap (λ (l : List A). x ∷ l) (d .3), d .4))
-      (or-cases (f x) (any f xs) h)
-
-  pub any-more : (f : A → Bool) (xs ys : List A) → T (any f xs) → T (any f (xs ++ ys))
-  any-more f xs ys h = rw any-append (or-left (any f xs) (any f ys) h)
-
-  -- a test that one element passes is passed by the list
-  pub any-middle : (f : A → Bool) (a : List A) (m : A) (b : List A) → T (f m) → T (any f (a ++ (m ∷ b)))
-  unfolding any
-  any-middle f [] m b h = or-left (f m) (any f b) h
-  any-middle f (x ∷ a) m b h = or-right (f x) (any f (a ++ (m ∷ b))) (any-middle f a m b h)
+use Rattle.joint.proofs.Lists.{not-empty, append-split, any-found}
+use Rattle.joint.proofs.Updates.{update-keeps}
+use Rattle.joint.proofs.History.{by-events, history-snoc}
 
 -- ---- in which event
 

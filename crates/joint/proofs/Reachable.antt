@@ -13,15 +13,14 @@ use Rattle.site.specs.Numbers.{coordinatorPhase, waitingSet, waitingInRange}
 use Rattle.joint.specs.State.{Run, fresh, opened}
 use Rattle.joint.specs.Run.{after, siteImage}
 use Rattle.joint.specs.Safety.{history}
-use Rattle.joint.proofs.DownEmpty.{down-sites-empty}
 use Rattle.joint.proofs.view.View.{view}
-use Rattle.joint.proofs.safety.Each.{Each, each-at, each-back, each-map}
+use Rattle.joint.proofs.Lists.{Each, each-at, each-back, each-map}
 use Rattle.joint.proofs.safety.Invariant.{Inv}
 use Rattle.joint.proofs.safety.Tracked.{tracked}
-use Rattle.joint.proofs.logs.Counts.{each-transaction, counted-most}
+use Rattle.joint.proofs.logs.Counts.{no-record, each-transaction, counted-most}
 use Rattle.joint.proofs.logs.Orders.{Ranged, log-passes}
 use Rattle.joint.proofs.logs.Kinds.{share, Kinds, kinds-at, opened-ranged}
-use Rattle.joint.proofs.logs.Facts.{OwnRecord, few-of, few-unforced, each-of, follows-whole, follows-stable, shares, standing-waits}
+use Rattle.joint.proofs.logs.Facts.{OwnRecord, few-of, few-unforced, halted, each-of, follows-whole, follows-stable, shares, standing-waits}
 
 module _ (es : List (List ℕ)) where
   abbrev r : Run
@@ -76,7 +75,7 @@ module _ (es : List (List ℕ)) where
         counted-most 8 1 (r .site s .unforced) (each-back (λ x. x .transaction < 8) (r .site s .stable) (r .site s .unforced) numbers) unforced-single
 
     pub down-unforced : r .site s .up ≡ false → r .site s .unforced ≡ []
-    down-unforced = down-sites-empty es s
+    down-unforced d = no-record (r .site s .unforced) (λ t. halted (kinds t s) d)
 
     -- ---- images
 

@@ -3,7 +3,6 @@ pub mod Tables
 pub mod Finite
 pub mod Outcomes
 pub mod Sets
-pub mod Each
 pub mod Invariant
 pub mod Holds
 pub mod participant

@@ -1,11 +1,9 @@
 -- One transaction in the joint run: what it sees of each event.
-pub mod Updates
 pub mod View
 pub mod Turn
 pub mod Acts
 pub mod Carries
 pub mod Settles
-pub mod Ranges
 pub mod Once
 pub mod Restarts
 pub mod Rows

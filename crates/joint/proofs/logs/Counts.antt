@@ -1,6 +1,6 @@
 -- The records of a log, transaction by transaction: what holds of each transaction's holds of all, and their numbers add up.
 use Prim.Native.Nat.{ℕ, zero, suc, _+_, _≤_, _<_}
-use mathlib.Core.Path.{_≡_, refl, subst}
+use mathlib.Core.Path.{_≡_, refl, subst, ap, sym, _∙_}
 use mathlib.Core.Logic.{⊎-elim}
 use mathlib.Core.Bool.{Bool, true, false, cond}
 use mathlib.Core.List.{List, [], _∷_}
@@ -10,7 +10,7 @@ use borrow.Author.Tests.{eq-eqb}
 use Rattle.codec.specs.Lists.{select}
 use Rattle.codec.specs.Records.{LogRecord, ofTransaction}
 use Rattle.codec.specs.laws.Tests.{lt-or-le}
-use Rattle.joint.proofs.safety.Each.{Each}
+use Rattle.joint.proofs.Lists.{Each}
 
 -- the records of transaction t
 abbrev pub recordsOf : ℕ → List LogRecord → List LogRecord
@@ -19,6 +19,11 @@ recordsOf t xs = select (ofTransaction t) xs
 pub records-head : (x : LogRecord) (xs : List LogRecord) → recordsOf (x .transaction) (x ∷ xs) ≡ x ∷ recordsOf (x .transaction) xs
 unfolding select ofTransaction
 records-head x xs = rw (eq-eqb (x .transaction) (x .transaction) refl)
+
+-- a log without a record of any transaction is empty
+pub no-record : (xs : List LogRecord) → ((t : ℕ) → recordsOf t xs ≡ []) → xs ≡ []
+no-record [] h = refl
+no-record (x ∷ xs) h = absurd (omega (arith, ap length (sym (records-head x xs) ∙ h (x .transaction))))
 
 -- ---- what holds of each record
 

@@ -18,8 +18,7 @@ use Rattle.site.specs.Presumption.{commit, abort}
 use Rattle.site.specs.Cohort.{Cohort, owing}
 use Rattle.site.specs.Numbers.{coordinatorPhase, waitingSet, waitingInRange}
 use Rattle.joint.specs.State.{Run, opened}
-use Rattle.joint.proofs.view.Updates.{select-append}
-use Rattle.joint.proofs.safety.Each.{Each}
+use Rattle.joint.proofs.Lists.{select-append, Each}
 use Rattle.joint.proofs.safety.Invariant.{waiting, resting, down, Standing, never, initial, collecting, decided, SetsFit, writesInit, awaitsCommit, coordinatorAt, between, recordFor}
 use Rattle.joint.proofs.logs.Counts.{recordsOf, sumBelow}
 use Rattle.joint.proofs.logs.Orders.{mayStand, orderly, order-front, Ranged, Follows}
@@ -70,6 +69,9 @@ module _ {r : Run} {t s : ℕ} (x : Kinds r t s) where
 
   pub few-unforced : length (recordsOf t (r .site s .unforced)) ≤ 1
   few-unforced = rw (x .is-unforced, length-map) (leb-true (length (x .unforced)) 1 (true-of _ (and-right (fine s i a whole) _ (x .tidies))))
+
+  pub halted : r .site s .up ≡ false → recordsOf t (r .site s .unforced) ≡ []
+  halted d = x .is-unforced ∙ ap (map put) (x .halts d)
 
   each-kind : Known r t s → (ks js : List ℕ) → T (orderly s i a ks js) → Each (OwnRecord r s) (map put js)
   each-kind k ks [] o = tt

@@ -2,7 +2,7 @@
 use Prim.Native.Nat.{ℕ, zero, suc, _≤_, _<_}
 use mathlib.Core.Path.{_≡_, refl, sym, ap, _∙_, subst}
 use mathlib.Core.Logic.{_⊎_, inl, inr}
-use mathlib.Core.Bool.{Bool, true, false, not, _&&_, _||_, false≢true}
+use mathlib.Core.Bool.{Bool, true, false, not, _&&_, _||_, true≢false, false≢true}
 use mathlib.Core.List.{List, [], _∷_, _++_, map, append-nil}
 use lib.ListN.{length}
 use lib.Dec.{T, leb}
@@ -20,10 +20,10 @@ use Rattle.joint.specs.State.{Run, Site, opened, takesPart}
 use Rattle.joint.specs.Safety.{Moment}
 use Rattle.joint.proofs.Booleans.{_⇒_, mp, and-both}
 use Rattle.joint.proofs.view.View.{siteView, view}
-use Rattle.joint.proofs.safety.Tables.{Status, stableKinds, unforcedKinds, has}
+use Rattle.joint.proofs.safety.Tables.{Status, working, prepared, gone, half, lone, shut, off, offVoted, offShut, isUp, stableKinds, unforcedKinds, has}
 use Rattle.joint.proofs.safety.Finite.{allBool, at-bool, at-status}
 use Rattle.joint.proofs.safety.Sets.{empty-none}
-use Rattle.joint.proofs.safety.Invariant.{Log, kindsIn, classOf, resting, waiting, down, Standing, never, initial, collecting, decided, stageOf, logFits, standingFits, SetsFit, writesInit, awaitsCommit, properKinds, properLog, initLog, stableAt, kindIf, unforcedAt, isNever, recordFor, Place, Mid}
+use Rattle.joint.proofs.safety.Invariant.{Log, kindsIn, classOf, resting, waiting, down, Standing, never, initial, collecting, decided, stageOf, logFits, standingFits, SetsFit, writesInit, awaitsCommit, properKinds, properLog, initLog, standingUp, stableAt, kindIf, unforcedAt, isNever, recordFor, Place, Mid}
 use Rattle.joint.proofs.safety.coordinator.Logs.{closed, at-log, closed-kinds, closed-proper, may-close}
 use Rattle.joint.proofs.logs.Counts.{recordsOf}
 use Rattle.joint.proofs.logs.Orders.{orderly, Ranged}
@@ -100,6 +100,27 @@ standing-tidy g (decided o (resting true) l) f e p = closing-tidy (writesInit g)
 standing-tidy g (decided o (resting false) l) f e p = log-tidy (writesInit g) (awaitsCommit g) l p
 standing-tidy g (decided o down l) f e p = log-tidy (writesInit g) (awaitsCommit g) l p
 
+-- ---- a site that is down has no unforced record
+
+status-halts : (x : Status) → isUp x ≡ false → unforcedKinds x ≡ []
+status-halts working e = refl
+status-halts prepared e = refl
+status-halts gone e = refl
+status-halts (half o) e = absurd (true≢false e)
+status-halts lone e = absurd (true≢false e)
+status-halts (shut o f) e = refl
+status-halts off e = refl
+status-halts offVoted e = refl
+status-halts (offShut o f) e = refl
+
+standing-halts : (h : Standing) → standingUp h ≡ false → unforcedAt h ≡ []
+standing-halts (never u) e = refl
+standing-halts (initial b) e = absurd (true≢false e)
+standing-halts (collecting w b) e = absurd (true≢false e)
+standing-halts (decided o (waiting w) l) e = refl
+standing-halts (decided o (resting b) l) e = absurd (true≢false e)
+standing-halts (decided o down l) e = refl
+
 -- ---- the records of transaction t at site s
 
 -- the cohort of transaction t
@@ -119,6 +140,7 @@ pub record Kinds (r : Run) (t s : ℕ) : Type 0 where
   pub is-stable : recordsOf t (r .site s .stable) ≡ map (recordFor (cohortIn r t) t s) stable
   pub is-unforced : recordsOf t (r .site s .unforced) ≡ map (recordFor (cohortIn r t) t s) unforced
   pub tidies : T (tidy s (writesInit (cohortIn r t)) (awaitsCommit (cohortIn r t)) stable unforced)
+  pub halts : r .site s .up ≡ false → unforced ≡ []
   pub known : (stable ++ unforced ≡ []) ⊎ Known r t s
 
 never-none : (i : Bool) (h : Standing) → isNever h ≡ true → stableAt i h ++ unforcedAt h ≡ []
@@ -148,6 +170,7 @@ module _ (t : ℕ) (ms : List Moment) (r : Run) (h : Standing) (mid : Mid t h (v
         is-stable = ap (λ (x : Site). x .stable) (mid .log);
         is-unforced = ap (λ (x : Site). x .unforced) (mid .log);
         tidies = standing-tidy (cohortIn r t) h (mid .sound .fit) (mid .sound .sets) (mid .sound .proper);
+        halts = λ d. standing-halts h (sym (ap (λ (x : Site). x .up) (mid .log)) ∙ d);
         known = go (empty (cohortIn r t .members)) refl;
       }
     where
@@ -167,10 +190,11 @@ module _ (t : ℕ) (ms : List Moment) (r : Run) (h : Standing) (mid : Mid t h (v
             is-stable = ap (λ (y : Site). y .stable) (x .site);
             is-unforced = ap (λ (y : Site). y .unforced) (x .site);
             tidies = status-tidy n (writesInit (cohortIn r t)) (awaitsCommit (cohortIn r t)) (x .status);
+            halts = λ d. status-halts (x .status) (sym (ap (λ (y : Site). y .up) (x .site)) ∙ d);
             known = inr (known-as (suc n) (has-member (cohortIn r t .members) (suc n) e) (unfold takesPart in e));
           }
       go false e x =
-          record { stable = []; unforced = []; is-stable = x .stable; is-unforced = x .unforced; tidies = tt; known = inl refl }
+          record { stable = []; unforced = []; is-stable = x .stable; is-unforced = x .unforced; tidies = tt; halts = λ d. refl; known = inl refl }
 
   pub kinds-at : (s : ℕ) → Kinds r t s
   kinds-at zero = kinds-0

@@ -16,7 +16,7 @@ use Rattle.codec.specs.laws.Tests.{and-left, and-right, true-of, lt-or-le}
 use Rattle.site.specs.Presumption.{presumptionNumber, presumedAbort, presumedCommit}
 use Rattle.site.specs.Cohort.{Cohort, masksOf, presumptionOf}
 use Rattle.joint.proofs.Booleans.{and-both}
-use Rattle.joint.proofs.view.Updates.{select-append}
+use Rattle.joint.proofs.Lists.{select-append}
 use Rattle.joint.proofs.safety.Sets.{owing-minus}
 use Rattle.joint.proofs.safety.Invariant.{writesInit, awaitsCommit, fieldsAt, recordFor}
 use Rattle.joint.proofs.logs.Counts.{recordsOf, records-head}

@@ -16,7 +16,7 @@ use Rattle.joint.specs.State.{forced, holds, withCoordinator, forgotten}
 use Rattle.joint.specs.Safety.{sends}
 use Rattle.joint.proofs.Booleans.{or-either}
 use Rattle.joint.proofs.view.View.{View, viewAt, viewSettle, viewPerform, viewEffects, viewDown}
-use Rattle.joint.proofs.view.Turn.{Carried, whole, cutAfter, viewStart, viewDiscard, viewForget, Turn, crashes, opens, coordinates, participates, discards, starts, fails, resumes, returns, Turns, still, turn, forces}
+use Rattle.joint.proofs.view.Turn.{Carried, whole, cutAfter, viewStart, viewDiscard, viewForget, Turn, crashes, opens, coordinates, participates, discards, starts, resumes, returns, Turns, still, turn, forces}
 use Rattle.joint.proofs.safety.Sets.{empty-none}
 use Rattle.joint.proofs.safety.Invariant.{Standing, never, initial, collecting, decided, stageOf, hasDecided, writesInit, Member, Place, Mid, Inv, cohortOf}
 use Rattle.joint.proofs.safety.coordinator.Steps.{From, own-number}
@@ -112,8 +112,8 @@ start-voted c x n u = u
 
 pub turn-kept : {t : ℕ} {h : Standing} {v w : View} → Inv t h v → Turn t v w → Kept t h v w
 unfolding viewAt viewDown viewDiscard viewForget forgotten withCoordinator
-turn-kept {t} {h} {v} inv (crashes zero k up) = after-kept refl (λ n u. u) (after (crash-next t v h (inv .mid) k))
-turn-kept {t} {h} {v} inv (crashes (suc n) k up) = same-kept inv (crash-kept t h v inv n k)
+turn-kept {t} {h} {v} inv (crashes zero k) = after-kept refl (λ n u. u) (after (crash-next t v h (inv .mid) k))
+turn-kept {t} {h} {v} inv (crashes (suc n) k) = same-kept inv (crash-kept t h v inv n k)
 turn-kept {t} {h} {v} inv (opens g a b c d e up ups) =
     let x = open-after t v g a b c d e up ups h inv in
     record { standing = x .standing; inv = x .inv; from = x .from; asked = λ k n m. absurd (empty-none (cohortOf v .members) (suc n) (of-true e) m) }
@@ -121,14 +121,12 @@ turn-kept {t} {h} {v} {w} inv (coordinates {row} i o up k e d) =
     after-kept (carried-cohort (settle-cohort (row .phase)) d) (carried-voted (settle-voted (row .phase)) d) (after (coordinator-next t v w row inv o up i k e d))
 turn-kept {t} {h} {v} inv (participates n i m up k own e d) = same-kept inv (row-kept t h v inv n i m up k own e d)
 turn-kept {t} {h} {v} inv (discards zero up o e) = after-kept refl (λ n u. u) (discard-next t v h inv o up e)
-turn-kept {t} {h} {v} inv (discards (suc n) up o e) = same-kept inv (discard-kept t h v inv n up o e)
-turn-kept {t} {h} {v} inv (starts zero d e) = after-kept refl (λ n u. u) (start-after t v e h inv)
-turn-kept {t} {h} {v} inv (starts (suc n) d e) = same-kept inv (start-kept t h v inv n e)
-turn-kept {t} {h} {v} inv (fails zero k d e) = after-kept refl (λ n u. u) (after (crash-next t v h (inv .mid) k))
-turn-kept {t} {h} {v} inv (fails (suc n) k d e) = same-kept inv (crash-kept t h v inv n k)
+turn-kept {t} {h} {v} inv (discards (suc n) up o e) = same-kept inv (discard-kept t h v inv n up e)
+turn-kept {t} {h} {v} inv (starts zero e) = after-kept refl (λ n u. u) (start-after t v e h inv)
+turn-kept {t} {h} {v} inv (starts (suc n) e) = same-kept inv (start-kept t h v inv n e)
 turn-kept {t} {h} {v} {w} inv (resumes {row} o d e c) =
     after-kept (carried-cohort (start-cohort (row .phase)) c) (carried-voted (start-voted (row .phase)) c) (resume-after t v w h inv o d e c)
-turn-kept {t} {h} {v} inv (returns n o d e c) = same-kept inv (return-kept t h v inv n o d e c)
+turn-kept {t} {h} {v} inv (returns n d e c) = same-kept inv (return-kept t h v inv n d e c)
 
 -- ---- an event
 
@@ -151,7 +149,7 @@ behind s h h1 e x =
 pub turns-kept : {t : ℕ} {v w : View} (h : Standing) → Inv t h v → Turns t v w → Kept t h v w
 turns-kept h inv still = same-kept inv inv
 turns-kept h inv (turn x) = turn-kept inv x
-turns-kept {t} h inv (forces {v} zero up x) =
+turns-kept {t} h inv (forces {v} zero x) =
     let y = force-next t v h inv in
     behind 0 h (y .standing) (y .same) (turns-kept (y .standing) (y .inv) x)
-turns-kept {t} h inv (forces {v} (suc n) up x) = behind (suc n) h h (λ o. refl) (turns-kept h (force-kept t h v inv n up) x)
+turns-kept {t} h inv (forces {v} (suc n) x) = behind (suc n) h h (λ o. refl) (turns-kept h (force-kept t h v inv n) x)

@@ -14,7 +14,7 @@ use Rattle.joint.specs.Run.{event, after}
 use Rattle.joint.specs.Safety.{happened, history, along, leaves, commitStable}
 use Rattle.joint.proofs.Booleans.{or-left, or-right, or-either}
 use Rattle.joint.proofs.History.{by-events, after-snoc, history-snoc, passed, committed-snoc}
-use Rattle.joint.proofs.Moments.{any-middle}
+use Rattle.joint.proofs.Lists.{any-middle}
 use Rattle.joint.proofs.EventMoments.{commit-stays}
 use Rattle.joint.proofs.view.View.{View, siteView, view}
 use Rattle.joint.proofs.view.Acts.{holds-select}

@@ -1,11 +1,12 @@
 -- A plan that is carried out, whole or cut, in the view of one transaction; another transaction's row shows its forces alone.
 use Prim.Native.Nat.{ℕ, zero, suc}
-use mathlib.Core.Path.{_≡_, refl, ap, _∙_}
+use mathlib.Core.Path.{_≡_, refl, ap}
 use mathlib.Core.Logic.{_≢_}
 use mathlib.Core.Bool.{Bool, true, false, cond}
 use mathlib.Core.List.{List, [], _∷_, _++_, map-append}
 use mathlib.Core.Option.{none}
 use lib.ListN.{take}
+use lib.Dec.{T}
 use borrow.Author.Tests.{eq-eqb, ne-eqb}
 use Rattle.codec.specs.Lists.{select}
 use Rattle.codec.specs.Records.{ofTransaction}
@@ -14,22 +15,16 @@ use Rattle.joint.specs.State.{Run, Act, forced}
 use Rattle.joint.specs.Plan.{Plan, acting}
 use Rattle.joint.specs.Run.{Result, partly, cutShort, carry, isForce}
 use Rattle.joint.specs.Safety.{Moment, moments}
-use Rattle.joint.proofs.view.Updates.{update-keeps, select-append, among, select-take}
+use Rattle.joint.proofs.Lists.{Each, each-take, each-chosen, map-take, select-append, among, select-take}
 use Rattle.joint.proofs.view.View.{View, view, viewAt, viewPerform, viewEffects}
-use Rattle.joint.proofs.view.Turn.{Carried, whole, cutAfter, Up, forces, crashes, Turns, still, turn}
+use Rattle.joint.proofs.view.Turn.{Carried, whole, cutAfter, forces, crashes, Turns, still, turn}
 use Rattle.joint.proofs.view.Acts.{seen, effectsOf, seenEffects, acts-view, down-view}
 
 -- ---- the effects that are seen
 
-map-take : (n : ℕ) (l : List Act) → effectsOf (take n l) ≡ take n (effectsOf l)
-unfolding effectsOf
-map-take zero l = refl
-map-take (suc n) [] = refl
-map-take (suc n) (a ∷ l) = ap (λ (es : List Effect). a .effect ∷ es) (map-take n l)
-
 seen-take : (t n : ℕ) (l : List Act) → seenEffects t (take n l) ≡ take (among (seen t) n l) (seenEffects t l)
-unfolding seenEffects
-seen-take t n l = ap effectsOf (select-take (seen t) n l) ∙ map-take (among (seen t) n l) (select (seen t) l)
+unfolding seenEffects effectsOf
+seen-take t n l = rw (select-take (seen t) n l, map-take)
 
 pub seen-append : (t : ℕ) (a b : List Act) → seenEffects t (a ++ b) ≡ seenEffects t a ++ seenEffects t b
 unfolding seenEffects effectsOf
@@ -54,50 +49,34 @@ seen-other t u h (e ∷ es) = rw (ne-eqb u t h) (go (isForce e) (seen-other t u 
     go true k = unfold effectsOf in ap (λ (l : List Effect). e ∷ l) k
     go false k = k
 
--- ---- forces, and a crash after them
+-- ---- the turns: no effect, or forces; and a crash after them
 
-abbrev AllForces : List Effect → Type 0
-AllForces [] = Unit {0}
-AllForces (append k fs ∷ es) = ⊥
-AllForces (force ∷ es) = AllForces es
-AllForces (enter o ∷ es) = ⊥
-AllForces (send m p ∷ es) = ⊥
+abbrev Forces : List Effect → Type 0
+Forces es = Each (λ e. T (isForce e)) es
 
-select-forces : (es : List Effect) → AllForces (select isForce es)
-unfolding select isForce
-select-forces [] = tt
-select-forces (append k fs ∷ es) = select-forces es
-select-forces (force ∷ es) = select-forces es
-select-forces (enter o ∷ es) = select-forces es
-select-forces (send m p ∷ es) = select-forces es
-
-take-forces : (n : ℕ) (es : List Effect) → AllForces es → AllForces (take n es)
-take-forces zero es h = tt
-take-forces (suc n) [] h = tt
-take-forces (suc n) (append k fs ∷ es) h = absurd h
-take-forces (suc n) (force ∷ es) h = take-forces n es h
-take-forces (suc n) (enter o ∷ es) h = absurd h
-take-forces (suc n) (send m p ∷ es) h = absurd h
+all-forces : (es : List Effect) → Forces (select isForce es)
+all-forces es = each-chosen (λ e. T (isForce e)) isForce (λ e k. k) es
 
 module _ (t s : ℕ) where
-  forced-up : (v : View) → Up v s → Up (viewAt s forced v) s
-  unfolding viewAt forced
-  forced-up v u = update-keeps (λ x. x .up) forced (λ x. refl) s (v .site) s ∙ u
+  -- no effect: what follows, or a crash
+  pub bare-turns : {f : View → View} {v w : View} → Turns t v (f v) → Carried t s [] f v w → Turns t v w
+  unfolding viewEffects
+  bare-turns h whole = h
+  bare-turns h (cutAfter zero n) = turn (crashes s n)
+  bare-turns h (cutAfter (suc m) n) = turn (crashes s n)
 
-  forces-then : (es : List Effect) → AllForces es → (v x : View) → Up v s
-      → (Up (viewEffects s t es v) s → Turns t (viewEffects s t es v) x) → Turns t v x
-  unfolding viewEffects viewPerform
-  forces-then [] h v x u k = k u
-  forces-then (append j fs ∷ es) h v x u k = absurd h
-  forces-then (force ∷ es) h v x u k = forces s u (forces-then es h (viewAt s forced v) x (forced-up v u) k)
-  forces-then (enter o ∷ es) h v x u k = absurd h
-  forces-then (send m p ∷ es) h v x u k = absurd h
+  forces-then : (es : List Effect) → Forces es → (v x : View) → Turns t (viewEffects s t es v) x → Turns t v x
+  unfolding viewEffects viewPerform isForce
+  forces-then [] h v x k = k
+  forces-then (append j fs ∷ es) h v x k = absurd (h .0)
+  forces-then (force ∷ es) h v x k = forces s (forces-then es (h .1) (viewAt s forced v) x k)
+  forces-then (enter o ∷ es) h v x k = absurd (h .0)
+  forces-then (send m p ∷ es) h v x k = absurd (h .0)
 
-  -- what another transaction's row at a site that is up leaves
-  pub other-turns : {v w : View} (es : List Effect) → Up v s → Carried t s (select isForce es) (λ x. x) v w → Turns t v w
-  other-turns {v} es u whole = forces-then (select isForce es) (select-forces es) v _ u (λ c. still)
-  other-turns {v} es u (cutAfter m n) =
-      forces-then (take m (select isForce es)) (take-forces m _ (select-forces es)) v _ u (λ c. turn (crashes s n c))
+  -- what another transaction's row leaves
+  pub other-turns : {v w : View} (es : List Effect) → Carried t s (select isForce es) (λ x. x) v w → Turns t v w
+  other-turns {v} es whole = forces-then (select isForce es) (all-forces es) v _ still
+  other-turns {v} es (cutAfter m n) = forces-then (take m (select isForce es)) (each-take _ m (select isForce es) (all-forces es)) v _ (turn (crashes s n))
 
 -- ---- a plan carried out
 

@@ -4,11 +4,11 @@ use mathlib.Core.Path.{_≡_, refl, sym, ap, _∙_}
 use mathlib.Core.Logic.{_≢_}
 use mathlib.Core.Bool.{Bool, true, false, cond, _||_, true≢false}
 use mathlib.Core.List.{List, [], _∷_, _++_, append-nil}
-use mathlib.Core.Option.{Option, none, some}
+use mathlib.Core.Option.{Option}
 use lib.Dec.{eqb}
 use native.Mathlib.Omega.{arith}
 use borrow.Author.Tests.{ne-eqb, eqb-true, not-false}
-use Rattle.codec.specs.Lists.{select, any, first, onlyIf}
+use Rattle.codec.specs.Lists.{select, any, first}
 use Rattle.codec.specs.Sets.{participants, member, empty, listed}
 use Rattle.codec.specs.laws.Tests.{of-true, true-of, or-none, below-at}
 use Rattle.codec.specs.laws.Members.{numbered, member-participant}
@@ -20,16 +20,16 @@ use Rattle.joint.specs.Refusals.{unopened, stranger, isDown, refusals}
 use Rattle.joint.specs.Plan.{Plan, acting, orNothing, openedAs, mayDiscard, discard, plan}
 use Rattle.joint.specs.Run.{Result, refuse, event, isForce}
 use Rattle.joint.specs.Safety.{Moment, moments, happened}
-use Rattle.joint.proofs.DownEmpty.{All, passes, is-up}
+use Rattle.joint.proofs.Ranges.{InRange, parse-range}
 use Rattle.joint.proofs.History.{EventCase, refused, whole, cut, event-case}
-use Rattle.joint.proofs.view.View.{siteView, view, viewSettle}
+use Rattle.joint.proofs.Plans.{not-struck, is-up, All, all-or, all-only}
+use Rattle.joint.proofs.view.View.{siteView, view, not-opened, is-opened, site-up, viewSettle}
 use Rattle.joint.proofs.view.Turn.{viewDiscard, opens, discards, Turns, still, turn}
 use Rattle.joint.proofs.view.Acts.{seenEffects}
 use Rattle.joint.proofs.view.Carries.{seen-own, seen-other, other-turns, Shown, whole-turns, cut-turns}
 use Rattle.joint.proofs.view.Settles.{opened-bare, settle-own, settle-other, discard-own, discard-other}
-use Rattle.joint.proofs.view.Ranges.{InRange, parse-range}
-use Rattle.joint.proofs.view.Restarts.{not-opened, is-opened, site-up, restart-shown}
-use Rattle.joint.proofs.view.Rows.{own-or-other, quiet-shown, step-other, step-own}
+use Rattle.joint.proofs.view.Restarts.{restart-shown}
+use Rattle.joint.proofs.view.Rows.{own-or-other, bare-shown, step-other, step-own}
 
 -- ---- what the refusals leave
 
@@ -48,7 +48,7 @@ none-selected f g (p ∷ ps) h x e k = go (eqb x p) refl (g p) refl h e (λ h. n
 all-up : (r : Run) (ps : List ℕ) → first ((5, any (isDown r) (0 ∷ ps)) ∷ []) ≡ 0 → (r .site 0 .up ≡ true) × (any (isDown r) ps ≡ false)
 unfolding any isDown
 all-up r ps h =
-    let q = or-none _ _ (passes 4 _ [] h .0) in
+    let q = or-none _ _ (not-struck 4 _ [] h .0) in
     (not-false _ (q .0), q .1)
 
 members-up : (r : Run) (M : ℕ) → M < 256 → any (isDown r) (listed M) ≡ false → (n : ℕ) → member (suc n) M ≡ true → r .site (suc n) .up ≡ true
@@ -62,11 +62,11 @@ members-up r M small h n m =
 module _ (r : Run) (t : ℕ) where
   was-opened : (l : List (ℕ × Bool)) → first ((3, unopened r t) ∷ l) ≡ 0 → opened r t ≡ true
   unfolding unopened
-  was-opened l h = not-false _ (passes 2 _ l h .0)
+  was-opened l h = not-false _ (not-struck 2 _ l h .0)
 
   is-part : (s : ℕ) (l : List (ℕ × Bool)) → first ((4, stranger r t s) ∷ l) ≡ 0 → takesPart r t s ≡ true
   unfolding stranger
-  is-part s l h = not-false _ (passes 3 _ l h .0)
+  is-part s l h = not-false _ (not-struck 3 _ l h .0)
 
 receiver-part : (r : Run) (t p : ℕ) (m : Message) → takesPart r t p ≡ true → takesPart r t (receiver m p) ≡ true
 unfolding receiver takesPart
@@ -87,15 +87,8 @@ receiver-own p (ack o) n e = absurd (omega arith)
 
 -- ---- plans
 
-or-shown : (t : ℕ) (r : Run) (s : ℕ) (o : Option Plan) → r .site s .up ≡ true → All (Shown t r) o → Shown t r (orNothing s o)
-unfolding orNothing
-or-shown t r s none u h = quiet-shown t r s (λ x. x) (λ v. v) u (λ ms x. refl) (λ ms. still)
-or-shown t r s (some p) u h = h
-
-only-shown : (t : ℕ) (r : Run) (b : Bool) (p : Plan) → (b ≡ true → Shown t r p) → All (Shown t r) (onlyIf b p)
-unfolding onlyIf
-only-shown t r true p h = h refl
-only-shown t r false p h = tt
+or-shown : (t : ℕ) (r : Run) (s : ℕ) (o : Option Plan) → All (Shown t r) o → Shown t r (orNothing s o)
+or-shown t r s o = all-or (Shown t r) s o (bare-shown t r s (λ x. x) (λ v. v) (λ ms x. refl) (λ ms. still))
 
 module _ (t : ℕ) (r : Run) where
   abbrev Planned : Event → Type 0
@@ -105,9 +98,9 @@ module _ (t : ℕ) (r : Run) where
   unfolding refusals plan
   opening-own M C range h =
       let g : Cohort = record { members = M; presumeCommit = C } in
-      let a = passes 1 _ _ h in
+      let a = not-struck 1 _ _ h in
       let b = all-up r (listed M) (a .1) in
-      quiet-shown t r 0 (atTransaction t (openedAs g)) (viewSettle (openedAs g)) (b .0) (settle-own t _ (opened-bare g))
+      bare-shown t r 0 (atTransaction t (openedAs g)) (viewSettle (openedAs g)) (settle-own t _ (opened-bare g))
       (λ ms.
       turn
       (opens g (range .0) (range .1) (range .3) (unfold empty in ne-eqb M 0 (λ e. omega (arith, range .2))) (not-opened t ms r (a .0)) (site-up t ms r 0 ∙ b .0)
@@ -115,40 +108,38 @@ module _ (t : ℕ) (r : Run) where
 
   opening-other : (M C u : ℕ) → u ≢ t → Planned (opening u M C)
   unfolding refusals plan
-  opening-other M C u n h =
-      quiet-shown t r 0 (atTransaction u _) (λ v. v) (all-up r (listed M) (passes 1 _ _ h .1) .0) (settle-other t u _ n) (λ ms. still)
+  opening-other M C u n h = bare-shown t r 0 (atTransaction u _) (λ v. v) (settle-other t u _ n) (λ ms. still)
 
   beginning-own : Planned (beginning t)
   unfolding refusals plan
-  beginning-own h = step-own t r begin (was-opened r t _ h) (λ ms. tt) 0 (unfold takesPart in refl) (is-up r 0 [] (passes 2 _ _ h .1)) (λ n e. tt)
+  beginning-own h = step-own t r begin (was-opened r t _ h) (λ ms. tt) 0 (unfold takesPart in refl) (is-up r 0 [] (not-struck 2 _ _ h .1)) (λ n e. tt)
 
   delivery-own : (p : ℕ) (m : Message) → 1 ≤ p → Planned (delivery t p m)
   unfolding refusals plan view takesPart
   delivery-own zero m range h = absurd (omega arith)
   delivery-own (suc n) m range h =
-      let a = passes 2 _ _ h .1 in
-      let b = passes 3 _ _ a .1 in
+      let a = not-struck 2 _ _ h .1 in
+      let b = not-struck 3 _ _ a .1 in
       let part = is-part r t (suc n) _ a in
-      let sent : r .transaction t .sent (suc n) (messageKind m) ≡ true = not-false _ (passes 6 _ _ (passes 4 _ _ b .1) .0) in
-      let up = is-up r (receiver m (suc n)) _ b in
-      or-shown t r (receiver m (suc n)) _ up
+      let sent : r .transaction t .sent (suc n) (messageKind m) ≡ true = not-false _ (not-struck 6 _ _ (not-struck 4 _ _ b .1) .0) in
+      or-shown t r (receiver m (suc n)) _
       (step-own t r (received m (suc n)) (was-opened r t _ h)
       (λ ms. (of-true {b = member (suc n) (r .transaction t .cohort .members)} part, of-true sent))
-      (receiver m (suc n)) (receiver-part r t (suc n) m part) up (receiver-own (suc n) m))
+      (receiver m (suc n)) (receiver-part r t (suc n) m part) (is-up r (receiver m (suc n)) _ b) (receiver-own (suc n) m))
 
   timeout-own : (s : ℕ) → Planned (timeout t s)
   unfolding refusals plan
   timeout-own s h =
-      let a = passes 2 _ _ h .1 in
-      step-own t r timer (was-opened r t _ h) (λ ms. tt) s (is-part r t s _ a) (is-up r s _ (passes 3 _ _ a .1)) (λ n e. tt)
+      let a = not-struck 2 _ _ h .1 in
+      step-own t r timer (was-opened r t _ h) (λ ms. tt) s (is-part r t s _ a) (is-up r s _ (not-struck 3 _ _ a .1)) (λ n e. tt)
 
   discarding-own : (s : ℕ) → Planned (discarding t s)
   unfolding refusals plan view siteView mayDiscard
   discarding-own s h =
-      let up = is-up r s _ (passes 3 _ _ (passes 2 _ _ h .1) .1) in
-      only-shown t r _ _
+      let up = is-up r s _ (not-struck 3 _ _ (not-struck 2 _ _ h .1) .1) in
+      all-only (Shown t r) _ _
       (λ e.
-      quiet-shown t r s (discard t s) (viewDiscard s) up (discard-own t s)
+      bare-shown t r s (discard t s) (viewDiscard s) (discard-own t s)
       (λ ms. turn (discards s (site-up t ms r s ∙ up) (is-opened t ms r (was-opened r t _ h)) e)))
 
   forcing-shown : (s : ℕ) → Planned (forcing s)
@@ -157,7 +148,7 @@ module _ (t : ℕ) (r : Run) where
       record {
         after = λ v. v;
         settles = λ ms x. refl;
-        turns = λ ms w c. other-turns t s (force ∷ []) (site-up t ms r s ∙ is-up r s [] h) (rw seen-force at c);
+        turns = λ ms w c. other-turns t s (force ∷ []) (rw seen-force at c);
       }
     where
       seen-force : seenEffects t (acting 0 (force ∷ [])) ≡ select isForce (force ∷ [])
@@ -170,24 +161,18 @@ module _ (t : ℕ) (r : Run) where
   plan-shown (opening u M C) range small =
       own-or-other t (λ u. InRange (opening u M C) → Planned (opening u M C)) (opening-own M C) (λ u n range. opening-other M C u n) u range
   plan-shown (beginning u) range small =
-      own-or-other t (λ u. Planned (beginning u)) beginning-own (λ u n h. step-other t r 0 u begin n (is-up r 0 [] (passes 2 _ _ h .1))) u
+      own-or-other t (λ u. Planned (beginning u)) beginning-own (λ u n h. step-other t r 0 u begin n) u
   plan-shown (delivery u p m) range small =
       own-or-other t (λ u. Planned (delivery u p m)) (delivery-own p m range)
-      (λ u n h.
-      let up = is-up r (receiver m p) _ (passes 3 _ _ (passes 2 _ _ h .1) .1) in
-      or-shown t r (receiver m p) _ up (step-other t r (receiver m p) u (received m p) n up))
-      u
+      (λ u n h. or-shown t r (receiver m p) _ (step-other t r (receiver m p) u (received m p) n)) u
   plan-shown (timeout u s) range small =
-      own-or-other t (λ u. Planned (timeout u s)) (timeout-own s) (λ u n h. step-other t r s u timer n (is-up r s _ (passes 3 _ _ (passes 2 _ _ h .1) .1))) u
+      own-or-other t (λ u. Planned (timeout u s)) (timeout-own s) (λ u n h. step-other t r s u timer n) u
   plan-shown (forcing s) range small = forcing-shown s
   plan-shown (discarding u s) range small =
       own-or-other t (λ u. Planned (discarding u s)) (discarding-own s)
-      (λ u n h.
-      only-shown t r _ _
-      (λ e. quiet-shown t r s (discard u s) (λ v. v) (is-up r s _ (passes 3 _ _ (passes 2 _ _ h .1) .1)) (discard-other t u s n) (λ ms. still)))
-      u
-  plan-shown (crash s) range small = λ h. quiet-shown t r s (λ x. x) (λ v. v) (is-up r s [] h) (λ ms x. refl) (λ ms. still)
-  plan-shown (restart s) range small = λ h. restart-shown t r s (passes 5 _ [] h .0) small
+      (λ u n h. all-only (Shown t r) _ _ (λ e. bare-shown t r s (discard u s) (λ v. v) (discard-other t u s n) (λ ms. still))) u
+  plan-shown (crash s) range small = λ h. bare-shown t r s (λ x. x) (λ v. v) (λ ms x. refl) (λ ms. still)
+  plan-shown (restart s) range small = λ h. restart-shown t r s (not-struck 5 _ [] h .0) small
 
 -- ---- events
 

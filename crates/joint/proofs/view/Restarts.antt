@@ -5,40 +5,40 @@ use mathlib.Core.Logic.{_≢_}
 use mathlib.Core.Bool.{Bool, true, false, cond, true≢false}
 use mathlib.Core.List.{List, [], _∷_, _++_, append-nil}
 use lib.Dec.{eqb}
-use borrow.Author.Tests.{eqb-true, eqb-false, not-true, not-false}
+use borrow.Author.Tests.{eqb-true, eqb-false}
 use Rattle.codec.specs.Lists.{select}
-use Rattle.codec.specs.Sets.{empty}
 use Rattle.site.specs.Step.{Effect, append, force, enter, send, Row}
 use Rattle.site.specs.Cohort.{presumptionOf}
 use Rattle.site.specs.Coordinator.{Coordinator, coordinatorRestart}
 use Rattle.site.specs.Participant.{Participant, participantRestart}
 use Rattle.joint.specs.State.{Run, opened, holds, started, withCoordinator, withParticipant}
-use Rattle.joint.specs.Plan.{acting, rowPlan, transactions, restarting, joined, restartAll}
+use Rattle.joint.specs.Plan.{rowPlan, transactions, restarting, joined, restartAll}
 use Rattle.joint.specs.Run.{isForce}
 use Rattle.joint.specs.Safety.{Moment}
-use Rattle.joint.proofs.DownEmpty.{AllLogless, restarting-logless}
-use Rattle.joint.proofs.view.View.{View, siteView, view, viewAt, viewSettle, viewEffects}
-use Rattle.joint.proofs.view.Turn.{Opened, Carried, whole, cutAfter, viewStart, starts, fails, resumes, returns, Turns, turn}
+use Rattle.joint.proofs.Lists.{Each}
+use Rattle.joint.proofs.Plans.{Logless, coordinator-logless, participant-logless}
+use Rattle.joint.proofs.view.View.{View, siteView, view, not-opened, is-opened, site-up, viewAt, viewSettle}
+use Rattle.joint.proofs.view.Turn.{viewStart, starts, resumes, returns, turn}
 use Rattle.joint.proofs.view.Acts.{holds-select, effectsOf, seenEffects}
-use Rattle.joint.proofs.view.Carries.{seen-append, seen-own, seen-other, Shown}
+use Rattle.joint.proofs.view.Carries.{seen-append, seen-own, seen-other, bare-turns, Shown}
 use Rattle.joint.proofs.view.Once.{absent, once, absent-head, select-absent, once-select, once-transaction}
 use Rattle.joint.proofs.view.Settles.{coordinator-bare, participant-bare, settle-own, settle-other, start-view}
 
 -- ---- rows of a restart
 
-logless-forces : (u : ℕ) (es : List Effect) → AllLogless (acting u es) → select isForce es ≡ []
-unfolding acting select isForce
-logless-forces u [] h = refl
-logless-forces u (append k fs ∷ es) h = absurd (h .0)
-logless-forces u (force ∷ es) h = absurd (h .0)
-logless-forces u (enter o ∷ es) h = logless-forces u es (h .1)
-logless-forces u (send m p ∷ es) h = logless-forces u es (h .1)
+logless-forces : (es : List Effect) → Each Logless es → select isForce es ≡ []
+unfolding select isForce
+logless-forces [] h = refl
+logless-forces (append k fs ∷ es) h = absurd (h .0)
+logless-forces (force ∷ es) h = absurd (h .0)
+logless-forces (enter o ∷ es) h = logless-forces es (h .1)
+logless-forces (send m p ∷ es) h = logless-forces es (h .1)
 
 module _ (t : ℕ) (r : Run) where
   other-seen : (s u : ℕ) → u ≢ t → seenEffects t (restarting r s u .acts) ≡ []
   unfolding restarting rowPlan
-  other-seen zero u h = seen-other t u h _ ∙ logless-forces u _ (restarting-logless r zero u)
-  other-seen (suc n) u h = seen-other t u h _ ∙ logless-forces u _ (restarting-logless r (suc n) u)
+  other-seen zero u h = seen-other t u h _ ∙ logless-forces _ (coordinator-logless _ _)
+  other-seen (suc n) u h = seen-other t u h _ ∙ logless-forces _ (participant-logless _ _ _)
 
   other-settles : (s u : ℕ) → u ≢ t → (ms : List Moment) (x : Run) → view t ms (restarting r s u .settle x) ≡ view t ms x
   unfolding restarting rowPlan
@@ -92,38 +92,16 @@ module _ (t : ℕ) (r : Run) where
           go true q k ih = rw (eqb-true u t q) (absent-settles ts k ms (restarting r s t .settle x) ∙ ap (viewAt s started) (own ms x))
           go false q k ih = ih k ∙ ap (λ (v : View). viewAt s started (f v)) (other-settles s u (eqb-false u t q) ms x)
 
--- ---- what the view tells of the run
-
-module _ (t : ℕ) (ms : List Moment) (r : Run) where
-  pub not-opened : opened r t ≡ false → empty (view t ms r .transaction .cohort .members) ≡ true
-  unfolding view opened
-  not-opened e = not-false _ e
-
-  pub is-opened : opened r t ≡ true → Opened (view t ms r)
-  unfolding view opened
-  is-opened e = not-true _ e
-
-  pub site-up : (s : ℕ) → view t ms r .site s .up ≡ r .site s .up
-  unfolding view siteView
-  site-up s = refl
-
 -- ---- the turn
 
 module _ (t : ℕ) (r : Run) where
   -- t is not opened: none of the rows is its
-  absent-turns : {v w : View} (s : ℕ) → v .site s .up ≡ false → empty (v .transaction .cohort .members) ≡ true
-      → Carried t s [] (viewAt s started) v w → Turns t v w
-  unfolding viewEffects
-  absent-turns s d e whole = turn (starts s d e)
-  absent-turns s d e (cutAfter zero n) = turn (fails s n d e)
-  absent-turns s d e (cutAfter (suc m) n) = turn (fails s n d e)
-
-  absent-shown : (s : ℕ) (ts : List ℕ) → r .site s .up ≡ false → opened r t ≡ false → absent t ts ≡ true → Shown t r (restartAll r s ts)
-  absent-shown s ts d e h =
+  absent-shown : (s : ℕ) (ts : List ℕ) → opened r t ≡ false → absent t ts ≡ true → Shown t r (restartAll r s ts)
+  absent-shown s ts e h =
       record {
         after = viewAt s started;
         settles = absent-settles t r s ts h;
-        turns = λ ms w c. absent-turns s (site-up t ms r s ∙ d) (not-opened t ms r e) (rw (restart-site t r s ts, absent-seen t r s ts h) at c);
+        turns = λ ms w c. bare-turns t s (turn (starts s (not-opened t ms r e))) (rw (restart-site t r s ts, absent-seen t r s ts h) at c);
       }
 
   held : (s : ℕ) (ms : List Moment) → _≡_ {A = ℕ → Bool} (λ k. holds t k (view t ms r .site s .stable)) (λ k. holds t k (r .site s .stable))
@@ -155,7 +133,7 @@ module _ (t : ℕ) (r : Run) where
         turns =
             λ ms w c.
             turn
-            (returns {row = row} n (is-opened t ms r e) (site-up t ms r (suc n) ∙ d)
+            (returns {row = row} n (site-up t ms r (suc n) ∙ d)
             (ap (participantRestart presumption (suc n)) (held (suc n) ms))
             (rw (restart-site t r (suc n) ts, once-seen t r (suc n) ts h, seen-own t (row .effects)) at c));
       }
@@ -165,4 +143,4 @@ module _ (t : ℕ) (r : Run) where
     where
       go : (b : Bool) → opened r t ≡ b → Shown t r (restartAll r s (select (opened r) transactions))
       go true e = once-shown s _ d e (once-select t (opened r) e transactions (once-transaction t (h e)))
-      go false e = absent-shown s _ d e (select-absent t (opened r) e transactions)
+      go false e = absent-shown s _ e (select-absent t (opened r) e transactions)

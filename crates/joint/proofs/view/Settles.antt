@@ -15,7 +15,8 @@ use Rattle.site.specs.Participant.{Participant}
 use Rattle.joint.specs.State.{Run, Site, Transaction, atSite, atTransaction, started, withCoordinator, withParticipant}
 use Rattle.joint.specs.Plan.{openedAs, dropOldest, trimmed, remembers, forgottenUnless, discard}
 use Rattle.joint.specs.Safety.{Moment}
-use Rattle.joint.proofs.view.Updates.{update-at, update-keeps, update-same, update-other, select-append}
+use Rattle.joint.proofs.Lists.{select-append}
+use Rattle.joint.proofs.Updates.{update-at, update-keeps, update-same, update-other}
 use Rattle.joint.proofs.view.View.{View, siteView, withoutEntries, view, view-path, viewAt, viewSettle}
 use Rattle.joint.proofs.view.Turn.{trimmedView, isNil, noRecord, viewForget, viewDiscard}
 

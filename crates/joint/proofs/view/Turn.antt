@@ -1,4 +1,4 @@
--- What one event may do to the view of one transaction: nothing, forces and a crash (its own or of another transaction's row), or one of the transaction's own steps.
+-- What one event may do to the view of one transaction: nothing, or a turn (a crash, the start of a site, or one of the transaction's own steps), behind forces.
 use Prim.Native.Nat.{ℕ, suc, _<_}
 use mathlib.Core.Path.{_≡_}
 use mathlib.Core.Bool.{Bool, true, false, not, _||_}
@@ -71,8 +71,8 @@ viewStart s g v = viewAt s started (viewSettle g v)
 -- ---- the turns
 
 pub data Turn (t : ℕ) (v : View) : View → Type 0 where
-  crashes : (s n : ℕ) → Up v s → Turn t v (viewDown s n v)
-  -- members is a byte, PC a part of it, there is a member, and the sites of all members are up
+  crashes : (s n : ℕ) → Turn t v (viewDown s n v)
+  -- members is a byte, PC a part of it, there is a member, and the coordinator and all members are up
   opens : (g : Cohort) → t < 8 → g .members < 256 → part (g .presumeCommit) (g .members) ≡ true → empty (g .members) ≡ false
       → empty (v .transaction .cohort .members) ≡ true
       → Up v 0 → ((n : ℕ) → member (suc n) (g .members) ≡ true → Up v (suc n)) → Turn t v (viewSettle (openedAs g) v)
@@ -83,21 +83,20 @@ pub data Turn (t : ℕ) (v : View) : View → Type 0 where
       → Given v i → Own (suc n) i
       → participantStep (presumptionOf (v .transaction .cohort) (suc n)) (suc n) i (v .transaction .participant (suc n)) ≡ some row
       → Carried t (suc n) (row .effects) (viewSettle (withParticipant (suc n) (row .phase))) v w → Turn t v w
-  -- the coordinator, or a member
+  -- of a transaction that is opened, whose newest stable record there closes it
   discards : (s : ℕ) → Up v s → Opened v → newest closes (v .site s .stable) ≡ true → Turn t v (viewDiscard s v)
-  -- a site starts, where the transaction is not opened and where it is
-  starts : (s : ℕ) → v .site s .up ≡ false → empty (v .transaction .cohort .members) ≡ true → Turn t v (viewAt s started v)
-  -- a start that is cut, where the transaction is not opened
-  fails : (s n : ℕ) → v .site s .up ≡ false → empty (v .transaction .cohort .members) ≡ true → Turn t v (viewDown s n v)
+  -- a site starts, where the transaction is not opened
+  starts : (s : ℕ) → empty (v .transaction .cohort .members) ≡ true → Turn t v (viewAt s started v)
+  -- the coordinator's row of a restart, and a participant's
   resumes : {row : Row Coordinator} {w : View} → Opened v → v .site 0 .up ≡ false
       → coordinatorRestart (v .transaction .cohort) (λ k. holds t k (v .site 0 .stable)) ≡ row
       → Carried t 0 (row .effects) (viewStart 0 (withCoordinator (row .phase))) v w → Turn t v w
-  returns : {row : Row Participant} {w : View} (n : ℕ) → Opened v → v .site (suc n) .up ≡ false
+  returns : {row : Row Participant} {w : View} (n : ℕ) → v .site (suc n) .up ≡ false
       → participantRestart (presumptionOf (v .transaction .cohort) (suc n)) (suc n) (λ k. holds t k (v .site (suc n) .stable)) ≡ row
       → Carried t (suc n) (row .effects) (viewStart (suc n) (withParticipant (suc n) (row .phase))) v w → Turn t v w
 
--- what one event does: nothing, or one of them, behind the forces of its row where that is another transaction's
+-- what one event does: nothing, or one of them; first the forces of its row, where that is another transaction's, or of a forcing
 pub data Turns (t : ℕ) : View → View → Type 0 where
   still : {v : View} → Turns t v v
   turn : {v w : View} → Turn t v w → Turns t v w
-  forces : {v w : View} (s : ℕ) → Up v s → Turns t (viewAt s forced v) w → Turns t v w
+  forces : {v w : View} (s : ℕ) → Turns t (viewAt s forced v) w → Turns t v w

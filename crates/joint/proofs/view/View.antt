@@ -1,15 +1,17 @@
 -- The view of one transaction: all that the safety proof looks at.
 -- It is the transaction itself, of each log its records, and what the history tells of its votes and entries; the entries that the run stores are not read.
 use Prim.Native.Nat.{ℕ}
-use mathlib.Core.Path.{_≡_, fun-ext}
-use mathlib.Core.Bool.{Bool, false, _&&_, _||_}
+use mathlib.Core.Path.{_≡_, refl, fun-ext}
+use mathlib.Core.Bool.{Bool, true, false, _&&_, _||_}
 use mathlib.Core.List.{List, [], _∷_}
 use lib.Dec.{eqb}
+use borrow.Author.Tests.{not-true, not-false}
 use Rattle.codec.specs.Lists.{select, any}
+use Rattle.codec.specs.Sets.{empty}
 use Rattle.codec.specs.Records.{ofTransaction}
 use Rattle.site.specs.Presumption.{Outcome, sameOutcome}
 use Rattle.site.specs.Step.{voteYes, messageKind, Effect, append, force, enter, send}
-use Rattle.joint.specs.State.{Run, Site, Transaction, holds, update, appended, forced, stopped, withSent, forgotten}
+use Rattle.joint.specs.State.{Run, Site, Transaction, opened, holds, update, appended, forced, stopped, withSent, forgotten}
 use Rattle.joint.specs.Safety.{Moment, sends, isEntry, isVote}
 
 unfoldable pub siteView : ℕ → Site → Site
@@ -45,6 +47,21 @@ pub view-path : {v w : View} → v .transaction ≡ w .transaction → ((s : ℕ
     → ((p : ℕ) → v .voted p ≡ w .voted p) → ((s : ℕ) (o : Outcome) → v .entered s o ≡ w .entered s o) → v ≡ w
 view-path p q f g =
     λ i. record { transaction = p i; site = fun-ext q i; voted = fun-ext f i; entered = λ s o. g s o i }
+
+-- ---- what the view tells of the run
+
+module _ (t : ℕ) (ms : List Moment) (r : Run) where
+  pub not-opened : opened r t ≡ false → empty (view t ms r .transaction .cohort .members) ≡ true
+  unfolding view opened
+  not-opened e = not-false _ e
+
+  pub is-opened : opened r t ≡ true → empty (view t ms r .transaction .cohort .members) ≡ false
+  unfolding view opened
+  is-opened e = not-true _ e
+
+  pub site-up : (s : ℕ) → view t ms r .site s .up ≡ r .site s .up
+  unfolding view siteView
+  site-up s = refl
 
 -- ---- changes of a view
 

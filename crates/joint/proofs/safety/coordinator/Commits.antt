@@ -17,7 +17,7 @@ use Rattle.joint.proofs.safety.coordinator.Logs.{commitLog, end-unwritt
 use Rattle.joint.proofs.safety.coordinator.Shifts.{writes, begins, marks, commits, ends, settledAs}
 use Rattle.joint.proofs.safety.coordinator.Runs.{Addressee, Node, Runs, node-stay, append-run, force-run, enter-run, sends-run, each-in-turn, each-ordered}
 use Rattle.joint.proofs.safety.Outcomes.{refl-outcome}
-use Rattle.joint.proofs.safety.Each.{Each}
+use Rattle.joint.proofs.Lists.{Each}
 
 -- ---- begin
 

@@ -18,7 +18,7 @@ use Rattle.joint.proofs.safety.coordinator.Logs.{closed, commitLog, wai
 use Rattle.joint.proofs.safety.coordinator.Steps.{From, Shift, shift-keeps, standsAs, stand, settle-mid}
 use Rattle.joint.proofs.safety.coordinator.Ways.{way-commit, way-lost, way-done, way-self, way-down}
 use Rattle.codec.specs.laws.Tests.{of-true}
-use Rattle.joint.proofs.safety.Each.{take-none}
+use Rattle.joint.proofs.Lists.{take-none}
 
 -- ---- what a crash or a row leads to
 

@@ -26,7 +26,7 @@ use Rattle.joint.proofs.safety.coordinator.Crashes.{Next, from-self}
 use Rattle.joint.proofs.safety.coordinator.Commits.{forced-kinds}
 use Rattle.joint.proofs.safety.coordinator.Ways.{way-done, way-self}
 use Rattle.joint.proofs.safety.Outcomes.{same-outcome}
-use Rattle.joint.proofs.safety.Each.{drop-map}
+use Rattle.joint.proofs.Lists.{drop-map}
 
 -- ---- what a turn leads to
 

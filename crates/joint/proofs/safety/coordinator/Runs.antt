@@ -1,7 +1,7 @@
 -- The coordinator's rows, effect by effect: in front of each effect the invariant holds with some standing, so that a power cut there is a crash from it.
 use Prim.Native.Nat.{ℕ, zero, suc}
 use mathlib.Core.Path.{_≡_, refl}
-use mathlib.Core.Bool.{Bool, true, false, cond, not}
+use mathlib.Core.Bool.{Bool, false, not}
 use mathlib.Core.List.{List, [], _∷_, _++_, map}
 use lib.ListN.{take}
 use lib.Dec.{T}
@@ -19,7 +19,7 @@ use Rattle.joint.proofs.safety.Sets.{no-zero}
 use Rattle.joint.proofs.safety.Invariant.{Standing, stageOf, hasDecided, writesInit, coordinatorAt, between, sentIn, Mid, cohortOf}
 use Rattle.joint.proofs.safety.coordinator.Steps.{From, Shift, shift-keeps, standsAs, stay, stand, settle-mid, enter-mid, send-mid}
 use Rattle.joint.proofs.safety.coordinator.Crashes.{Next, crash-next}
-use Rattle.joint.proofs.safety.Each.{Each, each-append}
+use Rattle.joint.proofs.Lists.{Each, each-append, each-chosen, each-kept}
 
 -- ---- addressees
 
@@ -118,24 +118,10 @@ module _ (t : ℕ) (h0 : Standing) where
 -- ---- the order of sending
 
 module _ (P : ℕ → Type 0) where
-  each-cond : (b : Bool) (x : ℕ) (xs : List ℕ) → (T b → P x) → Each P xs → Each P (cond b (x ∷ xs) xs)
-  each-cond true x xs h a = (h tt, a)
-  each-cond false x xs h a = a
-
-  each-chosen : (f : ℕ → Bool) → ((p : ℕ) → T (f p) → P p) → (xs : List ℕ) → Each P (select f xs)
-  unfolding select
-  each-chosen f h [] = tt
-  each-chosen f h (x ∷ xs) = each-cond (f x) x (select f xs) (h x) (each-chosen f h xs)
-
-  each-kept : (f : ℕ → Bool) (xs : List ℕ) → Each P xs → Each P (select f xs)
-  unfolding select
-  each-kept f [] a = tt
-  each-kept f (x ∷ xs) a = each-cond (f x) x (select f xs) (λ t. a .0) (each-kept f xs (a .1))
-
   -- those of a set, in turn, and in the order of sending
   pub each-in-turn : (to : ℕ) → ((n : ℕ) → T (member (suc n) to) → P (suc n)) → Each P (inTurn to)
   unfolding inTurn listed
-  each-in-turn to h = each-chosen (λ p. member p to) go participants
+  each-in-turn to h = each-chosen P (λ p. member p to) go participants
     where
       go : (p : ℕ) → T (member p to) → P p
       go zero t = absurd (no-zero to t)
@@ -146,4 +132,4 @@ module _ (P : ℕ → Type 0) where
   each-ordered first to h =
       let a = each-in-turn to h in
       each-append P (select (λ p. member p first) (inTurn to)) (select (λ p. not (member p first)) (inTurn to))
-      (each-kept (λ p. member p first) (inTurn to) a) (each-kept (λ p. not (member p first)) (inTurn to) a)
+      (each-kept P (λ p. member p first) (inTurn to) a) (each-kept P (λ p. not (member p first)) (inTurn to) a)

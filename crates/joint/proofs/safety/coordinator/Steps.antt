@@ -13,7 +13,7 @@ use Rattle.site.specs.Step.{Message, voteYes, voteNo, messageKind, enter, send}
 use Rattle.site.specs.Coordinator.{Coordinator}
 use Rattle.joint.specs.State.{Site, update, withCoordinator, withSent}
 use Rattle.joint.proofs.Booleans.{or-left, or-either, both-ways}
-use Rattle.joint.proofs.view.Updates.{update-other}
+use Rattle.joint.proofs.Updates.{update-other}
 use Rattle.joint.proofs.view.View.{View, viewAt, viewSettle, viewPerform}
 use Rattle.joint.proofs.safety.Tables.{Status, has, Stage, Fine, passes, acked, maySend}
 use Rattle.joint.proofs.safety.coordinator.Passes.{pass-fine, send-fine}

@@ -14,11 +14,11 @@ use Rattle.site.specs.Step.{Message, voteYes, messageKind, Effect, append, forc
 use Rattle.site.specs.Participant.{Participant}
 use Rattle.joint.specs.State.{Site, holds, appended, forced, stopped, started, withSent, withParticipant, forgotten}
 use Rattle.joint.specs.Safety.{sends}
-use Rattle.joint.proofs.view.Updates.{update-same, update-other}
+use Rattle.joint.proofs.Updates.{update-same, update-other}
 use Rattle.joint.proofs.view.View.{View, viewAt, viewSettle, viewPerform, viewEffects, viewDown}
 use Rattle.joint.proofs.view.Turn.{viewStart, viewDiscard, viewForget, trimmedView, noRecord, isNil}
 use Rattle.joint.proofs.safety.Tables.{has}
-use Rattle.joint.proofs.safety.Each.{Each, map-take, drop-map}
+use Rattle.joint.proofs.Lists.{Each, map-take, drop-map}
 use Rattle.joint.proofs.safety.Invariant.{fieldsAt, recordFor, siteWith, sentIn}
 use Rattle.joint.proofs.safety.Holds.{holds-at}
 use Rattle.joint.proofs.safety.participant.Rows.{Part, moved, effect, effects, halted, settled, woken, dropped, phaseLeft}

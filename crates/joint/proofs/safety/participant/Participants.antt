@@ -17,10 +17,10 @@ use Rattle.joint.specs.State.{Site, holds, forced, started, withParticip
 use Rattle.joint.specs.Plan.{closes, newest}
 use Rattle.joint.proofs.Booleans.{mp}
 use Rattle.joint.proofs.view.View.{View, viewAt, viewSettle, viewDown}
-use Rattle.joint.proofs.view.Turn.{Carried, Given, Own, Up, Opened, viewDiscard, viewStart}
+use Rattle.joint.proofs.view.Turn.{Carried, Given, Own, Up, viewDiscard, viewStart}
 use Rattle.joint.proofs.safety.Tables.{Stage, isUp, stableKinds}
 use Rattle.joint.proofs.safety.Sets.{empty-none, belongs}
-use Rattle.joint.proofs.safety.Each.{each-append, take-none}
+use Rattle.joint.proofs.Lists.{each-append, take-none}
 use Rattle.joint.proofs.safety.Invariant.{Standing, recordFor, stageOf, sentIn, Member, Place, Inv}
 use Rattle.joint.proofs.safety.Holds.{holds-at}
 use Rattle.joint.proofs.safety.participant.Rows.{ofStatus, settled, woken, dropped, heard, lands, rowTest, onRow, step-at, restart-at, force-at, crash-at, discard-at}
@@ -164,8 +164,8 @@ module _ (t : ℕ) (h : Standing) (v : View) (inv : Inv t h v) where
   either : (n : ℕ) {w : View} → ((b : Bool) → Moves n w b) → Inv t h w
   either n f = only-at inv n (f (belongs (v .transaction .cohort) n) refl (inv .mid .places n))
 
-  pub force-kept : (n : ℕ) → Up v (suc n) → Inv t h (viewAt (suc n) forced v)
-  force-kept n u = either n go
+  pub force-kept : (n : ℕ) → Inv t h (viewAt (suc n) forced v)
+  force-kept n = either n go
     where
       go : (b : Bool) → Moves n (viewAt (suc n) forced v) b
       go true e x = member-after timer x tt (force-at _ (x .status)) (reach-force t (suc n) v (from-member x))
@@ -198,17 +198,17 @@ module _ (t : ℕ) (h : Standing) (v : View) (inv : Inv t h v) where
           settled _ (λ y z r. reach-phase t (suc n) v (row .phase) r) (step-passed x i u e) c
       go false q x = absurd (true≢false (sym (true-of (belongs (v .transaction .cohort) n) k) ∙ q))
 
-  pub discard-kept : (n : ℕ) → Up v (suc n) → Opened v → newest closes (v .site (suc n) .stable) ≡ true → Inv t h (viewDiscard (suc n) v)
-  discard-kept n u o c = either n go
+  pub discard-kept : (n : ℕ) → Up v (suc n) → newest closes (v .site (suc n) .stable) ≡ true → Inv t h (viewDiscard (suc n) v)
+  discard-kept n u c = either n go
     where
       go : (b : Bool) → Moves n (viewDiscard (suc n) v) b
       go true e x = member-after timer x tt (discard-passed x u c) (reach-dropped t n v (from-member x))
       go false e x = absurd (true≢false (sym c ∙ ap (newest closes) (x .stable) ∙ none-closes))
 
-  pub return-kept : {row : Row Participant} {w : View} (n : ℕ) → Opened v → v .site (suc n) .up ≡ false
+  pub return-kept : {row : Row Participant} {w : View} (n : ℕ) → v .site (suc n) .up ≡ false
       → participantRestart (presumptionOf (v .transaction .cohort) (suc n)) (suc n) (λ k. holds t k (v .site (suc n) .stable)) ≡ row
       → Carried t (suc n) (row .effects) (viewStart (suc n) (withParticipant (suc n) (row .phase))) v w → Inv t h w
-  return-kept {row} {w} n o u e c = either n go
+  return-kept {row} {w} n u e c = either n go
     where
       restarted : List LogRecord → Row Participant
       restarted l = participantRestart (presumptionOf (v .transaction .cohort) (suc n)) (suc n) (λ k. holds t k l)

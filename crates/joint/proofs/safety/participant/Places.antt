@@ -20,7 +20,7 @@ use Rattle.joint.proofs.view.Turn.{Carried, whole, cutAfter, viewStart}
 use Rattle.joint.proofs.safety.Tables.{Status, isUp, stableKinds, unforcedKinds, Stage, fits, may, mayEnter, Fine}
 use Rattle.joint.proofs.safety.Finite.{allMessage, at-message, allOutcome, at-outcome}
 use Rattle.joint.proofs.safety.Sets.{belongs}
-use Rattle.joint.proofs.safety.Each.{each-take, take-none}
+use Rattle.joint.proofs.Lists.{each-take, take-none}
 use Rattle.joint.proofs.safety.Invariant.{Standing, stageOf, siteWith, sentIn, Member, Stranger, Place, Inv}
 use Rattle.joint.proofs.safety.participant.Rows.{Part, still, ofStatus, heard, lands, rowTest, Landed, landed, row-whole, row-cut}
 use Rattle.joint.proofs.safety.participant.Local.{Local, local, Elsewhere, elsewhere-none, Reached, AllProper, reach-effects, reach-down, reach-woken}

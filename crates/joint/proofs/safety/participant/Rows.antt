@@ -21,7 +21,7 @@ use Rattle.joint.proofs.Booleans.{_⇒_, mp}
 use Rattle.joint.proofs.safety.Tables.{Status, working, prepared, gone, half, lone, shut, off, offVoted, offShut, isUp, phaseOf, stableKinds, unforcedKinds, has, Stage, fits, may, mayEnter}
 use Rattle.joint.proofs.safety.Finite.{allBool, at-bool, allOutcome, allPresumption, at-presumption, allStatus, at-status, allStage, at-stage, allMessage, at-message}
 use Rattle.joint.proofs.safety.Invariant.{recordFor}
-use Rattle.joint.proofs.Moments.{any-found}
+use Rattle.joint.proofs.Lists.{any-found}
 
 -- ---- a participant, by kinds
 

@@ -38,7 +38,7 @@ event-range (suc (suc (suc (suc (suc (suc zero)))))) x y z h = tt
 event-range (suc (suc (suc (suc (suc (suc (suc zero))))))) x y z h = tt
 event-range (suc (suc (suc (suc (suc (suc (suc (suc n)))))))) x y z h = tt
 
-only-some : {A : Type 0} (b : Bool) (a c : A) → onlyIf b a ≡ some c → (b ≡ true) × (a ≡ c)
+pub only-some : {A : Type 0} (b : Bool) (a c : A) → onlyIf b a ≡ some c → (b ≡ true) × (a ≡ c)
 unfolding onlyIf
 only-some true a c h = (refl, cc)
 only-some false a c h = (cc, cc)

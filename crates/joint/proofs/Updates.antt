@@ -1,13 +1,10 @@
--- Laws of `update`, and of lists that are selected from.
-use Prim.Native.Nat.{ℕ, zero, suc}
-use mathlib.Core.Path.{_≡_, refl, ap}
+-- Laws of `update`.
+use Prim.Native.Nat.{ℕ}
+use mathlib.Core.Path.{_≡_, refl}
 use mathlib.Core.Logic.{_≢_}
 use mathlib.Core.Bool.{Bool, true, false, cond}
-use mathlib.Core.List.{List, [], _∷_, _++_}
-use lib.ListN.{length, take}
 use lib.Dec.{eqb}
 use borrow.Author.Tests.{eq-eqb, ne-eqb, eqb-true}
-use Rattle.codec.specs.Lists.{select}
 use Rattle.joint.specs.State.{update}
 
 -- f is changed at i by g; what h shows of it is changed at i by k
@@ -55,27 +52,3 @@ update-point P g k i f j h = go (eqb j i)
     go : (b : Bool) → P (cond b (g (f j)) (f j))
     go true = k (f j) h
     go false = h
-
-cond-append {ℓ} : {A : Type ℓ} (b : Bool) (x : A) (xs ys zs : List A) → zs ≡ xs ++ ys → cond b (x ∷ zs) zs ≡ cond b (x ∷ xs) xs ++ ys
-cond-append true x xs ys zs e = rw e
-cond-append false x xs ys zs e = e
-
-pub select-append {ℓ} : {A : Type ℓ} (f : A → Bool) (xs ys : List A) → select f (xs ++ ys) ≡ select f xs ++ select f ys
-unfolding select
-select-append f [] ys = refl
-select-append f (x ∷ xs) ys = cond-append (f x) x (select f xs) (select f ys) (select f (xs ++ ys)) (select-append f xs ys)
-
--- the first n of a list, selected, are some first ones of those selected
-unfoldable pub among {ℓ} : {A : Type ℓ} → (A → Bool) → ℕ → List A → ℕ
-among f n xs = length (select f (take n xs))
-
-cond-take {ℓ} : {A : Type ℓ} (b : Bool) (x : A) (xs ys : List A) → xs ≡ take (length xs) ys
-    → cond b (x ∷ xs) xs ≡ take (length (cond b (x ∷ xs) xs)) (cond b (x ∷ ys) ys)
-cond-take {A} true x xs ys e = ap (λ (l : List A). x ∷ l) e
-cond-take false x xs ys e = e
-
-pub select-take {ℓ} : {A : Type ℓ} (f : A → Bool) (n : ℕ) (xs : List A) → select f (take n xs) ≡ take (among f n xs) (select f xs)
-unfolding select among
-select-take f zero xs = refl
-select-take f (suc n) [] = refl
-select-take f (suc n) (x ∷ xs) = cond-take (f x) x (select f (take n xs)) (select f xs) (select-take f n xs)
