@@ -111,7 +111,7 @@ def refused(support, equations, edit=None, out=OUT):
     found = sorted({labels[n] for n in re.findall(r"error: `(v[\w-]+)`", printed) if n in labels})
     if not found:
         raise SystemExit(printed[-3000:])
-    return found
+    return [(f"{path} {name}", "was not admitted" not in why) for path, name, why in found]
 
 
 def used(path, found):
@@ -126,7 +126,7 @@ def used(path, found):
 
 def proof_refused(proof, edit=None, out=OUT):
     """What the prover refuses in a file of joint's proofs/ and in those that it uses, over the definitions and no program:
-    (file, declaration), in the prover's order."""
+    (file and declaration, whether it is refused for itself and not for one that it uses), in the prover's order."""
     definitions(out, edit)
     for path in used(f"crates/joint/proofs/{proof}", []):
         if path.startswith("crates/joint/proofs/") or "/laws/" in path:
@@ -134,8 +134,8 @@ def proof_refused(proof, edit=None, out=OUT):
     proved, printed = check(out, list(CRATES))
     if proved:
         return []
-    found = re.findall(r"/crates/joint/proofs/(\S+\.antt):\d+:\d+: error: `([^`]+)`", printed)
+    found = re.findall(r"/crates/joint/proofs/(\S+\.antt):\d+:\d+: error: `([^`]+)`(.*)", printed)
     # the definitions themselves are accepted
     if not found or len(found) != printed.count(": error: "):
         raise SystemExit(printed[-3000:])
-    return found
+    return [(f"{path} {name}", "was not admitted" not in why) for path, name, why in found]

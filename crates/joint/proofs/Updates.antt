@@ -34,16 +34,6 @@ pub update-other {ℓ} : {A : Type ℓ} (i j : ℕ) (g : A → A) (f : ℕ → A
 unfolding update
 update-other i j g f h = simp (ne-eqb j i h)
 
--- what holds of each value, and of the changed one
-pub update-all {ℓ κ} : {A : Type ℓ} (P : A → Type κ) (g : A → A) (i : ℕ) (f : ℕ → A)
-    → ((j : ℕ) → P (f j)) → (P (f i) → P (g (f i))) → (j : ℕ) → P (update i g f j)
-unfolding update
-update-all P g i f all new j = go (eqb j i) refl
-  where
-    go : (b : Bool) → eqb j i ≡ b → P (cond b (g (f j)) (f j))
-    go true e = rw (eqb-true j i e) (new (all i))
-    go false e = all j
-
 -- what a change keeps, at one place
 pub update-point {ℓ κ} : {A : Type ℓ} (P : A → Type κ) (g : A → A) → ((x : A) → P x → P (g x)) → (i : ℕ) (f : ℕ → A) (j : ℕ) → P (f j) → P (update i g f j)
 unfolding update
