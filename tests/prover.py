@@ -111,7 +111,7 @@ def refused(support, equations, edit=None, out=OUT):
     found = sorted({labels[n] for n in re.findall(r"error: `(v[\w-]+)`", printed) if n in labels})
     if not found:
         raise SystemExit(printed[-3000:])
-    return [(f"{path} {name}", "was not admitted" not in why) for path, name, why in found]
+    return found
 
 
 def used(path, found):

@@ -21,7 +21,7 @@ use Rattle.joint.proofs.Moments.{placed, moment-start, moment-cohort}
 use Rattle.joint.proofs.EventMoments.{reply-silence}
 use Rattle.joint.proofs.view.View.{View, siteView, isEntryAt, view}
 use Rattle.joint.proofs.view.Acts.{holds-select}
-use Rattle.joint.proofs.safety.Tables.{Status, stableKinds, has, doubtful, agrees, isWorking, Stage, done, mayEnter}
+use Rattle.joint.proofs.safety.Tables.{Status, stableKinds, has, doubtful, conforms, isWorking, Stage, done, mayEnter}
 use Rattle.joint.proofs.safety.Sets.{empty-none, no-zero}
 use Rattle.joint.proofs.safety.Holds.{holds-at}
 use Rattle.joint.proofs.safety.Invariant.{Log, waiting, resting, down, Standing, never, initial, collecting, decided, stageOf, hasDecided, sentIn, Member, Place, Mid, Inv, cohortOf}
@@ -170,7 +170,7 @@ silence-decided t es h inv (rests o b l) n m d = go (member (suc n) (cohortOf (s
     go false k x = absurd k
     go true k x =
         subst (λ (z : Outcome). T (sameOutcome o z)) (sym (same-outcome s o
-        (doubt-law (doubtful (x .status)) (agrees (presumptionOf (cohortOf (seenAfter t es)) (suc n)) o (x .status)) (not (isWorking (x .status) && sentIn (seenAfter t es) (suc n) prepare)) (sameOutcome s o)
+        (doubt-law (doubtful (x .status)) (conforms (presumptionOf (cohortOf (seenAfter t es)) (suc n)) o (x .status)) (not (isWorking (x .status) && sentIn (seenAfter t es) (suc n) prepare)) (sameOutcome s o)
         (in-doubt t es (done o true) n x d) (x .fine .shape)))) (refl-outcome o)
 
 outcome-is : (t : ℕ) (es : List (List ℕ)) (x : Tracked t es) (o : Outcome) → T (hasDecided (x .standing) o) → o ≡ outcome es t

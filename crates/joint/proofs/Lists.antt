@@ -82,7 +82,7 @@ unfolding select
 select-append f [] ys = refl
 select-append f (x ∷ xs) ys = cond-append (f x) x (select f xs) (select f ys) (select f (xs ++ ys)) (select-append f xs ys)
 
--- the first n of a list, selected, are some first ones of those selected
+-- how many of the first n pass f
 unfoldable pub among {ℓ} : {A : Type ℓ} → (A → Bool) → ℕ → List A → ℕ
 among f n xs = length (select f (take n xs))
 
@@ -91,6 +91,7 @@ cond-take {ℓ} : {A : Type ℓ} (b : Bool) (x : A) (xs ys : List A) → xs ≡ 
 cond-take {A} true x xs ys e = ap (λ (l : List A). x ∷ l) e
 cond-take false x xs ys e = e
 
+-- the first n of a list, selected, are some first ones of those selected
 pub select-take {ℓ} : {A : Type ℓ} (f : A → Bool) (n : ℕ) (xs : List A) → select f (take n xs) ≡ take (among f n xs) (select f xs)
 unfolding select among
 select-take f zero xs = refl
@@ -128,7 +129,7 @@ module _ {ℓ} {A : Type ℓ} (f : A → Bool) where
   pub any-more : (xs ys : List A) → T (any f xs) → T (any f (xs ++ ys))
   any-more xs ys h = rw any-append (or-left (any f xs) (any f ys) h)
 
-  -- a test that some element passes is passed by one of them
+  -- where the test is passed: by which element, with those before and behind it
   pub any-found : (xs : List A) → T (any f xs) → (a : List A) × (m : A) × (b : List A) × (xs ≡ a ++ (m ∷ b)) × T (f m)
   unfolding any
   any-found [] h = absurd h

@@ -72,12 +72,14 @@ isDone (waiting w) l p = not (member p w)
 isDone (resting b) l p = true
 isDone down l p = not (resumed (classOf l))
 
+-- how it stands to participant p
 abbrev pub stageOf : Standing → ℕ → Stage
 stageOf (never u) p = fresh
 stageOf (initial b) p = fresh
 stageOf (collecting w b) p = asking (member p w)
 stageOf (decided o pace l) p = done o (isDone pace l p)
 
+-- outcome o is decided
 abbrev pub hasDecided : Standing → Outcome → Bool
 hasDecided (never u) o = false
 hasDecided (initial b) o = false
@@ -137,6 +139,7 @@ SetsFit g (decided abort (resting true) l) = Unit {0}
 SetsFit g (decided o (resting false) l) = Unit {0}
 SetsFit g (decided o down l) = Unit {0}
 
+-- with what it collects votes: record 1, where it is written
 abbrev pub initLog : Bool → Log
 initLog true = l1
 initLog false = l0

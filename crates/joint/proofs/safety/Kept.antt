@@ -1,4 +1,4 @@
--- Each event keeps the invariant of each transaction; a decision stays; commit is decided only behind a stable record 2 and all Yes votes.
+-- Each turn, and so all that one event does to a view, keeps the invariant; a decision stays; commit is decided only behind a stable record 2 and all Yes votes.
 use Prim.Native.Nat.{ℕ, zero, suc}
 use mathlib.Core.Path.{_≡_, refl, sym, _∙_, subst}
 use mathlib.Core.Logic.{_⊎_, inl, inr, ⊎-elim}
@@ -23,7 +23,7 @@ use Rattle.joint.proofs.safety.coordinator.Steps.{From, own-number}
 use Rattle.joint.proofs.safety.coordinator.Crashes.{from-self, crash-next}
 use Rattle.joint.proofs.safety.participant.Participants.{force-kept, crash-kept, start-kept, row-kept, discard-kept, return-kept}
 use Rattle.joint.proofs.safety.coordinator.Coordinators.{coordinator-next}
-use Rattle.joint.proofs.safety.coordinator.Discards.{After, after, force-next, discard-next}
+use Rattle.joint.proofs.safety.coordinator.Discards.{After, next-after, force-next, discard-next}
 use Rattle.joint.proofs.safety.coordinator.Resumes.{resume-after, effects-cohort}
 use Rattle.joint.proofs.safety.coordinator.Opens.{open-after, start-after}
 
@@ -62,6 +62,7 @@ effects-voted t (e ∷ es) v n u = perform-voted t e v n (effects-voted t es (vi
 
 -- ---- a turn
 
+-- what a turn from v to w leaves of the invariant with the standing h
 pub record Kept (t : ℕ) (h : Standing) (v w : View) : Type 0 where
   pub standing : Standing
   pub inv : Inv t standing w
@@ -112,13 +113,13 @@ start-voted c x n u = u
 
 pub turn-kept : {t : ℕ} {h : Standing} {v w : View} → Inv t h v → Turn t v w → Kept t h v w
 unfolding viewAt viewDown viewDiscard viewForget forgotten withCoordinator
-turn-kept {t} {h} {v} inv (crashes zero k) = after-kept refl (λ n u. u) (after (crash-next t v h (inv .mid) k))
+turn-kept {t} {h} {v} inv (crashes zero k) = after-kept refl (λ n u. u) (next-after (crash-next t v h (inv .mid) k))
 turn-kept {t} {h} {v} inv (crashes (suc n) k) = same-kept inv (crash-kept t h v inv n k)
 turn-kept {t} {h} {v} inv (opens g a b c d e up ups) =
     let x = open-after t v g a b c d e up ups h inv in
     record { standing = x .standing; inv = x .inv; from = x .from; asked = λ k n m. absurd (empty-none (cohortOf v .members) (suc n) (of-true e) m) }
 turn-kept {t} {h} {v} {w} inv (coordinates {row} i o up k e d) =
-    after-kept (carried-cohort (settle-cohort (row .phase)) d) (carried-voted (settle-voted (row .phase)) d) (after (coordinator-next t v w row inv o up i k e d))
+    after-kept (carried-cohort (settle-cohort (row .phase)) d) (carried-voted (settle-voted (row .phase)) d) (next-after (coordinator-next t v w row inv o up i k e d))
 turn-kept {t} {h} {v} inv (participates n i m up k own e d) = same-kept inv (row-kept t h v inv n i m up k own e d)
 turn-kept {t} {h} {v} inv (discards zero up o e) = after-kept refl (λ n u. u) (discard-next t v h inv o up e)
 turn-kept {t} {h} {v} inv (discards (suc n) up o e) = same-kept inv (discard-kept t h v inv n up e)

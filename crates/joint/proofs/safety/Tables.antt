@@ -110,8 +110,8 @@ abbrev pub blank : Status → Bool
 blank s = early s && not (has 5 (stableKinds s)) && not (isWorking s)
 
 -- the records are of outcome o; one in doubt has no unforced record of an outcome that it acknowledges; and where it still works, o is abort
-abbrev pub agrees : Presumption → Outcome → Status → Bool
-agrees c o s =
+abbrev pub conforms : Presumption → Outcome → Status → Bool
+conforms c o s =
     not (has (outcomeRecord (other o)) (stableKinds s))
     && not (has (outcomeRecord (other o)) (unforcedKinds s))
     && (not (doubtful s) || not (hasOutcome (unforcedKinds s)) || not (acks c o))
@@ -132,7 +132,7 @@ pub data Stage : Type 0 where
 abbrev pub fits : Presumption → Stage → Status → Bool → Bool
 fits c fresh s p = early s && not (has 5 (stableKinds s)) && not p
 fits c (asking w) s p = early s && (w || doubtful s)
-fits c (done o u) s p = agrees c o s && (not u || sameOutcome (silence c) o || quiet s p)
+fits c (done o u) s p = conforms c o s && (not u || sameOutcome (silence c) o || quiet s p)
 
 -- whether a message may have been sent
 abbrev pub may : Stage → Status → Bool → Message → Bool
@@ -191,10 +191,10 @@ passes c y n a (done o u) (asking w) = false
 passes c y n a (done o u) (done d v) = sameOutcome o d && (not v || u || sameOutcome (silence c) o || a)
 
 -- of these messages, an ack of what is decided
-abbrev pub acked : (Message → Bool) → Stage → Bool
-acked f fresh = false
-acked f (asking w) = false
-acked f (done o u) = f (ack o)
+abbrev pub ackSent : (Message → Bool) → Stage → Bool
+ackSent f fresh = false
+ackSent f (asking w) = false
+ackSent f (done o u) = f (ack o)
 
 -- what it may send the participant
 abbrev pub maySend : Presumption → Stage → Bool → Message → Bool

@@ -2,7 +2,7 @@
 use Prim.Native.Nat.{ℕ, suc, _<_}
 use mathlib.Core.Path.{_≡_, refl, sym, ap, _∙_, subst}
 use mathlib.Core.Logic.{_⊎_, ⊎-elim}
-use mathlib.Core.Bool.{Bool, true, false, not, true≢false}
+use mathlib.Core.Bool.{Bool, true, false, true≢false}
 use mathlib.Core.List.{List, [], _∷_, _++_, map, append-assoc, append-nil}
 use lib.Dec.{T}
 use native.Mathlib.Omega.{arith}
@@ -16,7 +16,7 @@ use Rattle.joint.proofs.Booleans.{or-left, or-right, or-either}
 use Rattle.joint.proofs.History.{by-events, after-snoc, history-snoc, passed, committed-snoc}
 use Rattle.joint.proofs.Lists.{any-middle}
 use Rattle.joint.proofs.EventMoments.{commit-stays}
-use Rattle.joint.proofs.view.View.{View, siteView, view}
+use Rattle.joint.proofs.view.View.{View, siteView, view, is-opened}
 use Rattle.joint.proofs.view.Acts.{holds-select}
 use Rattle.joint.proofs.view.Events.{event-turns}
 use Rattle.joint.proofs.safety.Tables.{has, Stage}
@@ -38,12 +38,7 @@ module _ (t : ℕ) where
   -- ---- one event more
 
   small : (es : List (List ℕ)) (h : Standing) → Inv t h (seenAfter es) → opened (after fresh es) t ≡ true → t < 8
-  unfolding view opened
-  small es h inv e = inv .mid .sound .number (is-false (empty (after fresh es .transaction t .cohort .members)) e)
-    where
-      is-false : (b : Bool) → not b ≡ true → b ≡ false
-      is-false true q = absurd (true≢false (sym q))
-      is-false false q = refl
+  small es h inv e = inv .mid .sound .number (is-opened t (history fresh es) (after fresh es) e)
 
   pub next-kept : (es : List (List ℕ)) (e : List ℕ) (h : Standing) → Inv t h (seenAfter es) → Kept t h (seenAfter es) (seenAfter (es ++ (e ∷ [])))
   next-kept es e h inv = rw (history-snoc, after-snoc) (turns-kept h inv (event-turns t (history fresh es) (after fresh es) e (small es h inv)))

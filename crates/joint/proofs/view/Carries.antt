@@ -80,6 +80,7 @@ module _ (t s : ℕ) where
 
 -- ---- a plan carried out
 
+-- in the view of t the plan p, carried out from r, is what view/Turn allows; after: what settles there
 pub record Shown (t : ℕ) (r : Run) (p : Plan) : Type 0 where
   pub after : View → View
   pub settles : (ms : List Moment) (x : Run) → view t ms (p .settle x) ≡ after (view t ms x)

@@ -1,4 +1,4 @@
--- Each event is a turn of the view of each transaction.
+-- What each event does to the view of each transaction is one of the turns of view/Turn, or nothing.
 use Prim.Native.Nat.{ℕ, zero, suc, _<_, _≤_}
 use mathlib.Core.Path.{_≡_, refl, sym, ap, _∙_}
 use mathlib.Core.Logic.{_≢_}
@@ -187,7 +187,7 @@ case-turns t ms r bytes small (cut {x} {p} n k a c b) =
     let h : Shown t r p = rw (a .planned) at (plan-shown t r (x .event) (parse-range bytes x (a .parsed)) small (a .passed)) in
     cut-turns bytes t ms r p h n k
 
--- a transaction that is opened is one of eight
+-- each event, of any bytes, if a transaction that is opened is one of eight
 pub event-turns : (t : ℕ) (ms : List Moment) (r : Run) (bytes : List ℕ) → (opened r t ≡ true → t < 8)
     → Turns t (view t ms r) (view t (ms ++ happened r bytes) (event r bytes .run))
 unfolding happened

@@ -30,7 +30,7 @@ module _ (t : ℕ) where
   absent-cons u ts n h = rw (ne-eqb u t n) h
 
   module _ (f : ℕ → Bool) where
-    -- what the list does not select is not in the selected one
+    -- what f does not select is not in the selected list
     pub select-absent : f t ≡ false → (ts : List ℕ) → absent t (select f ts) ≡ true
     unfolding select
     select-absent e [] = unfold absent in refl

@@ -95,7 +95,7 @@ module _ (t : ℕ) (r : Run) where
 -- ---- the turn
 
 module _ (t : ℕ) (r : Run) where
-  -- t is not opened: none of the rows is its
+  -- t is not opened: none of the rows is its own
   absent-shown : (s : ℕ) (ts : List ℕ) → opened r t ≡ false → absent t ts ≡ true → Shown t r (restartAll r s ts)
   absent-shown s ts e h =
       record {
@@ -108,7 +108,7 @@ module _ (t : ℕ) (r : Run) where
   unfolding view siteView
   held s ms = fun-ext (λ k. holds-select t k (r .site s .stable))
 
-  -- t is opened: one row is its
+  -- t is opened: one row is its own
   once-shown : (s : ℕ) (ts : List ℕ) → r .site s .up ≡ false → opened r t ≡ true → once t ts ≡ true → Shown t r (restartAll r s ts)
   unfolding restarting rowPlan viewStart view
   once-shown zero ts d e h =

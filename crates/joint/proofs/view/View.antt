@@ -24,7 +24,7 @@ pub record View : Type 0 where
   pub voted : ℕ → Bool
   pub entered : ℕ → Outcome → Bool
 
--- transaction t enters outcome o at site s
+-- outcome o of transaction t is entered at site s
 unfoldable pub isEntryAt : ℕ → ℕ → Outcome → Moment → Bool
 isEntryAt t s o m = eqb (m .site) s && isEntry t o m
 

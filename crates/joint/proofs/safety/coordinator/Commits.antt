@@ -1,6 +1,6 @@
 -- The coordinator's rows that begin, and that commit, effect by effect.
 use Prim.Native.Nat.{ℕ, suc}
-use mathlib.Core.Path.{_≡_, refl, sym, subst}
+use mathlib.Core.Path.{_≡_, refl, subst}
 use mathlib.Core.Bool.{Bool, true, false}
 use mathlib.Core.List.{List, [], _∷_, _++_, map, append-nil, map-append}
 use lib.Dec.{T}
@@ -18,6 +18,7 @@ use Rattle.joint.proofs.safety.coordinator.Shifts.{writes, begins, mark
 use Rattle.joint.proofs.safety.coordinator.Runs.{Addressee, Node, Runs, node-stay, append-run, force-run, enter-run, sends-run, each-in-turn, each-ordered}
 use Rattle.joint.proofs.safety.Outcomes.{refl-outcome}
 use Rattle.joint.proofs.Lists.{Each}
+use Rattle.codec.specs.laws.Tests.{of-true}
 
 -- ---- begin
 
@@ -45,7 +46,7 @@ module _ (t : ℕ) (h0 : Standing) where
     unfolding given viewPerform viewAt appended forced
     begin-if true e x =
         append-run t h0 (force ∷ map (send prepare) (inTurn (g .members))) (collecting (g .members) false) 1 (masksOf g) x
-        (writes v (subst T (sym e) tt)) refl
+        (writes v (of-true e)) refl
         (λ y.
         force-run t h0 (map (send prepare) (inTurn (g .members))) (collecting (g .members) false) y (begins begun true (x .mid .sound .byte)) (rw e refl)
         (λ z. asks (viewPerform 0 t force begun) (g .members) z))
@@ -78,7 +79,7 @@ module _ (t : ℕ) (h0 : Standing) where
   pub settle-node : (v : View) (b : Bool) (o : Outcome) (w : ℕ) (l : Log) → empty w ≡ b → Node t h0 v (decided o (waiting w) l)
       → Node t h0 v (settledAs b false o w l)
   settle-node v true o w l e x =
-      node-stay t h0 x (ends v o l false w (x .mid) (subst T (sym e) tt) (end-unwritten (writesInit (cohortOf v)) o l w (x .mid .sound .fit)) tt) refl
+      node-stay t h0 x (ends v o l false w (x .mid) (of-true e) (end-unwritten (writesInit (cohortOf v)) o l w (x .mid .sound .fit)) tt) refl
   settle-node v false o w l e x = x
 
 -- ---- commit

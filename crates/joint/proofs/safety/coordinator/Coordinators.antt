@@ -37,9 +37,9 @@ module _ (t : ℕ) (v w : View) (row : Row Coordinator) where
   abbrev start : {h : Standing} → Mid t h v → Node t h v h
   start mid = record { mid = mid; from = λ x f. f }
 
-  finish : {h : Standing} (r : Row Coordinator) → some r ≡ some row → (h′ : Standing) → Runs t h v (r .effects) h′ → r .phase ≡ coordinatorAt h′
+  row-done : {h : Standing} (r : Row Coordinator) → some r ≡ some row → (h′ : Standing) → Runs t h v (r .effects) h′ → r .phase ≡ coordinatorAt h′
       → T (between h′) → Done → Next t h w
-  finish {h} r e h′ x p b d =
+  row-done {h} r e h′ x p b d =
       row-next t h (r .effects) h′ (r .phase) x p b
       (subst (λ (y : Row Coordinator). Carried t 0 (y .effects) (viewSettle (withCoordinator (y .phase))) v w) (sym (Option·some-injective r row e)) d)
 
@@ -51,7 +51,7 @@ module _ (t : ℕ) (v w : View) (row : Row Coordinator) where
   begin-next : Mid t (initial false) v → Opened v → some (preparing g) ≡ some row → Done → Next t (initial false) w
   unfolding preparing
   begin-next mid o e d =
-      finish (preparing g) e (collecting (g .members) false) (begin-run t (initial false) v (start mid)) refl (subst (λ (b : Bool). T (not b)) (sym o) tt) d
+      row-done (preparing g) e (collecting (g .members) false) (begin-run t (initial false) v (start mid)) refl (of-false o) d
 
   initial-next : Mid t (initial false) v → Opened v → (i : Input) → coordinatorStep g i Coordinator.initial ≡ some row → Done → Next t (initial false) w
   unfolding coordinatorStep onBegin coordinatorTimer onYes onNo onAck
@@ -78,9 +78,9 @@ module _ (t : ℕ) (v w : View) (row : Row Coordinator) where
         last = empty (owing g commit)
 
         go : (b : Bool) → empty (without p c) ≡ b → some (voted g b (without p c)) ≡ some row → Next t (collecting c false) w
-        go false q e = finish (voted g false (without p c)) e (collecting (without p c) false) (unfold voted in counted) (unfold voted in refl) (of-false q) d
+        go false q e = row-done (voted g false (without p c)) e (collecting (without p c) false) (unfold voted in counted) (unfold voted in refl) (of-false q) d
         go true q e =
-            finish (voted g true (without p c)) e (settledAs last false commit (owing g commit) (commitLog (writesInit g)))
+            row-done (voted g true (without p c)) e (settledAs last false commit (owing g commit) (commitLog (writesInit g)))
             (unfold voted in commit-run t (collecting c false) v (without p c) (of-true q) last refl counted)
             (unfold voted committing in settled-phase last false commit (owing g commit) (commitLog (writesInit g)) refl)
             (settled-between last false commit (owing g commit) (commitLog (writesInit g)) refl) d
@@ -90,7 +90,7 @@ module _ (t : ℕ) (v w : View) (row : Row Coordinator) where
         → some (aborting g to) ≡ some row → Done → Next t (collecting c false) w
     unfolding aborting
     abort-next to part said e d =
-        finish (aborting g to) e (settledAs (empty (awaited g to)) (writesInit g) abort (awaited g to) (initLog (writesInit g)))
+        row-done (aborting g to) e (settledAs (empty (awaited g to)) (writesInit g) abort (awaited g to) (initLog (writesInit g)))
         (abort-run t (collecting c false) v to c part said (start mid))
         (settled-phase (empty (awaited g to)) (writesInit g) abort (awaited g to) (initLog (writesInit g)) refl)
         (settled-between (empty (awaited g to)) (writesInit g) abort (awaited g to) (initLog (writesInit g)) refl) d
@@ -146,10 +146,10 @@ module _ (t : ℕ) (v w : View) (row : Row Coordinator) where
     heard-next : (p : ℕ) → T (sentIn v p (ack o)) → (b : Bool) → empty (without p c) ≡ b → some (acked o b (without p c)) ≡ some row → Done → Next t here w
     unfolding acked
     heard-next p a false q e d =
-        finish (acked o false (without p c)) e (decided o (waiting (without p c)) l) (node-stay t here (start mid) (hears v o l p c mid a) refl) refl (subst (λ (b : Bool). T (not b)) (sym q) tt) d
+        row-done (acked o false (without p c)) e (decided o (waiting (without p c)) l) (node-stay t here (start mid) (hears v o l p c mid a) refl) refl (of-false q) d
     heard-next p a true q e d =
-        finish (acked o true (without p c)) e (decided o (resting true) l)
-        (end-run t here v o (without p c) l (subst T (sym q) tt) (init-written o refl) (acks-owed o refl) (node-stay t here (start mid) (hears v o l p c mid a) refl)) refl tt d
+        row-done (acked o true (without p c)) e (decided o (resting true) l)
+        (end-run t here v o (without p c) l (of-true q) (init-written o refl) (acks-owed o refl) (node-stay t here (start mid) (hears v o l p c mid a) refl)) refl tt d
 
     acked-next : (a : Outcome) (p : ℕ) → T (sentIn v p (ack a)) → (b : Bool) → sameOutcome a o ≡ b → ackedIf b o (without p c) ≡ some row → Done
         → Next t here w
@@ -163,13 +163,13 @@ module _ (t : ℕ) (v w : View) (row : Row Coordinator) where
     unfolding telling
     tell-next zero m e d = absurd (no-zero (g .members) m)
     tell-next (suc n) m e d =
-        finish (telling o (suc n) (Coordinator.awaitingAcks o c)) e here (tell-run t here v o (waiting c) l (Coordinator.awaitingAcks o c) n m (start mid)) refl some-left d
+        row-done (telling o (suc n) (Coordinator.awaitingAcks o c)) e here (tell-run t here v o (waiting c) l (Coordinator.awaitingAcks o c) n m (start mid)) refl some-left d
 
     waiting-next : (i : Input) → Given v i → coordinatorStep g i (Coordinator.awaitingAcks o c) ≡ some row → Done → Next t here w
     unfolding coordinatorStep onBegin coordinatorTimer onYes onNo onAck
     waiting-next begin k e d = no-row e
     waiting-next timer k e d =
-        finish (record { effects = tellAll g o c; phase = Coordinator.awaitingAcks o c }) e here
+        row-done (record { effects = tellAll g o c; phase = Coordinator.awaitingAcks o c }) e here
         (tell-all-run t here v o (waiting c) l c waits-part (start mid)) refl some-left d
     waiting-next (received prepare p) k e d = no-row e
     waiting-next (received voteYes p) k e d = tell-next p (k .0) e d
@@ -185,7 +185,7 @@ module _ (t : ℕ) (v w : View) (row : Row Coordinator) where
     unfolding telling
     reply-next zero m y e d = absurd (no-zero (g .members) m)
     reply-next (suc n) m y e d =
-        finish (telling (silence (presumptionOf g (suc n))) (suc n) Coordinator.unknown) e (decided o (resting b) l) (reply-run t (decided o (resting b) l) v o b l Coordinator.unknown n m y (start mid)) refl tt d
+        row-done (telling (silence (presumptionOf g (suc n))) (suc n) Coordinator.unknown) e (decided o (resting b) l) (reply-run t (decided o (resting b) l) v o b l Coordinator.unknown n m y (start mid)) refl tt d
 
     unknown-next : (i : Input) → Given v i → coordinatorStep g i Coordinator.unknown ≡ some row → Done → Next t (decided o (resting b) l) w
     unfolding coordinatorStep onBegin coordinatorTimer onYes onNo onAck

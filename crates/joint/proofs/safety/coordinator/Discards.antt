@@ -36,8 +36,8 @@ pub record After (t : ℕ) (h : Standing) (w : View) : Type 0 where
   pub inv : Inv t standing w
   pub from : From (writesInit (cohortOf w)) h standing
 
-pub after : {t : ℕ} {h : Standing} {w : View} → Next t h w → After t h w
-after {h} x = record { standing = x .standing; inv = x .inv; from = x .from h (from-self _ h) }
+pub next-after : {t : ℕ} {h : Standing} {w : View} → Next t h w → After t h w
+next-after {h} x = record { standing = x .standing; inv = x .inv; from = x .from h (from-self _ h) }
 
 -- ---- a standing that stays
 
@@ -129,7 +129,7 @@ module _ (t : ℕ) (v : View) where
         passing = λ n m. way-done v n o true;
       }
 
-  -- a commit whose acks are were-awaited, or were
+  -- a commit whose acks are awaited, or were
   are-awaited : (x : Outcome) (w : ℕ) (l : Log) → Mid t (decided x (waiting w) l) v → T (not (empty w)) → T (has 2 (kindsIn l)) → T (awaitsCommit (cohortOf v))
   are-awaited x w l mid left r =
       let is = same-outcome x commit (commit-record (writesInit (cohortOf v)) x l r (waiting-down (writesInit (cohortOf v)) x l w (mid .sound .fit))) in

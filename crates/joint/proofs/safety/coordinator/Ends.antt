@@ -1,6 +1,6 @@
 -- The coordinator's rows that abort, that end an outcome, and that tell it again, effect by effect.
 use Prim.Native.Nat.{ℕ, suc}
-use mathlib.Core.Path.{_≡_, refl, sym, ap, subst}
+use mathlib.Core.Path.{_≡_, refl, ap, subst}
 use mathlib.Core.Bool.{Bool, true, false, not, _&&_, _||_}
 use mathlib.Core.List.{List, [], _∷_, append-nil}
 use lib.Dec.{T}
@@ -18,6 +18,7 @@ use Rattle.joint.proofs.safety.coordinator.Runs.{Node, Runs, node-stay,
 use Rattle.joint.proofs.safety.coordinator.Commits.{told, settle-node, enter-tell}
 use Rattle.joint.proofs.safety.coordinator.Shifts.{awaited, aborts, ends, settledAs}
 use Rattle.joint.proofs.safety.Outcomes.{refl-outcome}
+use Rattle.codec.specs.laws.Tests.{of-true}
 
 -- ---- an end record
 
@@ -38,12 +39,12 @@ module _ (t : ℕ) (h0 : Standing) where
   -- ---- abort, told to the set `to`
 
   -- b: nobody is waited for; i: record 1 was written
-  last : (v : View) (b i : Bool) (w : ℕ) (l : Log) → empty w ≡ b → writesInit (cohortOf v) ≡ i → Node t h0 v (decided abort (waiting w) l)
+  abort-end : (v : View) (b i : Bool) (w : ℕ) (l : Log) → empty w ≡ b → writesInit (cohortOf v) ≡ i → Node t h0 v (decided abort (waiting w) l)
       → Runs t h0 v (given (b && i) (append 4 [] ∷ [])) (settledAs b i abort w l)
   unfolding given endRecord
-  last v true true w l e q x = end-run v abort w l (subst T (sym e) tt) (or-left (writesInit (cohortOf v)) _ (subst T (sym q) tt)) tt x
-  last v true false w l e q x = settle-node t h0 v true abort w l e x
-  last v false i w l e q x = x
+  abort-end v true true w l e q x = end-run v abort w l (of-true e) (or-left (writesInit (cohortOf v)) _ (of-true q)) tt x
+  abort-end v true false w l e q x = settle-node t h0 v true abort w l e x
+  abort-end v false i w l e q x = x
 
   -- a member that is left out has said No
   pub abort-run : (v : View) (to w : ℕ) → ((q : ℕ) → T (member q to) → T (member q (cohortOf v .members)))
@@ -56,7 +57,7 @@ module _ (t : ℕ) (h0 : Standing) where
       enter-tell t h0 {v = v} abort (waiting (awaited (cohortOf v) to)) (initLog (writesInit (cohortOf v))) to part _ _
       (node-stay t h0 x (aborts v to w (x .mid) said) refl)
       (λ u f n.
-      last u (empty (awaited (cohortOf v) to)) (writesInit (cohortOf v)) (awaited (cohortOf v) to) (initLog (writesInit (cohortOf v))) refl (ap writesInit f) n)
+      abort-end u (empty (awaited (cohortOf v) to)) (writesInit (cohortOf v)) (awaited (cohortOf v) to) (initLog (writesInit (cohortOf v))) refl (ap writesInit f) n)
 
   -- ---- the outcome is told again
 

@@ -7,7 +7,7 @@ use Rattle.site.specs.Presumption.{Outcome, sameOutcome, Presumption, acks, sil
 use Rattle.site.specs.Step.{Message, prepare, voteYes, voteNo, ack, messageKind}
 use Rattle.site.specs.Participant.{outcomeRecord}
 use Rattle.joint.proofs.Booleans.{_⇒_, mp, to-⇒, or-right, or-either, or-map, or-not}
-use Rattle.joint.proofs.safety.Tables.{Status, has, Stage, fresh, asking, done, fits, may, mayEnter, needsYes, Fine, passes, acked, maySend}
+use Rattle.joint.proofs.safety.Tables.{Status, has, Stage, fresh, asking, done, fits, may, mayEnter, needsYes, Fine, passes, ackSent, maySend}
 use Rattle.joint.proofs.safety.Finite.{allBool, at-bool, allOutcome, at-outcome, allPresumption, at-presumption, allStatus, at-status, allStage, at-stage, allMessage, at-message}
 
 -- ---- a change of stage
@@ -19,7 +19,7 @@ keepsAll c m m′ s p =
 
 abbrev passKeeps : Presumption → Bool → Bool → Bool → Stage → Stage → Status → Bool → Bool
 passKeeps c y n a m m′ s p =
-    fits c m s p ⇒ (y ⇒ may m s p voteYes) ⇒ (n ⇒ may m s p voteNo) ⇒ (a ⇒ acked (may m s p) m) ⇒ keepsAll c m m′ s p
+    fits c m s p ⇒ (y ⇒ may m s p voteYes) ⇒ (n ⇒ may m s p voteNo) ⇒ (a ⇒ ackSent (may m s p) m) ⇒ keepsAll c m m′ s p
 
 abbrev passTest : Presumption → Stage → Stage → Bool → Bool → Bool → Bool
 passTest c m m′ y n a =
@@ -38,13 +38,13 @@ pass-test c m m′ y n a =
     (at-stage (λ m. allStage (λ m′. allBool (λ y. allBool (λ n. allBool (passTest c m m′ y n)))))
     (at-presumption (λ c. allStage (λ m. allStage (λ m′. allBool (λ y. allBool (λ n. allBool (passTest c m m′ y n)))))) pass-tests c) m) m′) y) n) a
 
-ack-may : (m : Stage) (f g : Message → Bool) → ((k : Message) → T (f k) → T (g k)) → T (acked f m) → T (acked g m)
+ack-may : (m : Stage) (f g : Message → Bool) → ((k : Message) → T (f k) → T (g k)) → T (ackSent f m) → T (ackSent g m)
 ack-may fresh f g h t = t
 ack-may (asking w) f g h t = t
 ack-may (done o u) f g h t = h (ack o) t
 
 module _ {c : Presumption} {m : Stage} {s : Status} {sent : Message → Bool} {entered : Outcome → Bool} {voted : Bool} (ok : Fine c m s sent entered voted) where
-  pub pass-fine : (m′ : Stage) → T (passes c (sent voteYes) (sent voteNo) (acked sent m) m m′) → Fine c m′ s sent entered voted
+  pub pass-fine : (m′ : Stage) → T (passes c (sent voteYes) (sent voteNo) (ackSent sent m) m m′) → Fine c m′ s sent entered voted
   pass-fine m′ t =
       record {
         shape = and-left (fits c m′ s p) _ kept;
@@ -64,7 +64,7 @@ module _ {c : Presumption} {m : Stage} {s : Status} {sent : Message → Bool} {e
       n = sent voteNo
 
       a : Bool
-      a = acked sent m
+      a = ackSent sent m
 
       test : T ((needsYes m′ ⇒ (needsYes m || y)) && allStatus (λ s. allBool (passKeeps c y n a m m′ s)))
       test = mp (passes c y n a m m′) _ (pass-test c m m′ y n a) t
@@ -76,7 +76,7 @@ module _ {c : Presumption} {m : Stage} {s : Status} {sent : Message → Bool} {e
 
       kept : T (keepsAll c m m′ s p)
       kept =
-          mp (a ⇒ acked (may m s p) m) _
+          mp (a ⇒ ackSent (may m s p) m) _
           (mp (n ⇒ may m s p voteNo) _ (mp (y ⇒ may m s p voteYes) _ (mp (fits c m s p) _ here (ok .shape)) (to-⇒ y _ (ok .messages voteYes))) (to-⇒ n _ (ok .messages voteNo)))
           (to-⇒ a _ (ack-may m sent (may m s p) (ok .messages)))
 

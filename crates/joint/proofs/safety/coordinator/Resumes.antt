@@ -22,7 +22,7 @@ use Rattle.joint.proofs.safety.coordinator.Steps.{Shift, shift-keeps, s
 use Rattle.joint.proofs.safety.coordinator.Crashes.{Next}
 use Rattle.joint.proofs.safety.coordinator.Runs.{Node, Runs, enter-run, runs-at, runs-end, cut-next}
 use Rattle.joint.proofs.safety.coordinator.Commits.{enter-tell}
-use Rattle.joint.proofs.safety.coordinator.Discards.{After, after}
+use Rattle.joint.proofs.safety.coordinator.Discards.{After, next-after}
 use Rattle.joint.proofs.safety.coordinator.Ways.{way-done, way-resume}
 use Rattle.joint.proofs.safety.coordinator.Shifts.{resumes, forgets, settledAs, settled-phase, settled-between}
 use Rattle.joint.proofs.safety.Outcomes.{refl-outcome}
@@ -136,4 +136,4 @@ module _ (t : ℕ) (v w : View) where
   resume-after (decided x (waiting c) l) inv o up e d = absurd (true≢false (sym (ap (λ (s : Site). s .up) (inv .mid .log)) ∙ up))
   resume-after (decided x (resting b) l) inv o up e d = absurd (true≢false (sym (ap (λ (s : Site). s .up) (inv .mid .log)) ∙ up))
   resume-after (decided x down l) inv o up e d =
-      after (restart-next x l (inv .mid) (resumed (classOf l)) refl (subst Woken (sym e ∙ restart-row x l (inv .mid)) d))
+      next-after (restart-next x l (inv .mid) (resumed (classOf l)) refl (subst Woken (sym e ∙ restart-row x l (inv .mid)) d))

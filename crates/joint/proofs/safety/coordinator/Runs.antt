@@ -25,8 +25,8 @@ use Rattle.joint.proofs.Lists.{Each, each-append, each-chosen, each-kep
 
 -- a member that may be sent a message
 abbrev pub Addressee : Cohort → Standing → Message → ℕ → Type 0
-Addressee c h g zero = ⊥
-Addressee c h g (suc n) = T (member (suc n) (c .members)) × T (maySend (presumptionOf c (suc n)) (stageOf h (suc n)) false g)
+Addressee g h m zero = ⊥
+Addressee g h m (suc n) = T (member (suc n) (g .members)) × T (maySend (presumptionOf g (suc n)) (stageOf h (suc n)) false m)
 
 -- ---- runs
 

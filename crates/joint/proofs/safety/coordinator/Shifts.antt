@@ -11,7 +11,7 @@ use Rattle.site.specs.Presumption.{Outcome, commit, abort, sameOutcome}
 use Rattle.site.specs.Cohort.{Cohort, owing}
 use Rattle.site.specs.Step.{voteYes, voteNo, ack}
 use Rattle.site.specs.Coordinator.{untilAcked}
-use Rattle.joint.proofs.Booleans.{and-both, not-true, is-false}
+use Rattle.joint.proofs.Booleans.{and-both, not-true, is-false, of-false}
 use Rattle.joint.proofs.view.View.{View}
 use Rattle.joint.proofs.safety.Tables.{Stage, asking}
 use Rattle.joint.proofs.safety.Sets.{of-those, member-those, member-owing, empty-none, no-zero, without-part}
@@ -222,4 +222,4 @@ settled-phase false r o w l e = rw e refl
 
 pub settled-between : (b r : Bool) (o : Outcome) (w : ℕ) (l : Log) → empty w ≡ b → T (between (settledAs b r o w l))
 settled-between true r o w l e = tt
-settled-between false r o w l e = subst (λ (c : Bool). T (not c)) (sym e) tt
+settled-between false r o w l e = of-false e

@@ -15,7 +15,7 @@ use Rattle.joint.specs.State.{Site, update, withCoordinator, withSent}
 use Rattle.joint.proofs.Booleans.{or-left, or-either, both-ways}
 use Rattle.joint.proofs.Updates.{update-other}
 use Rattle.joint.proofs.view.View.{View, viewAt, viewSettle, viewPerform}
-use Rattle.joint.proofs.safety.Tables.{Status, has, Stage, Fine, passes, acked, maySend}
+use Rattle.joint.proofs.safety.Tables.{Status, has, Stage, Fine, passes, ackSent, maySend}
 use Rattle.joint.proofs.safety.coordinator.Passes.{pass-fine, send-fine}
 use Rattle.joint.proofs.safety.Invariant.{Standing, never, stageOf, hasDecided, standingFits, properLog, awaitsCommit, SetsFit, writesInit, standingUp, stableAt, unforcedAt, isNever, siteWith, sentIn, Member, Stranger, Place, Sound, Mid, cohortOf}
 use Rattle.joint.proofs.safety.Outcomes.{same-outcome}
@@ -23,8 +23,9 @@ use Rattle.joint.proofs.safety.Sets.{belongs}
 
 -- ---- what changes of the standing are allowed
 
+-- member suc n allows the change of stage, by what it has sent
 abbrev pub PassesAt : View → Stage → Stage → ℕ → Type 0
-PassesAt v m m′ n = T (passes (presumptionOf (cohortOf v) (suc n)) (sentIn v (suc n) voteYes) (sentIn v (suc n) voteNo) (acked (sentIn v (suc n)) m) m m′)
+PassesAt v m m′ n = T (passes (presumptionOf (cohortOf v) (suc n)) (sentIn v (suc n) voteYes) (sentIn v (suc n) voteNo) (ackSent (sentIn v (suc n)) m) m m′)
 
 -- from the standing h0 to h: what is decided stays decided, and a commit that is new has its record 2 stable
 pub record From (i : Bool) (h0 h : Standing) : Type 0 where
@@ -50,6 +51,7 @@ Keeps h h′ = (o : Outcome) → T (hasDecided h o) → T (hasDecided h′ o)
 pub shift-keeps : {v : View} {h h′ : Standing} → Shift v h h′ → Keeps h h′
 shift-keeps {h} x = x .from h (record { keeps = λ o k. k; new = inl }) .keeps
 
+-- the coordinator's site as its standing says
 abbrev pub standsAs : ℕ → View → Standing → Site
 standsAs t v h = siteWith (cohortOf v) t 0 (standingUp h) (stableAt (writesInit (cohortOf v)) h) (unforcedAt h)
 

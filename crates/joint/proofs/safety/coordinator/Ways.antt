@@ -17,9 +17,9 @@ use Rattle.joint.proofs.safety.coordinator.Steps.{PassesAt}
 use Rattle.joint.proofs.safety.Outcomes.{refl-outcome, owes}
 
 -- record 1 is written where silence means commit to someone
-pub begun : (g : Cohort) (p : ℕ) → T (sameOutcome (silence (presumptionOf g p)) abort || writesInit g)
+pub init-or-silent : (g : Cohort) (p : ℕ) → T (sameOutcome (silence (presumptionOf g p)) abort || writesInit g)
 unfolding presumptionOf silence sameOutcome
-begun g p = go (member p (g .presumeCommit)) refl (empty (g .presumeCommit)) refl
+init-or-silent g p = go (member p (g .presumeCommit)) refl (empty (g .presumeCommit)) refl
   where
     go : (b : Bool) → member p (g .presumeCommit) ≡ b → (c : Bool) → empty (g .presumeCommit) ≡ c
         → T (sameOutcome (silence (cond b presumedCommit presumedAbort)) abort || not c)
@@ -49,9 +49,9 @@ module _ (v : View) (n : ℕ) where
   way-commit false true k f = tt
   way-commit false false k f = or-first (sameOutcome (silence own) commit) (acks own commit) (owes own commit) f
 
-  -- abort: the member is told and owes an ack (u), or silence means abort, or it has voted No; t: it is told
-  pub way-abort : (w t u : Bool) → (T t → T (acks own abort) → T u) → (T (not t) → T (sentIn v (suc n) voteNo)) → Way (asking w) (done abort (not u))
-  way-abort w t true f g = tt
+  -- abort: the member is heardOrDone and owes an ack (u), or silence means abort, or it has voted No; b: it is heardOrDone
+  pub way-abort : (w b u : Bool) → (T b → T (acks own abort) → T u) → (T (not b) → T (sentIn v (suc n) voteNo)) → Way (asking w) (done abort (not u))
+  way-abort w b true f g = tt
   way-abort w true false f g =
       or-left (sameOutcome (silence own) abort) (sentIn v (suc n) voteNo) (or-first (sameOutcome (silence own) abort) (acks own abort) (owes own abort) (f tt))
   way-abort w false false f g = or-right (sameOutcome (silence own) abort) (sentIn v (suc n) voteNo) (g tt)
@@ -61,16 +61,16 @@ module _ (v : View) (n : ℕ) where
   way-lost w true f = tt
   way-lost w false f =
       or-left (sameOutcome (silence own) abort) (sentIn v (suc n) voteNo)
-      (or-first (sameOutcome (silence own) abort) (writesInit (cohortOf v)) (begun (cohortOf v) (suc n)) f)
+      (or-first (sameOutcome (silence own) abort) (writesInit (cohortOf v)) (init-or-silent (cohortOf v) (suc n)) f)
 
   -- ---- once it has decided o
 
   module _ (o : Outcome) where
-    abbrev told : Bool → Bool → Bool
-    told u u′ = not u′ || u || sameOutcome (silence own) o || sentIn v (suc n) (ack o)
+    abbrev heardOrDone : Bool → Bool → Bool
+    heardOrDone u u′ = not u′ || u || sameOutcome (silence own) o || sentIn v (suc n) (ack o)
 
-    stays : (u u′ : Bool) → T (told u u′) → Way (done o u) (done o u′)
-    stays u u′ = and-both (sameOutcome o o) (told u u′) (refl-outcome o)
+    stays : (u u′ : Bool) → T (heardOrDone u u′) → Way (done o u) (done o u′)
+    stays u u′ = and-both (sameOutcome o o) (heardOrDone u u′) (refl-outcome o)
 
     -- it was done with the member before
     pub way-done : (u : Bool) → Way (done o true) (done o u)
@@ -110,4 +110,4 @@ module _ (v : View) (n : ℕ) where
   way-down commit u false f = absurd (unfold sameOutcome in f tt)
   way-down abort u false f =
       way-silent abort u true
-      (or-first (sameOutcome (silence own) abort) (writesInit (cohortOf v)) (begun (cohortOf v) (suc n)) (λ k. both-ways (writesInit (cohortOf v)) k (unfold sameOutcome in f tt)))
+      (or-first (sameOutcome (silence own) abort) (writesInit (cohortOf v)) (init-or-silent (cohortOf v) (suc n)) (λ k. both-ways (writesInit (cohortOf v)) k (unfold sameOutcome in f tt)))
