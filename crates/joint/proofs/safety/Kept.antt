@@ -19,8 +19,8 @@ use Rattle.joint.proofs.view.View.{View, viewAt, viewSettle, viewPerfor
 use Rattle.joint.proofs.view.Turn.{Carried, whole, cutAfter, viewStart, viewDiscard, viewForget, Turn, crashes, opens, coordinates, participates, discards, starts, resumes, returns, Turns, still, turn, forces}
 use Rattle.joint.proofs.safety.Sets.{empty-none}
 use Rattle.joint.proofs.safety.Invariant.{Standing, never, initial, collecting, decided, stageOf, hasDecided, writesInit, Member, Place, Mid, Inv, cohortOf}
-use Rattle.joint.proofs.safety.coordinator.Steps.{From, own-number}
-use Rattle.joint.proofs.safety.coordinator.Crashes.{from-self, crash-next}
+use Rattle.joint.proofs.safety.coordinator.Steps.{From, own-number, from-self}
+use Rattle.joint.proofs.safety.coordinator.Crashes.{crash-next}
 use Rattle.joint.proofs.safety.participant.Participants.{force-kept, crash-kept, start-kept, row-kept, discard-kept, return-kept}
 use Rattle.joint.proofs.safety.coordinator.Coordinators.{coordinator-next}
 use Rattle.joint.proofs.safety.coordinator.Discards.{After, next-after, force-next, discard-next}

@@ -79,6 +79,14 @@ no-zero w t = subst T (ap (λ (k : ℕ). eqb k 1) even) t
     even : 2 * w / 2 ^ 0 % 2 ≡ 0
     even = omega arith
 
+pub member-without : (p w n m : ℕ) → m < 256 → T (member (suc n) m) → member (suc n) (without p w) ≡ (member (suc n) w && not (eqb (suc n) p))
+unfolding without
+member-without p w n m h t = member-those (λ q. member q w && not (eqb q p)) n m h t
+
+pub without-byte : (p w : ℕ) → without p w < 256
+unfolding without
+without-byte p w = those-below (λ q. member q w && not (eqb q p))
+
 -- w without p is a part of what w is a part of
 pub without-part : (p w m : ℕ) → ((q : ℕ) → T (member q w) → T (member q m)) → (q : ℕ) → T (member q (without p w)) → T (member q m)
 unfolding without

@@ -15,11 +15,11 @@ use Rattle.joint.specs.State.{Site, withCoordinator}
 use Rattle.joint.proofs.Booleans.{or-left, or-right, both-ways, of-false}
 use Rattle.joint.proofs.view.View.{View, viewSettle}
 use Rattle.joint.proofs.view.Turn.{Carried, Given, Up, Opened}
-use Rattle.joint.proofs.safety.Sets.{member-those, owing-member, no-zero, not-empty, owes-abort, without-part}
+use Rattle.joint.proofs.safety.Sets.{owing-member, no-zero, not-empty, owes-abort, without-part, member-without}
 use Rattle.joint.proofs.safety.Invariant.{Log, waiting, resting, down, Standing, never, initial, collecting, decided, SetsFit, writesInit, initLog, coordinatorAt, between, sentIn, Mid, Inv, cohortOf}
 use Rattle.joint.proofs.safety.coordinator.Logs.{commitLog}
 use Rattle.joint.proofs.safety.coordinator.Crashes.{Next}
-use Rattle.joint.proofs.safety.coordinator.Runs.{Node, Runs, node-stay, row-next}
+use Rattle.joint.proofs.safety.coordinator.Runs.{Node, Runs, node-stay, row-next, node-start}
 use Rattle.joint.proofs.safety.coordinator.Commits.{begin-run, commit-run}
 use Rattle.joint.proofs.safety.coordinator.Ends.{abort-run, end-run, tell-run, tell-all-run, reply-run}
 use Rattle.joint.proofs.safety.coordinator.Shifts.{awaited, counts, hears, settledAs, settled-phase, settled-between}
@@ -33,9 +33,6 @@ no-row {row} e = absurd (Option·none-ne-some row e)
 module _ (t : ℕ) (v w : View) (row : Row Coordinator) where
   abbrev Done : Type 0
   Done = Carried t 0 (row .effects) (viewSettle (withCoordinator (row .phase))) v w
-
-  abbrev start : {h : Standing} → Mid t h v → Node t h v h
-  start mid = record { mid = mid; from = λ x f. f }
 
   row-done : {h : Standing} (r : Row Coordinator) → some r ≡ some row → (h′ : Standing) → Runs t h v (r .effects) h′ → r .phase ≡ coordinatorAt h′
       → T (between h′) → Done → Next t h w
@@ -51,7 +48,7 @@ module _ (t : ℕ) (v w : View) (row : Row Coordinator) where
   begin-next : Mid t (initial false) v → Opened v → some (preparing g) ≡ some row → Done → Next t (initial false) w
   unfolding preparing
   begin-next mid o e d =
-      row-done (preparing g) e (collecting (g .members) false) (begin-run t (initial false) v (start mid)) refl (of-false o) d
+      row-done (preparing g) e (collecting (g .members) false) (begin-run t (initial false) v (node-start mid)) refl (of-false o) d
 
   initial-next : Mid t (initial false) v → Opened v → (i : Input) → coordinatorStep g i Coordinator.initial ≡ some row → Done → Next t (initial false) w
   unfolding coordinatorStep onBegin coordinatorTimer onYes onNo onAck
@@ -72,7 +69,7 @@ module _ (t : ℕ) (v w : View) (row : Row Coordinator) where
     voted-next p y b q e d = go b q e
       where
         counted : Node t (collecting c false) v (collecting (without p c) false)
-        counted = node-stay t (collecting c false) (start mid) (counts v p c mid y) refl
+        counted = node-stay t (collecting c false) (node-start mid) (counts v p c mid y) refl
 
         last : Bool
         last = empty (owing g commit)
@@ -91,7 +88,7 @@ module _ (t : ℕ) (v w : View) (row : Row Coordinator) where
     unfolding aborting
     abort-next to part said e d =
         row-done (aborting g to) e (settledAs (empty (awaited g to)) (writesInit g) abort (awaited g to) (initLog (writesInit g)))
-        (abort-run t (collecting c false) v to c part said (start mid))
+        (abort-run t (collecting c false) v to c part said (node-start mid))
         (settled-phase (empty (awaited g to)) (writesInit g) abort (awaited g to) (initLog (writesInit g)) refl)
         (settled-between (empty (awaited g to)) (writesInit g) abort (awaited g to) (initLog (writesInit g)) refl) d
 
@@ -100,7 +97,7 @@ module _ (t : ℕ) (v w : View) (row : Row Coordinator) where
     unfolding without
     no-next p n e d =
         abort-next (without p (g .members)) (without-part p (g .members) (g .members) (λ q k. k))
-        (λ k m u. subst (λ (q : ℕ). T (sentIn v q voteNo)) (sym (eqb-true (suc k) p (left-out (eqb (suc k) p) (subst (λ (b : Bool). T (not b)) (member-those (λ q. member q (g .members) && not (eqb q p)) k (g .members) (mid .sound .byte) m ∙ ap (λ (b : Bool). b && not (eqb (suc k) p)) (true-of (member (suc k) (g .members)) m)) u)))) n) e d
+        (λ k m u. subst (λ (q : ℕ). T (sentIn v q voteNo)) (sym (eqb-true (suc k) p (left-out (eqb (suc k) p) (subst (λ (b : Bool). T (not b)) (member-without p (g .members) k (g .members) (mid .sound .byte) m ∙ ap (λ (b : Bool). b && not (eqb (suc k) p)) (true-of (member (suc k) (g .members)) m)) u)))) n) e d
       where
         left-out : (b : Bool) → T (not (true && not b)) → b ≡ true
         left-out true k = refl
@@ -146,10 +143,10 @@ module _ (t : ℕ) (v w : View) (row : Row Coordinator) where
     heard-next : (p : ℕ) → T (sentIn v p (ack o)) → (b : Bool) → empty (without p c) ≡ b → some (acked o b (without p c)) ≡ some row → Done → Next t here w
     unfolding acked
     heard-next p a false q e d =
-        row-done (acked o false (without p c)) e (decided o (waiting (without p c)) l) (node-stay t here (start mid) (hears v o l p c mid a) refl) refl (of-false q) d
+        row-done (acked o false (without p c)) e (decided o (waiting (without p c)) l) (node-stay t here (node-start mid) (hears v o l p c mid a) refl) refl (of-false q) d
     heard-next p a true q e d =
         row-done (acked o true (without p c)) e (decided o (resting true) l)
-        (end-run t here v o (without p c) l (of-true q) (init-written o refl) (acks-owed o refl) (node-stay t here (start mid) (hears v o l p c mid a) refl)) refl tt d
+        (end-run t here v o (without p c) l (of-true q) (init-written o refl) (acks-owed o refl) (node-stay t here (node-start mid) (hears v o l p c mid a) refl)) refl tt d
 
     acked-next : (a : Outcome) (p : ℕ) → T (sentIn v p (ack a)) → (b : Bool) → sameOutcome a o ≡ b → ackedIf b o (without p c) ≡ some row → Done
         → Next t here w
@@ -163,14 +160,14 @@ module _ (t : ℕ) (v w : View) (row : Row Coordinator) where
     unfolding telling
     tell-next zero m e d = absurd (no-zero (g .members) m)
     tell-next (suc n) m e d =
-        row-done (telling o (suc n) (Coordinator.awaitingAcks o c)) e here (tell-run t here v o (waiting c) l (Coordinator.awaitingAcks o c) n m (start mid)) refl some-left d
+        row-done (telling o (suc n) (Coordinator.awaitingAcks o c)) e here (tell-run t here v o (waiting c) l (Coordinator.awaitingAcks o c) n m (node-start mid)) refl some-left d
 
     waiting-next : (i : Input) → Given v i → coordinatorStep g i (Coordinator.awaitingAcks o c) ≡ some row → Done → Next t here w
     unfolding coordinatorStep onBegin coordinatorTimer onYes onNo onAck
     waiting-next begin k e d = no-row e
     waiting-next timer k e d =
         row-done (record { effects = tellAll g o c; phase = Coordinator.awaitingAcks o c }) e here
-        (tell-all-run t here v o (waiting c) l c waits-part (start mid)) refl some-left d
+        (tell-all-run t here v o (waiting c) l c waits-part (node-start mid)) refl some-left d
     waiting-next (received prepare p) k e d = no-row e
     waiting-next (received voteYes p) k e d = tell-next p (k .0) e d
     waiting-next (received voteNo p) k e d = no-row e
@@ -185,7 +182,7 @@ module _ (t : ℕ) (v w : View) (row : Row Coordinator) where
     unfolding telling
     reply-next zero m y e d = absurd (no-zero (g .members) m)
     reply-next (suc n) m y e d =
-        row-done (telling (silence (presumptionOf g (suc n))) (suc n) Coordinator.unknown) e (decided o (resting b) l) (reply-run t (decided o (resting b) l) v o b l Coordinator.unknown n m y (start mid)) refl tt d
+        row-done (telling (silence (presumptionOf g (suc n))) (suc n) Coordinator.unknown) e (decided o (resting b) l) (reply-run t (decided o (resting b) l) v o b l Coordinator.unknown n m y (node-start mid)) refl tt d
 
     unknown-next : (i : Input) → Given v i → coordinatorStep g i Coordinator.unknown ≡ some row → Done → Next t (decided o (resting b) l) w
     unfolding coordinatorStep onBegin coordinatorTimer onYes onNo onAck

@@ -1,7 +1,6 @@
 -- The coordinator loses power: from each standing, in the middle of a row too, with each keep.
 use Prim.Native.Nat.{ℕ, zero, suc}
 use mathlib.Core.Path.{_≡_, refl}
-use mathlib.Core.Logic.{_⊎_, inl, inr, ⊎-elim}
 use mathlib.Core.Bool.{Bool, true, false, not, _&&_}
 use mathlib.Core.List.{List, [], _∷_, _++_, append-nil, map-append}
 use lib.Dec.{T}
@@ -13,9 +12,9 @@ use Rattle.joint.specs.State.{stopped, withCoordinator, forgotten}
 use Rattle.joint.proofs.Booleans.{not-true, mp}
 use Rattle.joint.proofs.view.View.{View, viewAt, viewSettle, viewDown}
 use Rattle.joint.proofs.safety.Tables.{has, done}
-use Rattle.joint.proofs.safety.Invariant.{Log, l0, l1, kindsIn, classOf, resumed, waiting, resting, down, Pace, Standing, never, initial, collecting, decided, hasDecided, logFits, properLog, awaitsCommit, SetsFit, writesInit, initLog, stableAt, coordinatorAt, between, siteWith, Mid, Inv, cohortOf}
+use Rattle.joint.proofs.safety.Invariant.{Log, l0, l1, kindsIn, classOf, resumed, waiting, resting, down, Standing, never, initial, collecting, decided, logFits, properLog, awaitsCommit, SetsFit, writesInit, initLog, coordinatorAt, between, siteWith, Mid, Inv, cohortOf}
 use Rattle.joint.proofs.safety.coordinator.Logs.{closed, commitLog, waiting-down, resting-down, closed-fits, closed-kinds, abort-unwritten, closed-has, closed-proper, may-close, abort-down, abort-resumed, commit-down, commit-resumed, commit-has, commit-kinds, initial-proper, commit-proper, none-proper, first-proper}
-use Rattle.joint.proofs.safety.coordinator.Steps.{From, Shift, shift-keeps, standsAs, stand, settle-mid}
+use Rattle.joint.proofs.safety.coordinator.Steps.{From, Shift, shift-keeps, standsAs, stand, settle-mid, from-same, from-none}
 use Rattle.joint.proofs.safety.coordinator.Ways.{way-commit, way-lost, way-done, way-self, way-down}
 use Rattle.codec.specs.laws.Tests.{of-true}
 use Rattle.joint.proofs.Lists.{take-none}
@@ -43,22 +42,6 @@ module _ (g : Cohort) (t : ℕ) (u : Bool) where
   stopped-kept : (k : ℕ) (ks ms : List ℕ) (j : ℕ) → ms ≡ ks ++ (j ∷ []) → stopped (suc k) (siteWith g t 0 u ks (j ∷ [])) ≡ siteWith g t 0 false ms []
   unfolding stopped
   stopped-kept k ks ms j e = rw (e, map-append, take-none k) refl
-
--- ---- the ways from standing to standing
-
-pub from-self : (i : Bool) (h : Standing) → From i h h
-from-self i h = record { keeps = λ o k. k; new = inl }
-
--- the outcome stays
-pub from-same : (i : Bool) (o : Outcome) (p q : Pace) (l l′ : Log) (h0 : Standing) → (T (has 2 (kindsIn l)) → T (has 2 (kindsIn l′)))
-    → From i h0 (decided o p l) → From i h0 (decided o q l′)
-from-same i o p q l l′ h0 grows f = record { keeps = f .keeps; new = λ c. ⊎-elim inl (λ k. inr (grows k)) (f .new c) }
-
--- nothing was decided
-pub from-none : {i : Bool} {h h′ : Standing} (h0 : Standing) → ((o : Outcome) → T (hasDecided h o) → ⊥)
-    → (T (hasDecided h′ commit) → T (has 2 (stableAt i h′)))
-    → From i h0 h → From i h0 h′
-from-none h0 none new f = record { keeps = λ o k. absurd (none o (f .keeps o k)); new = λ c. inr (new c) }
 
 module _ (t : ℕ) (v : View) where
   abbrev i : Bool

@@ -21,8 +21,8 @@ use Rattle.joint.proofs.safety.Tables.{has}
 use Rattle.joint.proofs.safety.Sets.{not-empty, owing-minus}
 use Rattle.joint.proofs.safety.Invariant.{Log, l0, l1, l12, l2, l123, l23, l3, l14, l4, kindsIn, classOf, waiting, resting, down, Standing, never, initial, collecting, decided, stageOf, hasDecided, SetsFit, writesInit, awaitsCommit, initLog, stableAt, coordinatorAt, between, recordFor, siteWith, Mid, Inv, cohortOf}
 use Rattle.joint.proofs.safety.coordinator.Logs.{closed, older, unended, waiting-down, resting-down, commit-record, waiting-unended, ending-unended, closed-fits, closed-kinds, closed-proper, may-close, older-fits, older-kinds, older-proper}
-use Rattle.joint.proofs.safety.coordinator.Steps.{From, Move, standsAs, stand}
-use Rattle.joint.proofs.safety.coordinator.Crashes.{Next, from-self}
+use Rattle.joint.proofs.safety.coordinator.Steps.{From, Move, standsAs, stand, from-self}
+use Rattle.joint.proofs.safety.coordinator.Crashes.{Next}
 use Rattle.joint.proofs.safety.coordinator.Commits.{forced-kinds}
 use Rattle.joint.proofs.safety.coordinator.Ways.{way-done, way-self}
 use Rattle.joint.proofs.safety.Outcomes.{same-outcome}

@@ -20,7 +20,7 @@ use Rattle.joint.proofs.safety.coordinator.Logs.{resumes-commit, resume
 use Rattle.joint.proofs.safety.Holds.{holds-at}
 use Rattle.joint.proofs.safety.coordinator.Steps.{Shift, shift-keeps, standsAs, stand, settle-mid}
 use Rattle.joint.proofs.safety.coordinator.Crashes.{Next}
-use Rattle.joint.proofs.safety.coordinator.Runs.{Node, Runs, enter-run, runs-at, runs-end, cut-next}
+use Rattle.joint.proofs.safety.coordinator.Runs.{Node, Runs, enter-run, runs-at, runs-end, cut-next, node-start}
 use Rattle.joint.proofs.safety.coordinator.Commits.{enter-tell}
 use Rattle.joint.proofs.safety.coordinator.Discards.{After, next-after}
 use Rattle.joint.proofs.safety.coordinator.Ways.{way-done, way-resume}
@@ -107,7 +107,7 @@ module _ (t : ℕ) (v w : View) where
       → Carried t 0 [] (viewStart 0 (withCoordinator Coordinator.unknown)) v w → Next t (decided o down l) w
   unfolding started
   forget-next o l mid q d =
-      start-next t (decided o down l) [] o l (decided o (resting false) l) Coordinator.unknown (record { mid = mid; from = λ x f. f })
+      start-next t (decided o down l) [] o l (decided o (resting false) l) Coordinator.unknown (node-start mid)
       (λ u e m. forgets u o l m (λ n k. rw q (way-done u n o true))) (λ u. refl) refl tt d
 
   -- what the log says: commit is resumed, abort is resumed, nothing is
@@ -115,9 +115,9 @@ module _ (t : ℕ) (v w : View) where
       → Woken (restartFrom (cohortOf v) (sameOutcome o commit && r) (sameOutcome o abort && r)) → Next t (decided o down l) w
   unfolding restartFrom sameOutcome
   restart-next commit l mid true q d =
-      resume-next t (decided commit down l) v commit l (of-true q) (not (empty (owing (cohortOf v) commit))) (record { mid = mid; from = λ x f. f }) d
+      resume-next t (decided commit down l) v commit l (of-true q) (not (empty (owing (cohortOf v) commit))) (node-start mid) d
   restart-next abort l mid true q d =
-      resume-next t (decided abort down l) v abort l (of-true q) true (record { mid = mid; from = λ x f. f }) (unfold given in d)
+      resume-next t (decided abort down l) v abort l (of-true q) true (node-start mid) (unfold given in d)
   restart-next commit l mid false q d = forget-next commit l mid q d
   restart-next abort l mid false q d = forget-next abort l mid q d
 

@@ -35,6 +35,9 @@ pub record Node (t : ℕ) (h0 : Standing) (v : View) (h : Standing) : Type 0 whe
   pub mid : Mid t h v
   pub from : (x : Standing) → From (writesInit (cohortOf v)) x h0 → From (writesInit (cohortOf v)) x h
 
+pub node-start : {t : ℕ} {h : Standing} {v : View} → Mid t h v → Node t h v h
+node-start mid = record { mid = mid; from = λ x f. f }
+
 module _ (t : ℕ) (h0 : Standing) where
   -- from the standing h0, through the effects, to the standing h′
   abbrev pub Runs : View → List Effect → Standing → Type 0

@@ -14,12 +14,11 @@ use Rattle.site.specs.Coordinator.{untilAcked}
 use Rattle.joint.proofs.Booleans.{and-both, not-true, is-false, of-false}
 use Rattle.joint.proofs.view.View.{View}
 use Rattle.joint.proofs.safety.Tables.{Stage, asking}
-use Rattle.joint.proofs.safety.Sets.{of-those, member-those, member-owing, empty-none, no-zero, without-part}
+use Rattle.joint.proofs.safety.Sets.{of-those, member-those, member-owing, empty-none, no-zero, without-part, member-without, without-byte}
 use Rattle.joint.proofs.safety.Invariant.{Log, classOf, resumed, waiting, resting, down, Standing, initial, collecting, decided, hasDecided, logFits, SetsFit, writesInit, awaitsCommit, initLog, sentIn, coordinatorAt, between, Mid, cohortOf}
 use Rattle.joint.proofs.safety.coordinator.Logs.{commitLog, resumed-waiting, down-resting, abort-waits, commit-waits, commit-has, initial-proper, commit-proper}
-use Rattle.joint.proofs.safety.coordinator.Steps.{PassesAt, From, Shift}
+use Rattle.joint.proofs.safety.coordinator.Steps.{PassesAt, From, Shift, from-same, from-none}
 use Rattle.joint.proofs.safety.coordinator.Ways.{way-count, way-commit, way-abort, way-done, way-hear, way-resume, way-self}
-use Rattle.joint.proofs.safety.coordinator.Crashes.{from-same, from-none}
 
 -- those told of an abort of whom an ack is owed
 abbrev pub awaited : Cohort → ℕ → ℕ
@@ -55,7 +54,6 @@ module _ (v : View) where
 
   -- a Yes of p is counted
   pub counts : {t : ℕ} (p w : ℕ) → Mid t (collecting w false) v → T (sentIn v p voteYes) → Shift v (collecting w false) (collecting (without p w) false)
-  unfolding without
   counts p w mid y =
       record {
         move =
@@ -63,17 +61,14 @@ module _ (v : View) where
               never = refl;
               fit = tt;
               proper = tt;
-              sets = (those-below left, without-part p w (g .members) (mid .sound .sets .1));
+              sets = (without-byte p w, without-part p w (g .members) (mid .sound .sets .1));
               passing = λ n m.
-                  rw (member-those left n (g .members) (mid .sound .byte) m)
+                  rw (member-without p w n (g .members) (mid .sound .byte) m)
                   (way-count v n (member (suc n) w) (eqb (suc n) p)
                   (λ e. subst (λ (q : ℕ). T (sentIn v q voteYes)) (sym (eqb-true (suc n) p (true-of _ e))) y));
             };
         from = undecided (λ o k. k) (λ k. k);
       }
-    where
-      left : ℕ → Bool
-      left q = member q w && not (eqb q p)
 
   -- record 2 is written where no vote is missing
   pub marks : (w : ℕ) → T (empty w) → Shift v (collecting w false) (collecting w true)
@@ -145,7 +140,6 @@ module _ (v : View) where
   module _ (o : Outcome) (l : Log) where
     -- an ack of p is heard
     pub hears : {t : ℕ} (p w : ℕ) → Mid t (decided o (waiting w) l) v → T (sentIn v p (ack o)) → Shift v (decided o (waiting w) l) (decided o (waiting (without p w)) l)
-    unfolding without
     hears p w mid a =
         record {
           move =
@@ -153,17 +147,14 @@ module _ (v : View) where
                 never = refl;
                 fit = mid .sound .fit;
                 proper = mid .sound .proper;
-                sets = (those-below left, without-part p w (owing g o) (mid .sound .sets .1));
+                sets = (without-byte p w, without-part p w (owing g o) (mid .sound .sets .1));
                 passing = λ n m.
-                    rw (member-those left n (g .members) (mid .sound .byte) m)
+                    rw (member-without p w n (g .members) (mid .sound .byte) m)
                     (way-hear v n o (member (suc n) w) (eqb (suc n) p)
                     (λ e. subst (λ (q : ℕ). T (sentIn v q (ack o))) (sym (eqb-true (suc n) p (true-of _ e))) a));
               };
           from = λ x. from-same i o (waiting w) (waiting (without p w)) l l x (λ k. k);
         }
-      where
-        left : ℕ → Bool
-        left q = member q w && not (eqb q p)
 
     -- nobody is waited for; b: an end record is written
     pub ends : {t : ℕ} (b : Bool) (w : ℕ) → Mid t (decided o (waiting w) l) v → T (empty w) → T (logFits i o (resting b) (classOf l))

@@ -1,7 +1,7 @@
 -- The coordinator's small steps keep the invariant: a change of standing, with its log or without, an entry, a message.
 use Prim.Native.Nat.{ℕ, suc}
 use mathlib.Core.Path.{_≡_, refl, sym, ap, _∙_, subst}
-use mathlib.Core.Logic.{_⊎_, inl}
+use mathlib.Core.Logic.{_⊎_, inl, inr, ⊎-elim}
 use mathlib.Core.Bool.{Bool, true, false, not, _&&_, _||_}
 use lib.Dec.{T, eqb}
 use native.Mathlib.Omega.{arith}
@@ -17,7 +17,7 @@ use Rattle.joint.proofs.Updates.{update-other}
 use Rattle.joint.proofs.view.View.{View, viewAt, viewSettle, viewPerform}
 use Rattle.joint.proofs.safety.Tables.{Status, has, Stage, Fine, passes, ackSent, maySend}
 use Rattle.joint.proofs.safety.coordinator.Passes.{pass-fine, send-fine}
-use Rattle.joint.proofs.safety.Invariant.{Standing, never, stageOf, hasDecided, standingFits, properLog, awaitsCommit, SetsFit, writesInit, standingUp, stableAt, unforcedAt, isNever, siteWith, sentIn, Member, Stranger, Place, Sound, Mid, cohortOf}
+use Rattle.joint.proofs.safety.Invariant.{Standing, never, stageOf, hasDecided, standingFits, properLog, awaitsCommit, SetsFit, writesInit, standingUp, stableAt, unforcedAt, isNever, siteWith, sentIn, Member, Stranger, Place, Sound, Mid, cohortOf, Log, kindsIn, Pace, decided}
 use Rattle.joint.proofs.safety.Outcomes.{same-outcome}
 use Rattle.joint.proofs.safety.Sets.{belongs}
 
@@ -31,6 +31,20 @@ PassesAt v m m′ n = T (passes (presumptionOf (cohortOf v) (suc n)) (sentIn v (
 pub record From (i : Bool) (h0 h : Standing) : Type 0 where
   pub keeps : (o : Outcome) → T (hasDecided h0 o) → T (hasDecided h o)
   pub new : T (hasDecided h commit) → T (hasDecided h0 commit) ⊎ T (has 2 (stableAt i h))
+
+pub from-self : (i : Bool) (h : Standing) → From i h h
+from-self i h = record { keeps = λ o k. k; new = inl }
+
+-- the outcome stays
+pub from-same : (i : Bool) (o : Outcome) (p q : Pace) (l l′ : Log) (h0 : Standing) → (T (has 2 (kindsIn l)) → T (has 2 (kindsIn l′)))
+    → From i h0 (decided o p l) → From i h0 (decided o q l′)
+from-same i o p q l l′ h0 grows f = record { keeps = f .keeps; new = λ c. ⊎-elim inl (λ k. inr (grows k)) (f .new c) }
+
+-- nothing was decided
+pub from-none : {i : Bool} {h h′ : Standing} (h0 : Standing) → ((o : Outcome) → T (hasDecided h o) → ⊥)
+    → (T (hasDecided h′ commit) → T (has 2 (stableAt i h′)))
+    → From i h0 h → From i h0 h′
+from-none h0 none new f = record { keeps = λ o k. absurd (none o (f .keeps o k)); new = λ c. inr (new c) }
 
 -- a change of the standing that the members allow
 pub record Move (v : View) (h h′ : Standing) : Type 0 where
@@ -49,7 +63,7 @@ abbrev pub Keeps : Standing → Standing → Type 0
 Keeps h h′ = (o : Outcome) → T (hasDecided h o) → T (hasDecided h′ o)
 
 pub shift-keeps : {v : View} {h h′ : Standing} → Shift v h h′ → Keeps h h′
-shift-keeps {h} x = x .from h (record { keeps = λ o k. k; new = inl }) .keeps
+shift-keeps {h} x = x .from h (from-self _ h) .keeps
 
 -- the coordinator's site as its standing says
 abbrev pub standsAs : ℕ → View → Standing → Site
