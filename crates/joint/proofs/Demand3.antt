@@ -116,7 +116,7 @@ votes es earlier m h t k (suc n) b =
 pub data Resting : Standing → Type 0 where
   rests : (o : Outcome) (b : Bool) (l : Log) → Resting (decided o (resting b) l)
 
-abbrev isUnknown : Coordinator → Bool
+abbrev pub isUnknown : Coordinator → Bool
 isUnknown Coordinator.initial = false
 isUnknown (Coordinator.collecting w) = false
 isUnknown (Coordinator.awaitingAcks o w) = false

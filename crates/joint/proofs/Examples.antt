@@ -3,13 +3,12 @@ use Prim.Native.Nat.{ℕ}
 use mathlib.Core.Path.{_≡_, refl}
 use mathlib.Core.Bool.{Bool, _&&_}
 use mathlib.Core.List.{List, [], _∷_}
-use lib.Dec.{T, eqb}
+use lib.Dec.{T}
 use Rattle.codec.specs.Lists.{any, all}
 use Rattle.codec.specs.Sets.{member}
 use Rattle.codec.specs.laws.Tests.{and-left, and-right}
 use Rattle.site.specs.Presumption.{Outcome, commit, abort}
 use Rattle.site.specs.Coordinator.{Coordinator, initial, collecting, awaitingAcks}
-use Rattle.site.specs.Numbers.{coordinatorPhase}
 use Rattle.joint.specs.State.{fresh}
 use Rattle.joint.specs.Drill.{eventsIn}
 use Rattle.joint.specs.Safety.{Moment, moments, happened, history, leaves, along, enters, sends, isEntry, isReply, inDoubt, commitStable, outcome, Happens}
@@ -18,10 +17,12 @@ use Rattle.site.specs.Open.{site-opens}
 use Rattle.joint.proofs.Open.{joint-opens}
 use Rattle.joint.proofs.Cases.{hex}
 use Rattle.joint.proofs.Moments.{any-placed}
+use Rattle.joint.proofs.Demand3.{isUnknown}
+use Rattle.joint.proofs.view.View.{isEntryAt}
 
 -- what the theorems by computation below open
 unfoldable safety-opens : Unit {0}
-unfolding codec-opens site-opens joint-opens moments happened history leaves along enters sends isEntry isReply inDoubt commitStable outcome
+unfolding codec-opens site-opens joint-opens isEntryAt moments happened history leaves along enters sends isEntry isReply inDoubt commitStable outcome
 safety-opens = tt
 
 -- ---- moments that pass a test
@@ -39,7 +40,7 @@ some-passes es f P holds h =
 
 -- outcome o of transaction 0 is entered at site s
 abbrev pub entered : List (List ℕ) → Outcome → ℕ → Bool
-entered es o s = any (λ m. eqb (m .site) s && isEntry 0 o m) (history fresh es)
+entered es o s = any (isEntryAt 0 s o) (history fresh es)
 
 -- abort: the coordinator's timer ends the wait for votes
 abbrev pub entering : Outcome → List (List ℕ)
@@ -80,15 +81,10 @@ replying abort =
 abbrev pub Asked : Outcome → Moment → Type 0
 Asked o m = T (isReply 0 1 o m) × (m .start .transaction 0 .coordinator ≡ Coordinator.unknown) × T (inDoubt (m .start) 0 1)
 
-isUnknown : Coordinator → Bool
-isUnknown c = eqb (coordinatorPhase c) 4
-
 is-unknown : (c : Coordinator) → T (isUnknown c) → c ≡ Coordinator.unknown
-unfolding isUnknown coordinatorPhase
 is-unknown initial h = absurd h
 is-unknown (collecting w) h = absurd h
-is-unknown (awaitingAcks commit w) h = absurd h
-is-unknown (awaitingAcks abort w) h = absurd h
+is-unknown (awaitingAcks o w) h = absurd h
 is-unknown Coordinator.unknown h = refl
 
 asked : Outcome → Moment → Bool
@@ -103,7 +99,7 @@ is-asked o m h =
     (and-left (isReply 0 1 o m) (unknown && doubt) h, is-unknown _ (and-left unknown doubt k), and-right unknown doubt k)
 
 reply-found : (o : Outcome) → T (any (asked o) (history fresh (replying o)))
-unfolding safety-opens asked isUnknown
+unfolding safety-opens asked
 reply-found commit = tt
 reply-found abort = tt
 

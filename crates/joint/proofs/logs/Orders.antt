@@ -17,9 +17,9 @@ use Rattle.site.specs.Presumption.{presumptionNumber, presumedAbort, presumedCo
 use Rattle.site.specs.Cohort.{Cohort, masksOf, presumptionOf}
 use Rattle.joint.proofs.Booleans.{and-both}
 use Rattle.joint.proofs.Lists.{select-append}
-use Rattle.joint.proofs.safety.Sets.{owing-minus}
 use Rattle.joint.proofs.safety.Invariant.{writesInit, awaitsCommit, fieldsAt, recordFor}
 use Rattle.joint.proofs.logs.Counts.{recordsOf, records-head}
+use Rattle.joint.proofs.safety.Holds.{commit-awaits}
 
 -- ---- kinds
 
@@ -99,10 +99,6 @@ same-self [] = refl
 same-self (n ∷ l) = rw (eq-eqb n n refl, same-self l)
 
 module _ (g : Cohort) (t s : ℕ) where
-  awaits : awaitsAcks (recordFor g t s 2) ≡ awaitsCommit g
-  unfolding awaitsAcks membersIn presumeCommitIn masksOf
-  awaits = rw (owing-minus g)
-
   records-agree : (j k : ℕ) → T (not (eqb k 3) || awaitsCommit g) → agrees (recordFor g t s j) (recordFor g t s k) ≡ true
   unfolding agrees
   records-agree j k a = ap₂ _&&_ (one (eqb j 1) (eqb k 2) refl refl) (two (eqb j 2) (eqb k 3) refl refl a)
@@ -113,7 +109,7 @@ module _ (g : Cohort) (t s : ℕ) where
       one false c e f = refl
 
       two : (b c : Bool) → eqb j 2 ≡ b → eqb k 3 ≡ c → T (not c || awaitsCommit g) → (not (b && c) || awaitsAcks (recordFor g t s j)) ≡ true
-      two true true e f a = rw (eqb-true j 2 e, awaits) (true-of (awaitsCommit g) a)
+      two true true e f a = rw (eqb-true j 2 e, commit-awaits g t s) (true-of (awaitsCommit g) a)
       two true false e f a = refl
       two false c e f a = refl
 

@@ -16,7 +16,7 @@ use Rattle.joint.proofs.Booleans.{or-left, or-right, both-ways, of-fals
 use Rattle.joint.proofs.view.View.{View, viewSettle}
 use Rattle.joint.proofs.view.Turn.{Carried, Given, Up, Opened}
 use Rattle.joint.proofs.safety.Sets.{owing-member, no-zero, not-empty, owes-abort, without-part, member-without}
-use Rattle.joint.proofs.safety.Invariant.{Log, waiting, resting, down, Standing, never, initial, collecting, decided, SetsFit, writesInit, initLog, coordinatorAt, between, sentIn, Mid, Inv, cohortOf}
+use Rattle.joint.proofs.safety.Invariant.{Log, waiting, resting, down, Standing, never, initial, collecting, decided, writesInit, initLog, coordinatorAt, between, sentIn, Mid, Inv, cohortOf}
 use Rattle.joint.proofs.safety.coordinator.Logs.{commitLog}
 use Rattle.joint.proofs.safety.coordinator.Crashes.{Next}
 use Rattle.joint.proofs.safety.coordinator.Runs.{Node, Runs, node-stay, row-next, node-start}
@@ -24,6 +24,7 @@ use Rattle.joint.proofs.safety.coordinator.Commits.{begin-run, commit-r
 use Rattle.joint.proofs.safety.coordinator.Ends.{abort-run, end-run, tell-run, tell-all-run, reply-run}
 use Rattle.joint.proofs.safety.coordinator.Shifts.{awaited, counts, hears, settledAs, settled-phase, settled-between}
 use Rattle.joint.proofs.safety.Outcomes.{same-outcome}
+use Rattle.joint.proofs.safety.coordinator.Steps.{still-owed}
 
 -- ---- the row that a step gives
 
@@ -135,18 +136,13 @@ module _ (t : ℕ) (v w : View) (row : Row Coordinator) where
         or-left (writesInit g) false
         (not-empty c (g .presumeCommit) (mid .sound .sets .0) some-left (λ n k. owes-abort g n (subst (λ (x : Outcome). T (member (suc n) (owing g x))) e (owed n k))))
 
-    acks-owed : (d : Outcome) → o ≡ d → SetsFit g (decided d (resting true) l)
-    acks-owed commit e =
-        not-empty c (owing g commit) (mid .sound .sets .0) some-left (λ n k. subst (λ (x : Outcome). T (member (suc n) (owing g x))) e (owed n k))
-    acks-owed abort e = tt
-
     heard-next : (p : ℕ) → T (sentIn v p (ack o)) → (b : Bool) → empty (without p c) ≡ b → some (acked o b (without p c)) ≡ some row → Done → Next t here w
     unfolding acked
     heard-next p a false q e d =
         row-done (acked o false (without p c)) e (decided o (waiting (without p c)) l) (node-stay t here (node-start mid) (hears v o l p c mid a) refl) refl (of-false q) d
     heard-next p a true q e d =
         row-done (acked o true (without p c)) e (decided o (resting true) l)
-        (end-run t here v o (without p c) l (of-true q) (init-written o refl) (acks-owed o refl) (node-stay t here (node-start mid) (hears v o l p c mid a) refl)) refl tt d
+        (end-run t here v o (without p c) l (of-true q) (init-written o refl) (still-owed o c l mid some-left) (node-stay t here (node-start mid) (hears v o l p c mid a) refl)) refl tt d
 
     acked-next : (a : Outcome) (p : ℕ) → T (sentIn v p (ack a)) → (b : Bool) → sameOutcome a o ≡ b → ackedIf b o (without p c) ≡ some row → Done
         → Next t here w

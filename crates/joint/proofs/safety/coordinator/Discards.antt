@@ -6,11 +6,9 @@ use mathlib.Core.Bool.{Bool, true, false, not, true≢false}
 use mathlib.Core.List.{List, [], _∷_, map, append-nil}
 use lib.Dec.{T}
 use Rattle.codec.specs.Lists.{any}
-use Rattle.codec.specs.Sets.{member, empty}
-use Rattle.codec.specs.Records.{awaitsAcks, membersIn, presumeCommitIn}
 use Rattle.codec.specs.laws.Tests.{of-true}
-use Rattle.site.specs.Presumption.{Outcome, commit, abort, sameOutcome}
-use Rattle.site.specs.Cohort.{Cohort, masksOf, owing}
+use Rattle.site.specs.Presumption.{Outcome, commit}
+use Rattle.site.specs.Cohort.{Cohort}
 use Rattle.site.specs.Coordinator.{endRecord}
 use Rattle.joint.specs.State.{Site, forced}
 use Rattle.joint.specs.Plan.{closes, newest}
@@ -18,15 +16,15 @@ use Rattle.joint.proofs.Booleans.{both-ways}
 use Rattle.joint.proofs.view.View.{View, viewAt}
 use Rattle.joint.proofs.view.Turn.{whole, Up, Opened, trimmedView, viewForget, viewDiscard}
 use Rattle.joint.proofs.safety.Tables.{has}
-use Rattle.joint.proofs.safety.Sets.{not-empty, owing-minus}
-use Rattle.joint.proofs.safety.Invariant.{Log, l0, l1, l12, l2, l123, l23, l3, l14, l4, kindsIn, classOf, waiting, resting, down, Standing, never, initial, collecting, decided, stageOf, hasDecided, SetsFit, writesInit, awaitsCommit, initLog, stableAt, coordinatorAt, between, recordFor, siteWith, Mid, Inv, cohortOf}
-use Rattle.joint.proofs.safety.coordinator.Logs.{closed, older, unended, waiting-down, resting-down, commit-record, waiting-unended, ending-unended, closed-fits, closed-kinds, closed-proper, may-close, older-fits, older-kinds, older-proper}
-use Rattle.joint.proofs.safety.coordinator.Steps.{From, Move, standsAs, stand, from-self}
+use Rattle.joint.proofs.safety.Invariant.{Log, l0, l1, l12, l2, l123, l23, l3, l14, l4, kindsIn, classOf, waiting, resting, down, Standing, never, initial, collecting, decided, stageOf, hasDecided, SetsFit, writesInit, awaitsCommit, initLog, stableAt, coordinatorAt, between, recordFor, siteWith, Mid, Inv, cohortOf, logFits}
+use Rattle.joint.proofs.safety.coordinator.Logs.{closed, older, unended, resting-down, commit-record, waiting-unended, ending-unended, closed-fits, closed-kinds, closed-proper, may-close, older-fits, older-kinds, older-proper, end-unwritten}
+use Rattle.joint.proofs.safety.coordinator.Steps.{From, Move, standsAs, stand, from-self, still-owed}
 use Rattle.joint.proofs.safety.coordinator.Crashes.{Next}
 use Rattle.joint.proofs.safety.coordinator.Commits.{forced-kinds}
 use Rattle.joint.proofs.safety.coordinator.Ways.{way-done, way-self}
 use Rattle.joint.proofs.safety.Outcomes.{same-outcome}
 use Rattle.joint.proofs.Lists.{drop-map}
+use Rattle.joint.proofs.safety.Holds.{commit-awaits}
 
 -- ---- what a turn leads to
 
@@ -98,8 +96,8 @@ module _ (t : ℕ) (v : View) where
 -- a record 2 closes where nobody owes an ack for commit
 module _ (g : Cohort) (t : ℕ) where
   2-closes : closes (recordFor g t 0 2) ≡ not (awaitsCommit g)
-  unfolding closes any awaitsAcks membersIn presumeCommitIn masksOf
-  2-closes = rw (owing-minus g) refl
+  unfolding closes any
+  2-closes = rw (commit-awaits g t 0) refl
 
   -- it has no record that closes it, if a commit awaits acks
   not-closed : (l : Log) → T (unended (classOf l)) → (T (has 2 (kindsIn l)) → T (awaitsCommit g))
@@ -130,15 +128,11 @@ module _ (t : ℕ) (v : View) where
       }
 
   -- a commit whose acks are awaited, or were
-  are-awaited : (x : Outcome) (w : ℕ) (l : Log) → Mid t (decided x (waiting w) l) v → T (not (empty w)) → T (has 2 (kindsIn l)) → T (awaitsCommit (cohortOf v))
-  are-awaited x w l mid left r =
-      let is = same-outcome x commit (commit-record (writesInit (cohortOf v)) x l r (waiting-down (writesInit (cohortOf v)) x l w (mid .sound .fit))) in
-      not-empty w (owing (cohortOf v) commit) (mid .sound .sets .0) left (λ n k. subst (λ (y : Outcome). T (member (suc n) (owing (cohortOf v) y))) is (mid .sound .sets .1 (suc n) k))
-
-  were-awaited : (x : Outcome) (l : Log) → T (sameOutcome x commit) → SetsFit (cohortOf v) (decided x (resting true) l) → T (awaitsCommit (cohortOf v))
-  unfolding sameOutcome
-  were-awaited commit l c s = s
-  were-awaited abort l c s = absurd c
+  owed : (b : Bool) (x : Outcome) (l : Log) → T (logFits (writesInit (cohortOf v)) x (resting b) (classOf l)) → SetsFit (cohortOf v) (decided x (resting true) l)
+      → T (has 2 (kindsIn l)) → T (awaitsCommit (cohortOf v))
+  owed b x l f s r =
+      subst (λ (y : Outcome). SetsFit (cohortOf v) (decided y (resting true) l))
+      (same-outcome x commit (commit-record (writesInit (cohortOf v)) x l r (resting-down (writesInit (cohortOf v)) x l b f))) s
 
   initial-open : (j : Bool) → Closes (kindsIn (initLog j)) → ⊥
   unfolding has any
@@ -155,11 +149,11 @@ module _ (t : ℕ) (v : View) where
   discard-standing (initial b) inv o up e = absurd (not-closed (cohortOf v) t l0 tt (λ f. absurd (unfold has any in f)) e)
   discard-standing (collecting w b) inv o up e = absurd (initial-open (writesInit (cohortOf v)) e)
   discard-standing (decided x (waiting w) l) inv o up e =
-      absurd (not-closed (cohortOf v) t l (waiting-unended (writesInit (cohortOf v)) x l w (inv .mid .sound .fit)) (are-awaited x w l (inv .mid) (inv .whole)) e)
+      absurd (not-closed (cohortOf v) t l (waiting-unended (writesInit (cohortOf v)) x l w (inv .mid .sound .fit)) (owed false x l (end-unwritten (writesInit (cohortOf v)) x l w (inv .mid .sound .fit)) (still-owed x w l (inv .mid) (inv .whole))) e)
   discard-standing (decided x (resting true) l) inv o up e =
       absurd
       (not-closed (cohortOf v) t l (ending-unended (writesInit (cohortOf v)) x l (inv .mid .sound .fit))
-      (λ r. were-awaited x l (commit-record (writesInit (cohortOf v)) x l r (resting-down (writesInit (cohortOf v)) x l true (inv .mid .sound .fit))) (inv .mid .sound .sets)) e)
+      (owed true x l (inv .mid .sound .fit) (inv .mid .sound .sets)) e)
   discard-standing (decided x (resting false) l) inv o up e =
       record {
         standing = decided x (resting false) (older l);

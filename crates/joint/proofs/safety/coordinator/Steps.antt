@@ -6,9 +6,9 @@ use mathlib.Core.Bool.{Bool, true, false, not, _&&_, _||_}
 use lib.Dec.{T, eqb}
 use native.Mathlib.Omega.{arith}
 use borrow.Author.Tests.{ne-eqb, eqb-true}
-use Rattle.codec.specs.Sets.{member}
-use Rattle.site.specs.Presumption.{Outcome, commit, sameOutcome}
-use Rattle.site.specs.Cohort.{presumptionOf}
+use Rattle.codec.specs.Sets.{member, empty}
+use Rattle.site.specs.Presumption.{Outcome, commit, sameOutcome, abort}
+use Rattle.site.specs.Cohort.{presumptionOf, owing}
 use Rattle.site.specs.Step.{Message, voteYes, voteNo, messageKind, enter, send}
 use Rattle.site.specs.Coordinator.{Coordinator}
 use Rattle.joint.specs.State.{Site, update, withCoordinator, withSent}
@@ -17,9 +17,9 @@ use Rattle.joint.proofs.Updates.{update-other}
 use Rattle.joint.proofs.view.View.{View, viewAt, viewSettle, viewPerform}
 use Rattle.joint.proofs.safety.Tables.{Status, has, Stage, Fine, passes, ackSent, maySend}
 use Rattle.joint.proofs.safety.coordinator.Passes.{pass-fine, send-fine}
-use Rattle.joint.proofs.safety.Invariant.{Standing, never, stageOf, hasDecided, standingFits, properLog, awaitsCommit, SetsFit, writesInit, standingUp, stableAt, unforcedAt, isNever, siteWith, sentIn, Member, Stranger, Place, Sound, Mid, cohortOf, Log, kindsIn, Pace, decided}
+use Rattle.joint.proofs.safety.Invariant.{Standing, never, stageOf, hasDecided, standingFits, properLog, awaitsCommit, SetsFit, writesInit, standingUp, stableAt, unforcedAt, isNever, siteWith, sentIn, Member, Stranger, Place, Sound, Mid, cohortOf, Log, kindsIn, Pace, decided, waiting, resting}
 use Rattle.joint.proofs.safety.Outcomes.{same-outcome}
-use Rattle.joint.proofs.safety.Sets.{belongs}
+use Rattle.joint.proofs.safety.Sets.{belongs, not-empty}
 
 -- ---- what changes of the standing are allowed
 
@@ -68,6 +68,12 @@ shift-keeps {h} x = x .from h (from-self _ h) .keeps
 -- the coordinator's site as its standing says
 abbrev pub standsAs : ℕ → View → Standing → Site
 standsAs t v h = siteWith (cohortOf v) t 0 (standingUp h) (stableAt (writesInit (cohortOf v)) h) (unforcedAt h)
+
+-- someone owes an ack of what is waited for
+pub still-owed : {t : ℕ} {v : View} (o : Outcome) (w : ℕ) (l : Log) → Mid t (decided o (waiting w) l) v → T (not (empty w))
+    → SetsFit (cohortOf v) (decided o (resting true) l)
+still-owed {v} commit w l mid k = not-empty w (owing (cohortOf v) commit) (mid .sound .sets .0) k (λ n m. mid .sound .sets .1 (suc n) m)
+still-owed abort w l mid k = tt
 
 -- ---- places
 
