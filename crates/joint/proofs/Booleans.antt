@@ -65,3 +65,6 @@ of-false e = subst (λ (b : Bool). T (not b)) (sym e) tt
 pub both-ways : (b : Bool) → T b → T (not b) → ⊥
 both-ways true t u = u
 both-ways false t u = t
+
+pub clash : true ≡ false → ⊥
+clash e = subst (λ (b : Bool). T b) e tt

@@ -12,5 +12,6 @@ mod safety
 mod Demand3
 mod logs
 mod Reachable
+mod stand
 mod Cases
 mod Examples

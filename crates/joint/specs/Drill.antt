@@ -3,12 +3,13 @@ use Prim.Native.Nat.{ℕ, zero, suc, _+_, _-_, _/_, _%_}
 use Prim.Native.Char.{code}
 use Prim.Native.String.{String}
 use Prim.Native.String
-use mathlib.Core.Bool.{Bool, true, false}
+use mathlib.Core.Bool.{Bool, true, false, cond}
 use mathlib.Core.List.{List, [], _∷_, _++_, map, flatten}
 use lib.ListN.{length, take, drop}
-use lib.Dec.{ltb}
+use lib.Dec.{leb, ltb}
 use Rattle.codec.specs.Lists.{select}
 use Rattle.codec.specs.Sets.{participants}
+use Rattle.codec.specs.Image.{stored, Written}
 use Rattle.site.specs.Presumption.{commit, abort}
 use Rattle.joint.specs.State.{Run, Transaction, fresh, opened}
 use Rattle.joint.specs.Event.{eventLength}
@@ -22,11 +23,33 @@ unfoldable pub chunks : ℕ → List ℕ → List (List ℕ)
 chunks zero bytes = []
 chunks (suc n) bytes = take eventLength bytes ∷ chunks n (drop eventLength bytes)
 
+unfoldable pub eventsOf : List ℕ → List (List ℕ)
+eventsOf bytes = chunks ((length bytes + (eventLength - 1)) / eventLength) bytes
+
 -- the first 60,000 bytes and no more
 unfoldable pub eventsIn : List ℕ → List (List ℕ)
-eventsIn input =
-    let bytes = take 60000 input in
-    chunks ((length bytes + (eventLength - 1)) / eventLength) bytes
+eventsIn input = eventsOf (take 60000 input)
+
+-- ---- replay: the answers to a list of events in a lent buffer, and the run that it leaves
+
+-- an answer in four bytes
+unfoldable pub answerBytes : Answer → List ℕ
+answerBytes a = a .number ∷ a .records ∷ a .forces ∷ a .sends ∷ []
+
+-- how many events were run, the run that they leave, and what the buffer holds then
+pub record Replayed : Type 0 where
+  pub count : ℕ
+  pub run : Run
+  pub buffer : List ℕ
+
+-- no event is run where the buffer is too short for all answers
+unfoldable pub replayed : List ℕ → List ℕ → Replayed
+replayed bytes buffer =
+    let events = eventsOf bytes in
+    let told = flatten (map answerBytes (answers fresh events)) in
+    cond (leb (length told) (length buffer))
+    (record { count = length events; run = after fresh events; buffer = stored 0 told buffer })
+    (record { count = 0; run = fresh; buffer = buffer })
 
 -- ---- output
 
@@ -78,3 +101,11 @@ drill input =
     let events = eventsIn input in
     let r = after fresh events in
     eventLines 1 (answers fresh events) ++ flatten (map (transactionLine r) (select (opened r) transactions))
+
+-- a text at the front of a lent buffer, and its length; where the buffer is too short, 0 and the buffer as it was
+unfoldable pub textInto : List ℕ → List ℕ → Written
+textInto text buffer =
+    cond (leb (length text) (length buffer)) (record { answer = length text; buffer = stored 0 text buffer }) (record { answer = 0; buffer = buffer })
+
+unfoldable pub drillInto : List ℕ → List ℕ → Written
+drillInto input buffer = textInto (drill input) buffer

@@ -5,3 +5,5 @@ pub mod Plan
 pub mod Run
 pub mod Drill
 pub mod Safety
+pub mod Stand
+pub mod Inside

@@ -1,1 +1,12 @@
-// The definitions stand in specs/.
+// The joint run: events, power cuts, crashes, restart and trimming, over the promises of codec and site; and the drill.
+pub mod answers;
+pub mod drill;
+pub mod events;
+mod moves;
+mod power;
+mod progress;
+pub mod replay;
+pub mod run;
+mod sites;
+mod text;
+mod transactions;

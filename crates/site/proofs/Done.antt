@@ -87,7 +87,7 @@ module _ (a : Arguments) (f : Bool) (n : ℕ) (small : n < 3) where
   unfolding done othersDone appending fieldsOf
   end-done m first to h e =
       let ps = ordered first to in
-      let x = sum-ended m 4 ps in
+      let x = sum-ended m 4 [] ps in
       let y = sum-before (map (send m) ps ++ append 4 [] ∷ []) (ap (λ (s : Summary). s .forced) x) (ap (λ (s : Summary). s .entered) x) in
       rw (y, x, force-back, back (a .cohort) m first to h e ps refl)
       (append-assoc (given f (force ∷ [])) (entryOf n ++ map (send m) ps) (append 4 [] ∷ [])

@@ -36,7 +36,7 @@ outcome-appended abort a b = refl
 -- the last record of an abort
 pub abort-closed : (b : Bool) (last : ℕ) (es : List Effect) → ((b ≡ true) × (last ≡ 4)) ⊎ ((b ≡ false) × (last ≡ 0))
     → closing last es ≡ es ++ given b (append 4 [] ∷ [])
-unfolding closing given
+unfolding closing given lengthOf lengths
 abort-closed b last es (inl h) = rw (h .0, h .1)
 abort-closed b last es (inr h) = rw (h .0, h .1) (sym (append-nil es))
 

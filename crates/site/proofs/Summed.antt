@@ -70,15 +70,15 @@ unfolding summary
 sum-bare m [] = refl
 sum-bare m (p ∷ ps) = rw (sum-bare m ps) refl
 
-pub sum-ended : (m : Message) (l : ℕ) (ps : List ℕ) → summary (map (send m) ps ++ append l [] ∷ []) ≡ sends l (kindOf m ps) (weight ps)
+pub sum-ended : (m : Message) (l : ℕ) (fs ps : List ℕ) → summary (map (send m) ps ++ append l fs ∷ []) ≡ sends l (kindOf m ps) (weight ps)
 unfolding summary
-sum-ended m l [] = refl
-sum-ended m l (p ∷ ps) = rw (sum-ended m l ps) refl
+sum-ended m l fs [] = refl
+sum-ended m l fs (p ∷ ps) = rw (sum-ended m l fs ps) refl
 
 sum-closing : (m : Message) (l : ℕ) (ps : List ℕ) → summary (closing l (map (send m) ps)) ≡ sends l (kindOf m ps) (weight ps)
 unfolding closing
 sum-closing m zero ps = sum-bare m ps
-sum-closing m (suc l) ps = sum-ended m (suc l) ps
+sum-closing m (suc l) ps = sum-ended m (suc l) _ ps
 
 message-of : (kind : ℕ) → kind < 7 → messageKind (getD messages kind prepare) ≡ kind
 unfolding messageKind messages

@@ -67,14 +67,17 @@ hasKind kinds k = eqb (kinds / 2 ^ k % 2) 1
 unfoldable pub sending : ℕ → ℕ → ℕ → List Effect
 sending kind owing to = given (leb kind 6) (map (send (getD messages kind prepare)) (ordered owing to))
 
+-- a record has as many of two fields as its kind
+abbrev pub fieldsBy : ℕ → ℕ → ℕ → List ℕ
+fieldsBy kind first second = take (lengthOf kind - 2) (first ∷ second ∷ [])
+
 unfoldable pub closing : ℕ → List Effect → List Effect
 closing zero es = es
-closing (suc k) es = es ++ append (suc k) [] ∷ []
+closing (suc k) es = es ++ append (suc k) (fieldsBy (suc k) 0 0) ∷ []
 
--- a record has as many of its two fields as its kind
 unfoldable pub effectsIn : Effects → List Effect
 effectsIn e =
-    numbers.appending (e .appended) (take (lengthOf (e .appended) - 2) (e .first ∷ e .second ∷ []))
+    numbers.appending (e .appended) (fieldsBy (e .appended) (e .first) (e .second))
     ++ (given (e .forced) (force ∷ []) ++ (numbers.entryOf (e .entered) ++ closing (e .last) (sending (e .message) (e .owing) (e .to))))
 
 abbrev pub summaryIn : Summary → numbers.Summary

@@ -17,7 +17,7 @@ pub struct Effects {
     pub message: u8,
     pub to: u8,
     pub owing: u8,
-    // The kind of the record that is appended last; it has no field behind the transaction.
+    // The kind of the record that is appended last; its fields, if its kind has any, are 0.
     pub last: u8,
 }
 

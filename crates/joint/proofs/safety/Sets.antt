@@ -38,7 +38,7 @@ those-tests : T (bools 8 (λ bs. below 8 (thoseTest bs)))
 unfolding member those bits participants thoseTest
 those-tests = tt
 
-in-those : (f : ℕ → Bool) (i : ℕ) → i < 8 → member (suc i) (those f) ≡ f (suc i)
+pub in-those : (f : ℕ → Bool) (i : ℕ) → i < 8 → member (suc i) (those f) ≡ f (suc i)
 unfolding those bits participants thoseTest
 in-those f i h = alike-eq _ _ (below-at 8 (thoseTest (eight f)) (bools-at (λ bs. below 8 (thoseTest bs)) (eight f) those-tests) i h) ∙ eight-at f i h
 

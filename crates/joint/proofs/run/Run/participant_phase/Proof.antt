@@ -1,0 +1,19 @@
+use mathlib.Core.Path.{ap, _∙_}
+use borrow.Author.Needs.{needs}
+use Rattle.joint.specs.State as plain
+use Rattle.joint.proofs.run.Run.participant_phase.Statement.{statement}
+use Rattle.joint.proofs.run.Run.participant_phase.Tie as tie
+
+transaction-requires : tie.Need-transaction-requires
+transaction-requires c κs = search needs
+
+participant-phase-requires : tie.Need-participant-phase-requires
+participant-phase-requires c κs = search needs
+
+returns : tie.Need-returns
+returns c =
+    let a = c .before .before .args in
+    c .participant-phase .ensures ∙ ap (λ (x : plain.Transaction). x .participant (a .participant)) (c .before .transaction .ensures)
+
+pub participant-phase-spec : {M : Type 1} → statement M
+participant-phase-spec = tie.close (tie.spec transaction-requires participant-phase-requires returns)

@@ -1,0 +1,68 @@
+-- An event by its code: what the ranges say of its numbers, and where power goes.
+use Prim.Native.Nat.{ℕ, zero, suc, _≤_}
+use mathlib.Core.Path.{_≡_, refl, sym, ap, _∙_, subst}
+use mathlib.Core.Bool.{Bool, true, false, not, _&&_, _||_}
+use mathlib.Core.List.{List, [], _∷_}
+use mathlib.Core.Option.{Option, none}
+use lib.ListN.{getD}
+use lib.Dec.{eqb, leb}
+use borrow.Author.Tests.{leb-true}
+use native.Mathlib.Omega.{arith}
+use Rattle.codec.specs.Lists.{any, every}
+use Rattle.codec.specs.laws.Tests.{every-at}
+use Rattle.joint.specs.State.{Run}
+use Rattle.joint.specs.Event.{eventOf, ranges, bytesInRange, cutInRange, cutAt, cutOf}
+use Rattle.joint.specs.Stand.{Told}
+use Rattle.joint.specs.Inside.{taken, Roomy}
+use Rattle.joint.proofs.Booleans.{clash}
+
+both-hold : (a b : Bool) → (a && b) ≡ true → (a ≡ true) × (b ≡ true)
+both-hold true b h = (refl, h)
+both-hold false b h = absurd (clash (sym h))
+
+pub record InRange (code x y z : ℕ) : Type 0 where
+  pub known : code ≤ 7
+  pub last-x : x ≤ getD (getD ranges code []) 0 0
+  pub first-y : getD (getD ranges code []) 1 0 ≤ y
+  pub last-y : y ≤ getD (getD ranges code []) 2 0
+  pub last-z : z ≤ getD (getD ranges code []) 3 0
+
+module _ (code x y z cut keep : ℕ) (h : (bytesInRange code x y z && cutInRange code cut keep) ≡ true) where
+  pub in-range : InRange code x y z
+  unfolding bytesInRange
+  in-range =
+      let b = both-hold (bytesInRange code x y z) (cutInRange code cut keep) h .0 in
+      record {
+        known = leb-true _ _ (every-at _ b 0);
+        last-x = leb-true _ _ (every-at _ b 1);
+        first-y = leb-true _ _ (every-at _ b 2);
+        last-y = leb-true _ _ (every-at _ b 3);
+        last-z = leb-true _ _ (every-at _ b 4);
+      }
+
+  -- an event that power cannot cut is whole
+  pub uncut : any (eqb code) (1 ∷ 2 ∷ 3 ∷ 7 ∷ []) ≡ false → eqb code 6 ≡ false → cutOf code cut keep ≡ none
+  unfolding cutInRange cutOf cutAt
+  uncut a n =
+      let c = both-hold (bytesInRange code x y z) (cutInRange code cut keep) h .1 in
+      let w = whole (eqb cut 255) (any (eqb code) (1 ∷ 2 ∷ 3 ∷ 7 ∷ [])) (every-at _ c 2) a in
+      rw (n, w) refl
+    where
+      whole : (a b : Bool) → (a || b) ≡ true → b ≡ false → a ≡ true
+      whole true b p q = refl
+      whole false b p q = absurd (clash (sym p ∙ q))
+
+-- what is to be shown of an event's answer and next run
+abbrev pub Performed : Run → Told → ℕ → ℕ → ℕ → ℕ → ℕ → ℕ → Type 0
+Performed r n code x y z cut keep = Roomy r (eventOf code x y z) → n ≡ taken r (eventOf code x y z) (cutOf code cut keep)
+
+-- from a known code
+pub coded : (r : Run) (n : Told) (k code x y z cut keep : ℕ) → code ≡ k → Performed r n k x y z cut keep → Performed r n code x y z cut keep
+coded r n k code x y z cut keep e = subst (λ (i : ℕ). Performed r n i x y z cut keep) (sym e)
+
+-- an event that power cannot cut
+pub coded-whole : (r : Run) (n : Told) (k code x y z cut keep : ℕ) → code ≡ k → any (eqb k) (1 ∷ 2 ∷ 3 ∷ 7 ∷ []) ≡ false → eqb k 6 ≡ false
+    → (bytesInRange code x y z && cutInRange code cut keep) ≡ true → (Roomy r (eventOf k x y z) → n ≡ taken r (eventOf k x y z) none) → Performed r n code x y z cut keep
+coded-whole r n k code x y z cut keep e a b h f =
+    coded r n k code x y z cut keep e
+    (λ room. f room ∙ ap (taken r (eventOf k x y z)) (sym (uncut k x y z cut keep (subst (λ (i : ℕ). (bytesInRange i x y z && cutInRange i cut keep) ≡ true) e h) a b)))

@@ -1,0 +1,191 @@
+-- A step's plan and the program's move: whether there is a row, what it does, and room for its records.
+use Prim.Native.Nat.{ℕ, zero, suc, _+_, _-_, _≤_}
+use mathlib.Core.Path.{_≡_, refl, sym, ap, _∙_, subst}
+use mathlib.Core.Bool.{Bool, true, false, cond, not, _&&_}
+use mathlib.Core.List.{List, [], _∷_, _++_, map}
+use mathlib.Core.Option.{Option, none, some}
+use lib.ListN.{length, length-append, length-map, getD}
+use lib.Dec.{leb}
+use native.Mathlib.Omega.{arith}
+use Rattle.codec.specs.Lists.{select}
+use Rattle.codec.specs.Sets.{participants, member, listed}
+use Rattle.site.specs.Step.{messages, prepare, Effect, append, force, enter, send, Input, Row, given}
+use Rattle.site.specs.Coordinator.{inTurn, ordered}
+use Rattle.site.specs.Numbers.{inputOf, appending, entryOf}
+use Rattle.site.specs.Answers.{fieldsBy, sending, closing, effectsIn}
+use Rattle.site.specs.declared.effects.Effects.{Effects}
+use Rattle.joint.specs.State.{Run, Transaction, withCoordinator, withParticipant}
+use Rattle.joint.specs.Plan.{Plan, settling, acting, rowPlan, planned, orNothing, step}
+use Rattle.joint.specs.Run.{carryPlan, isAppend, count}
+use Rattle.joint.specs.Stand.{told}
+use Rattle.joint.specs.Inside.{counted, size, Fits, Moved, moved, MayReceive, stepMove, refusedBy, movedTo, uponInput, FitsPlan, cutFrom}
+use Rattle.joint.proofs.Booleans.{clash}
+use Rattle.joint.proofs.stand.Placed.{acting-counted, Phase, coordinator-phase, participant-phase}
+use Rattle.joint.proofs.stand.Carried.{asked-told, message-told}
+
+-- ---- a row has few effects
+
+pub select-length : {A : Type 0} (f : A → Bool) (l : List A) → length (select f l) ≤ length l
+unfolding select
+select-length f [] = omega arith
+select-length f (x ∷ l) = go (f x) (select-length f l)
+  where
+    go : (b : Bool) → length (select f l) ≤ length l → length (cond b (x ∷ select f l) (select f l)) ≤ suc (length l)
+    go true h = omega (arith, h)
+    go false h = omega (arith, h)
+
+listed-length : (m : ℕ) → length (listed m) ≤ 8
+unfolding listed participants
+listed-length m = select-length (λ p. member p m) participants
+
+pub ordered-length : (first to : ℕ) → length (ordered first to) ≤ 16
+unfolding ordered inTurn
+ordered-length first to =
+    let a = select-length (λ p. member p first) (listed to) in
+    let b = select-length (λ p. not (member p first)) (listed to) in
+    simp length-append (omega (arith, a, b, listed-length to))
+
+pub given-length : (b : Bool) (es : List Effect) → length (given b es) ≤ length es
+unfolding given
+given-length true es = omega arith
+given-length false es = omega arith
+
+appending-length : (k : ℕ) (fs : List ℕ) → length (appending k fs) ≤ 1
+unfolding appending
+appending-length zero fs = omega arith
+appending-length (suc k) fs = omega arith
+
+entry-length : (n : ℕ) → length (entryOf n) ≤ 1
+unfolding entryOf
+entry-length zero = omega arith
+entry-length (suc zero) = omega arith
+entry-length (suc (suc zero)) = omega arith
+entry-length (suc (suc (suc n))) = omega arith
+
+closing-length : (k : ℕ) (es : List Effect) → length (closing k es) ≤ length es + 1
+unfolding closing
+closing-length zero es = omega arith
+closing-length (suc k) es = simp length-append (omega arith)
+
+sending-length : (kind first to : ℕ) → length (sending kind first to) ≤ 16
+unfolding sending
+sending-length kind first to =
+    let sends = map (send (getD messages kind prepare)) (ordered first to) in
+    let e : length sends ≡ length (ordered first to) = length-map (ordered first to) _ in
+    omega (arith, given-length (leb kind 6) sends, e, ordered-length first to)
+
+pub effects-length : (e : Effects) → length (effectsIn e) ≤ 20
+unfolding effectsIn
+effects-length e =
+    let all = sending (e .message) (e .owing) (e .to) in
+    let a = appending-length (e .appended) (fieldsBy (e .appended) (e .first) (e .second)) in
+    let f = given-length (e .forced) (force ∷ []) in
+    let n = entry-length (e .entered) in
+    let c = closing-length (e .last) all in
+    simp length-append (omega (arith, a, f, n, c, sending-length (e .message) (e .owing) (e .to)))
+
+-- ---- a step
+
+module _ (r : Run) (t cut keep : ℕ) where
+  asked : (s : ℕ) (i : Input) → length (stepMove (r .transaction t) s i .effects) ≤ 255
+      → told (carryPlan r (step r t s i) (cutFrom cut keep))
+      ≡ cond (stepMove (r .transaction t) s i .found) (movedTo r s t (stepMove (r .transaction t) s i) cut keep) (refusedBy 8 r)
+  unfolding step stepMove
+  asked zero i h = asked-told r 0 t withCoordinator coordinator-phase _ h cut keep
+  asked (suc n) i h = asked-told r (suc n) t (withParticipant (suc n)) (participant-phase n) _ h cut keep
+
+  message : (s : ℕ) (i : Input) → length (stepMove (r .transaction t) s i .effects) ≤ 255
+      → told (carryPlan r (some (orNothing s (step r t s i))) (cutFrom cut keep)) ≡ movedTo r s t (stepMove (r .transaction t) s i) cut keep
+  unfolding step stepMove
+  message zero i h = message-told r 0 t withCoordinator coordinator-phase _ h cut keep
+  message (suc n) i h = message-told r (suc n) t (withParticipant (suc n)) (participant-phase n) _ h cut keep
+
+  module _ (s kind p : ℕ) (short : length (stepMove (r .transaction t) s (inputOf kind p) .effects) ≤ 255) where
+    abbrev m : Moved
+    m = stepMove (r .transaction t) s (inputOf kind p)
+
+    pub upon-refused : leb 16 kind ≡ true → stepMove (r .transaction t) s (inputOf kind p) .found ≡ false
+        → told (carryPlan r (uponInput r t s kind p) (cutFrom cut keep)) ≡ refusedBy 8 r
+    unfolding uponInput
+    upon-refused h f = rw (h, asked s (inputOf kind p) short, f) refl
+
+    pub upon-moved : (leb 16 kind && not (stepMove (r .transaction t) s (inputOf kind p) .found)) ≡ false
+        → told (carryPlan r (uponInput r t s kind p) (cutFrom cut keep)) ≡ movedTo r s t (stepMove (r .transaction t) s (inputOf kind p)) cut keep
+    unfolding uponInput
+    upon-moved h = go (leb 16 kind) (m .found) refl h
+      where
+        go : (b f : Bool) → m .found ≡ f → (b && not f) ≡ false
+            → told (carryPlan r (cond b (step r t s (inputOf kind p)) (some (orNothing s (step r t s (inputOf kind p))))) (cutFrom cut keep)) ≡ movedTo r s t m cut keep
+        go true true e h = rw (asked s (inputOf kind p) short, e) refl
+        go true false e h = absurd (clash h)
+        go false f e h = message s (inputOf kind p) short
+
+-- ---- room
+
+module _ {P : Type 0} (r : Run) (s t : ℕ) (g : P → Transaction → Transaction) (x : Transaction) where
+  planned-fits : (o : Option (Row P)) → FitsPlan r (planned s t g o) → moved g x o .found ≡ true → Fits (moved g x o .effects) (r .site s)
+  unfolding planned moved FitsPlan rowPlan
+  planned-fits none h e = absurd (clash (sym e))
+  planned-fits (some row) h e =
+      subst (λ n. size (r .site s) + n ≤ 24) (acting-counted t isAppend (row .effects)) (h (rowPlan s t g row) refl)
+
+  message-fits : (o : Option (Row P)) → FitsPlan r (some (orNothing s (planned s t g o))) → Fits (moved g x o .effects) (r .site s)
+  unfolding planned moved orNothing FitsPlan rowPlan counted count select
+  message-fits none h = h (settling s (λ r. r)) refl
+  message-fits (some row) h =
+      subst (λ n. size (r .site s) + n ≤ 24) (acting-counted t isAppend (row .effects)) (h (rowPlan s t g row) refl)
+
+module _ (r : Run) (t : ℕ) where
+  step-fits : (s : ℕ) (i : Input) → FitsPlan r (step r t s i) → stepMove (r .transaction t) s i .found ≡ true
+      → Fits (stepMove (r .transaction t) s i .effects) (r .site s)
+  unfolding step stepMove
+  step-fits zero i = planned-fits r 0 t withCoordinator (r .transaction t) _
+  step-fits (suc n) i = planned-fits r (suc n) t (withParticipant (suc n)) (r .transaction t) _
+
+  or-fits : (s : ℕ) (i : Input) → FitsPlan r (some (orNothing s (step r t s i))) → Fits (stepMove (r .transaction t) s i .effects) (r .site s)
+  unfolding step stepMove
+  or-fits zero i = message-fits r 0 t withCoordinator (r .transaction t) _
+  or-fits (suc n) i = message-fits r (suc n) t (withParticipant (suc n)) (r .transaction t) _
+
+  pub upon-fits : (s kind p : ℕ) → FitsPlan r (uponInput r t s kind p) → (leb 16 kind && not (stepMove (r .transaction t) s (inputOf kind p) .found)) ≡ false
+      → Fits (stepMove (r .transaction t) s (inputOf kind p) .effects) (r .site s)
+  unfolding uponInput
+  upon-fits s kind p h e = go (leb 16 kind) (stepMove (r .transaction t) s (inputOf kind p) .found) refl h e
+    where
+      go : (b f : Bool) → stepMove (r .transaction t) s (inputOf kind p) .found ≡ f
+          → FitsPlan r (cond b (step r t s (inputOf kind p)) (some (orNothing s (step r t s (inputOf kind p))))) → (b && not f) ≡ false
+          → Fits (stepMove (r .transaction t) s (inputOf kind p) .effects) (r .site s)
+      go true true q h e = step-fits s (inputOf kind p) h q
+      go true false q h e = absurd (clash e)
+      go false f q h e = or-fits s (inputOf kind p) h
+
+-- ---- a move that was found to be the step's
+
+pub receiver-site : (x : Transaction) (s kind p : ℕ) → MayReceive x s kind p → s ≤ 8
+unfolding MayReceive
+receiver-site x zero kind p h = omega arith
+receiver-site x (suc n) kind p h = h .0
+
+module _ (r : Run) (t s kind p : ℕ) (m : Moved) (own : m ≡ stepMove (r .transaction t) s (inputOf kind p)) where
+  split : (a b : Bool) → (a && not b) ≡ true → (a ≡ true) × (b ≡ false)
+  split true true h = absurd (clash (sym h))
+  split true false h = (refl, refl)
+  split false b h = absurd (clash (sym h))
+
+  pub step-fitting : FitsPlan r (uponInput r t s kind p) → (leb 16 kind && not (m .found)) ≡ false → Fits (m .effects) (r .site s)
+  step-fitting f h =
+      subst (λ (m : Moved). (leb 16 kind && not (m .found)) ≡ false → Fits (m .effects) (r .site s)) (sym own) (upon-fits r t s kind p f) h
+
+  module _ (short : length (m .effects) ≤ 255) (cut keep : ℕ) where
+    short′ : length (stepMove (r .transaction t) s (inputOf kind p) .effects) ≤ 255
+    short′ = subst (λ (m : Moved). length (m .effects) ≤ 255) own short
+
+    pub step-unasked : (leb 16 kind && not (m .found)) ≡ true → refusedBy 8 r ≡ told (carryPlan r (uponInput r t s kind p) (cutFrom cut keep))
+    step-unasked h =
+        let q = split (leb 16 kind) (m .found) h in
+        sym (upon-refused r t cut keep s kind p short′ (q .0) (ap (λ (m : Moved). m .found) (sym own) ∙ q .1))
+
+    pub step-moved : (leb 16 kind && not (m .found)) ≡ false → movedTo r s t m cut keep ≡ told (carryPlan r (uponInput r t s kind p) (cutFrom cut keep))
+    step-moved h =
+        ap (λ (m : Moved). movedTo r s t m cut keep) own
+        ∙ sym (upon-moved r t cut keep s kind p short′ (subst (λ (m : Moved). (leb 16 kind && not (m .found)) ≡ false) own h))

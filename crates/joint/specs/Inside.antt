@@ -1,0 +1,249 @@
+-- What the program's inner functions promise each other. No reader has to believe it: proofs/ shows what it has to do with 01.
+use Prim.Native.Nat.{ℕ, zero, suc, _+_, _-_, _≤_}
+use mathlib.Core.Bool.{Bool, true, false, cond, _&&_, _||_}
+use mathlib.Core.List.{List, [], _∷_, _++_, map, flatten}
+use mathlib.Core.Option.{Option, none, some}
+use mathlib.Core.Path.{_≡_}
+use lib.ListN.{length, take, drop, getD}
+use lib.Dec.{eqb, leb}
+use Rattle.codec.specs.Lists.{select, first}
+use Rattle.codec.specs.Sets.{participants, member}
+use Rattle.codec.specs.Records.{LogRecord}
+use Rattle.site.specs.Step.{messageKind, Input, Effect, append, force, enter, send, Row}
+use Rattle.site.specs.Cohort.{presumptionOf}
+use Rattle.site.specs.Coordinator.{coordinatorStep, coordinatorRestart}
+use Rattle.site.specs.Participant.{participantStep, participantRestart}
+use Rattle.site.specs.Numbers.{inputOf, receives}
+use Rattle.site.specs.Answers.{effectsIn}
+use Rattle.joint.specs.State.{Run, Site, Transaction, appended, forced, withEntered, withSent, withCoordinator, withParticipant, update, down, opened, performAll}
+use Rattle.joint.specs.Event.{Event, cutAt}
+use Rattle.joint.specs.Refusals.{refusals}
+use Rattle.joint.specs.Plan.{Plan, plan, step, orNothing, restartAll, transactions}
+use Rattle.joint.specs.Run.{isAppend, isForce, isSend, count, Answer, carryUnless}
+use Rattle.joint.specs.Drill.{line, eventLines, entryLetter, transactionLine}
+use Rattle.joint.specs.Stand.{siteIn, transactionIn, runIn, accepted, refusalNumber, Told, told}
+use Rattle.joint.specs.declared.progress.Progress.{Progress}
+use Rattle.joint.specs.declared.moves.Move.{Move}
+use Rattle.joint.specs.declared.power.Restarting.{Restarting}
+
+-- ---- effects on one site and one transaction
+
+unfoldable pub siteAfter : ℕ → List Effect → Site → Site
+siteAfter t [] a = a
+siteAfter t (append k fs ∷ es) a = siteAfter t es (appended (record { kind = k; transaction = t; fields = fs }) a)
+siteAfter t (force ∷ es) a = siteAfter t es (forced a)
+siteAfter t (enter o ∷ es) a = siteAfter t es a
+siteAfter t (send m p ∷ es) a = siteAfter t es a
+
+unfoldable pub transactionAfter : ℕ → List Effect → Transaction → Transaction
+transactionAfter s [] x = x
+transactionAfter s (append k fs ∷ es) x = transactionAfter s es x
+transactionAfter s (force ∷ es) x = transactionAfter s es x
+transactionAfter s (enter o ∷ es) x = transactionAfter s es (withEntered s o x)
+transactionAfter s (send m p ∷ es) x = transactionAfter s es (withSent p (messageKind m) x)
+
+unfoldable pub counted : (Effect → Bool) → List Effect → ℕ
+counted f es = length (select f es)
+
+-- ---- effects as long as power lasts: `left` more may happen
+
+-- a site and a transaction in the midst of their effects, and how many have happened
+pub record Doing : Type 0 where
+  pub site : Site
+  pub transaction : Transaction
+  pub left : ℕ
+  pub records : ℕ
+  pub forces : ℕ
+  pub sends : ℕ
+
+unfoldable pub progressIn : Progress → Doing
+progressIn d =
+    record {
+      site = siteIn (d .site);
+      transaction = transactionIn (d .transaction);
+      left = d .left;
+      records = d .records;
+      forces = d .forces;
+      sends = d .sends;
+    }
+
+abbrev pub starting : Site → Transaction → ℕ → Doing
+starting a x n = record { site = a; transaction = x; left = n; records = 0; forces = 0; sends = 0 }
+
+-- the effects es of transaction t at site s
+unfoldable pub progressed : ℕ → ℕ → List Effect → Doing → Doing
+progressed s t es d =
+    let happen = take (d .left) es in
+    record {
+      site = siteAfter t happen (d .site);
+      transaction = transactionAfter s happen (d .transaction);
+      left = d .left - length es;
+      records = d .records + counted isAppend happen;
+      forces = d .forces + counted isForce happen;
+      sends = d .sends + counted isSend happen;
+    }
+
+-- no count can pass a byte
+pub record Counted (d : Doing) : Type 0 where
+  pub records : d .records + d .left ≤ 255
+  pub forces : d .forces + d .left ≤ 255
+  pub sends : d .sends + d .left ≤ 255
+
+-- how many records a log has
+unfoldable pub size : Site → ℕ
+size a = length (a .stable ++ a .unforced)
+
+-- where the oldest record that passes a test stands; behind the last one where none does
+unfoldable pub oldestAt : (LogRecord → Bool) → List LogRecord → ℕ
+oldestAt f [] = 0
+oldestAt f (x ∷ xs) = cond (f x) 0 (suc (oldestAt f xs))
+
+-- a log has room for the records that effects append
+abbrev pub Fits : List Effect → Site → Type 0
+Fits es a = size a + counted isAppend es ≤ 24
+
+-- ---- a transaction
+
+-- site s takes part in it
+unfoldable pub partIn : Transaction → ℕ → Bool
+partIn x zero = true
+partIn x (suc n) = member (suc n) (x .cohort .members)
+
+-- ---- one site's move in a transaction: whether there is a row; its effects; the transaction with the phase after them
+
+pub record Moved : Type 0 where
+  pub found : Bool
+  pub effects : List Effect
+  pub transaction : Transaction
+
+unfoldable pub moveIn : Move → Moved
+moveIn m = record { found = m .found; effects = effectsIn (m .effects); transaction = transactionIn (m .transaction) }
+
+unfoldable pub moved : {P : Type 0} → (P → Transaction → Transaction) → Transaction → Option (Row P) → Moved
+moved g x none = record { found = false; effects = []; transaction = x }
+moved g x (some row) = record { found = true; effects = row .effects; transaction = g (row .phase) x }
+
+-- what site s receives: a participant its own messages, the coordinator those of members
+unfoldable pub MayReceive : Transaction → ℕ → ℕ → ℕ → Type 0
+MayReceive x zero kind p = (receives 0 kind && (leb 16 kind || member p (x .cohort .members))) ≡ true
+MayReceive x (suc n) kind p = (suc n ≤ 8) × ((p ≡ suc n) × (receives 1 kind ≡ true))
+
+-- no row
+abbrev pub nowhere : Transaction → Moved
+nowhere x = record { found = false; effects = []; transaction = x }
+
+-- of site s
+unfoldable pub stepMove : Transaction → ℕ → Input → Moved
+stepMove x zero i = moved withCoordinator x (coordinatorStep (x .cohort) i (x .coordinator))
+stepMove x (suc n) i =
+    moved (withParticipant (suc n)) x (participantStep (presumptionOf (x .cohort) (suc n)) (suc n) i (x .participant (suc n)))
+
+unfoldable pub restartMove : Transaction → ℕ → (ℕ → Bool) → Moved
+restartMove x zero has = moved withCoordinator x (some (coordinatorRestart (x .cohort) has))
+restartMove x (suc n) has =
+    moved (withParticipant (suc n)) x (some (participantRestart (presumptionOf (x .cohort) (suc n)) (suc n) has))
+
+-- ---- the run
+
+-- a run with site s and transaction t as they are in the midst of effects
+unfoldable pub placed : ℕ → ℕ → Doing → Run → Run
+placed s t d r = record { site = update s (λ _. d .site) (r .site); transaction = update t (λ _. d .transaction) (r .transaction) }
+
+abbrev pub refusedBy : ℕ → Run → Told
+refusedBy n r = record { answer = refusalNumber n; run = r }
+
+abbrev pub acceptedAs : Answer → Run → Told
+acceptedAs a r = record { answer = a; run = r }
+
+-- r was before the event, r′ is after its effects, `left` more could have happened; the answer is a unless it is 9.
+-- Power goes at `cut`, 255 for none
+unfoldable pub ended : Run → Run → ℕ → ℕ → Answer → ℕ → ℕ → Told
+ended r r′ s left a cut keep =
+    cond (eqb cut 255) (acceptedAs a r′)
+    (cond (eqb left 0 && leb keep (length (r′ .site s .unforced))) (acceptedAs a (down s keep r′)) (refusedBy 9 r))
+
+-- the answer with the counts of the effects that happened
+abbrev pub counts : Doing → Answer
+counts d = record { number = 0; records = d .records; forces = d .forces; sends = d .sends }
+
+-- a move of site s in transaction t
+unfoldable pub movedTo : Run → ℕ → ℕ → Moved → ℕ → ℕ → Told
+movedTo r s t m cut keep =
+    let d = progressed s t (m .effects) (starting (r .site s) (m .transaction) cut) in
+    ended r (placed s t d r) s (d .left) (counts d) cut keep
+
+-- the plan of a step; begin and timer are refused where there is no row, and a message has no effect then
+unfoldable pub uponInput : Run → ℕ → ℕ → ℕ → ℕ → Option Plan
+uponInput r t s kind p =
+    let found = step r t s (inputOf kind p) in
+    cond (leb 16 kind) found (some (orNothing s found))
+
+-- the log of a plan's site has room for the records that it appends
+unfoldable pub FitsPlan : Run → Option Plan → Type 0
+FitsPlan r o = (p : Plan) → o ≡ some p → size (r .site (p .site)) + count isAppend (p .acts) ≤ 24
+
+-- ---- restart
+
+-- the run after the restart's effects, how many more could have happened, and the answer
+pub record Again : Type 0 where
+  pub run : Run
+  pub left : ℕ
+  pub answer : Answer
+
+unfoldable pub restartingIn : Restarting → Again
+restartingIn x = record { run = runIn (x .run); left = x .left; answer = accepted (x .counts) }
+
+unfoldable pub restarted : Run → ℕ → ℕ → Again
+restarted r s cut =
+    let p = restartAll r s (select (opened r) transactions) in
+    let happen = take cut (p .acts) in
+    record {
+      run = p .settle (performAll s happen r);
+      left = cut - length (p .acts);
+      answer = record { number = 0; records = count isAppend happen; forces = count isForce happen; sends = count isSend happen };
+    }
+
+-- ---- events
+
+-- an event that refusal 1 does not strike
+unfoldable pub taken : Run → Event → Option (ℕ × ℕ) → Told
+taken r e c = told (carryUnless (first (refusals r e)) r (record { event = e; cut = c }))
+
+-- 255 for no cut
+abbrev pub cutFrom : ℕ → ℕ → Option (ℕ × ℕ)
+cutFrom cut keep = cutAt false (eqb cut 255) cut keep
+
+-- where an event is not refused, the log of its site has room for the records that it appends
+unfoldable pub Roomy : Run → Event → Type 0
+Roomy r e = first (refusals r e) ≡ 0 → FitsPlan r (plan r e)
+
+-- ---- the drill
+
+-- n answers of four bytes each
+unfoldable pub answersIn : ℕ → List ℕ → List Answer
+answersIn zero bytes = []
+answersIn (suc n) bytes =
+    record { number = getD bytes 0 0; records = getD bytes 1 0; forces = getD bytes 2 0; sends = getD bytes 3 0 } ∷ answersIn n (drop 4 bytes)
+
+abbrev pub linesOf : ℕ → List ℕ → List ℕ
+linesOf n bytes = eventLines 1 (answersIn n bytes)
+
+-- the line of event n, whose answer stands from `at` on
+abbrev pub lineAt : ℕ → List ℕ → ℕ → List ℕ
+lineAt n bytes at =
+    line (n ∷ getD bytes at 0 ∷ getD bytes (at + 1) 0 ∷ getD bytes (at + 2) 0 ∷ getD bytes (at + 3) 0 ∷ [])
+
+-- a letter for each site
+unfoldable pub letters : Run → ℕ → List ℕ
+letters r t = map (entryLetter (r .transaction t)) (0 ∷ participants)
+
+-- the opened transactions, and their lines
+abbrev pub openedIn : Run → List ℕ
+openedIn r = select (opened r) transactions
+
+abbrev pub transactionLines : Run → List ℕ
+transactionLines r = flatten (map (transactionLine r) (openedIn r))
+
+-- the lines of n answers and of a run's opened transactions
+abbrev pub textOf : ℕ → List ℕ → Run → List ℕ
+textOf n bytes r = linesOf n bytes ++ transactionLines r
