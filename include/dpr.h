@@ -1,20 +1,22 @@
-/* dpr.h: log images, message numbers and one site's step of the handover engine, for C and C++ firmware.
+/* dpr.h: log images, message numbers, one site's step and the drill of the handover engine, for C and C++ firmware.
  *
- * Link libcodec.a for dpr_image_copy and dpr_message_parts, and libsite.a for dpr_site_step; neither needs the other.
- * `rt staticlib codec` and `rt staticlib site` write them to target/staticlib. They are compiled for x86-64, and need
- * nothing of the C library but, at most, memcpy, memmove, memset, memcmp and bcmp.
+ * Link libcodec.a for dpr_image_copy and dpr_message_parts, libsite.a for dpr_site_step, and libjoint.a for dpr_drill;
+ * none needs another. `rt staticlib codec`, `rt staticlib site` and `rt staticlib joint` write them to target/staticlib.
+ * They are compiled for x86-64, and need nothing of the C library but, at most, memcpy, memmove, memset, memcmp and bcmp.
  *
  * dpr_image_copy and dpr_message_parts return a number: DPR_ACCEPTED, or the number of a refusal. A refusal leaves the
  * caller's memory as it was. dpr_site_step returns eight bytes in one number; the lowest of them is such an answer.
+ * dpr_drill returns the length of its text, whose lines hold such answers.
  * Every value of every number, length and byte is answered; there is no error beside these numbers.
  * No call allocates, keeps state from one call to the next, waits or blocks. Calls may run at the same time, also from an
  * interrupt, as long as no memory that one of them writes is in use by another.
  *
  * The caller sees to this, and no call can check it:
  * - each pointer is valid for the length given with it: `image` to read `image_len` bytes, `buffer` to read and write
- *   `buffer_len` bytes, `parts` to read and write three bytes; no alignment is needed;
+ *   `buffer_len` bytes, `parts` to read and write three bytes, `events` to read `len` bytes, `text` to read and write
+ *   `text_len` bytes; no alignment is needed;
  * - no pointer is null. For a length of 0 any other pointer will do, since nothing is read or written through it;
- * - `image` and `buffer` do not overlap in any byte, whatever the offset.
+ * - `image` and `buffer` do not overlap in any byte, whatever the offset; nor do `events` and `text`.
  */
 #ifndef DPR_H
 #define DPR_H
@@ -169,6 +171,23 @@ uint8_t dpr_message_parts(uint16_t number, uint8_t parts[3]);
  * which. */
 uint64_t dpr_site_step(uint8_t site, uint8_t kind, uint8_t handover, uint8_t box, uint8_t presumption, uint8_t phase,
                        uint8_t waiting, uint8_t members, uint8_t presume_commit);
+
+/* The drill. An event is six bytes: code, x, y, z, cut, keep. Not more than the first DPR_DRILL_BYTES_MAX bytes are read,
+ * which are 10,000 events; no text is longer than DPR_DRILL_TEXT_MAX bytes. */
+#define DPR_EVENT_BYTES 6
+#define DPR_DRILL_BYTES_MAX 60000
+#define DPR_DRILL_TEXT_MAX 139062 /* 10,000 lines with numbers to 10000 and 64 sends, and 8 lines of handovers */
+
+/* Runs the events in the `len` bytes at `events` from a fresh run, one after another, and writes the drill's whole text
+ * from the start of the `text_len` bytes at `text`. Each event has a line: its number from 1, its answer (0, or 1 to 9
+ * for a refusal), and how many records, forces and sends happened. A broken last event, of 1 to 5 bytes, answers 1. Then
+ * each opened handover has a line: HANDOVER, its number, and for each of the sites 0 to 8 a letter: C (commit was
+ * entered), A (abort), X (both) or - (none). Every line ends with a newline, and no zero byte follows the text.
+ *
+ * Returns the length of the text, which has been written; the bytes of the buffer behind it are as they were.
+ * Returns 0 where `text_len` is under that length, and then nothing has been written. Without events the text is empty:
+ * 0, and nothing is written. */
+size_t dpr_drill(const uint8_t *events, size_t len, uint8_t *text, size_t text_len);
 
 #ifdef __cplusplus
 }

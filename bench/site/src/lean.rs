@@ -2,31 +2,31 @@
 //! The larger functions are always inlined: left to the compiler, a call takes a third more instructions.
 
 /// Message kinds; begin and timer are kinds of their own.
-const PREPARE: u8 = 0;
-const YES: u8 = 1;
-const NO: u8 = 2;
-const COMMIT: u8 = 3;
-const ABORT: u8 = 4;
-const COMMIT_ACK: u8 = 5;
-const ABORT_ACK: u8 = 6;
-const BEGIN: u8 = 16;
-const TIMER: u8 = 17;
+pub const PREPARE: u8 = 0;
+pub const YES: u8 = 1;
+pub const NO: u8 = 2;
+pub const COMMIT: u8 = 3;
+pub const ABORT: u8 = 4;
+pub const COMMIT_ACK: u8 = 5;
+pub const ABORT_ACK: u8 = 6;
+pub const BEGIN: u8 = 16;
+pub const TIMER: u8 = 17;
 
 /// Phases of the coordinator.
-const OPEN: u8 = 0;
-const COLLECTING: u8 = 1;
-const COMMITTING: u8 = 2;
-const ABORTING: u8 = 3;
+pub const OPEN: u8 = 0;
+pub const COLLECTING: u8 = 1;
+pub const COMMITTING: u8 = 2;
+pub const ABORTING: u8 = 3;
 /// Phases of a participant.
-const WORKING: u8 = 0;
-const PREPARED: u8 = 1;
-const COMMITTED: u8 = 2;
-const ABORTED: u8 = 3;
+pub const WORKING: u8 = 0;
+pub const PREPARED: u8 = 1;
+pub const COMMITTED: u8 = 2;
+pub const ABORTED: u8 = 3;
 /// The last phase of both.
-const UNKNOWN: u8 = 4;
+pub const UNKNOWN: u8 = 4;
 
 #[derive(Clone, Copy)]
-enum Record {
+pub enum Record {
     Init = 1,
     Commit,
     CommitEnd,
@@ -37,7 +37,7 @@ enum Record {
 }
 
 #[derive(Clone, Copy)]
-enum Outcome {
+pub enum Outcome {
     Commit = 1,
     Abort,
 }
@@ -46,15 +46,15 @@ const REFUSED: u64 = 1;
 
 /// Phase and waiting set after a step, and its effects, each in its byte of the result.
 #[derive(Clone, Copy)]
-struct Step(u64);
+pub struct Step(pub u64);
 
 impl Step {
-    fn to_phase(phase: u8, waiting: u8) -> Step {
+    pub fn to_phase(phase: u8, waiting: u8) -> Step {
         Step(0).with(1, phase).with(2, waiting)
     }
 
     /// The phase that waits for these acks; without any, Unknown.
-    fn awaiting(phase: u8, acks: u8) -> Step {
+    pub fn awaiting(phase: u8, acks: u8) -> Step {
         Step::to_phase(if acks == 0 { UNKNOWN } else { phase }, acks)
     }
 
@@ -66,12 +66,12 @@ impl Step {
         self.with(4, 1)
     }
 
-    fn enter(self, outcome: Outcome) -> Step {
+    pub fn enter(self, outcome: Outcome) -> Step {
         self.with(5, outcome as u8)
     }
 
     /// To nobody, it is no message.
-    fn send(self, message: u8, to: u8) -> Step {
+    pub fn send(self, message: u8, to: u8) -> Step {
         if to == 0 {
             self
         } else {
@@ -86,7 +86,7 @@ impl Step {
 
 /// The coordinator's step on a message of the participant whose bit is `sender`, on begin or on timer.
 #[inline(always)]
-fn coordinator(kind: u8, sender: u8, phase: u8, waiting: u8, members: u8, presume_commit: u8) -> Step {
+pub fn coordinator(kind: u8, sender: u8, phase: u8, waiting: u8, members: u8, presume_commit: u8) -> Step {
     let same = Step::to_phase(phase, waiting);
     match (kind, phase) {
         (BEGIN, OPEN) => {
@@ -137,7 +137,7 @@ fn acknowledged(phase: u8, missing: u8, end: Record) -> Step {
 
 /// The step of the participant whose bit is `own`.
 #[inline(always)]
-fn participant(kind: u8, own: u8, presumes_commit: bool, phase: u8) -> Step {
+pub fn participant(kind: u8, own: u8, presumes_commit: bool, phase: u8) -> Step {
     let same = Step::to_phase(phase, 0);
     match (kind, phase) {
         (PREPARE, WORKING) => Step::to_phase(PREPARED, 0).append(Record::Prepared).force().send(YES, own),

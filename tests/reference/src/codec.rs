@@ -83,11 +83,27 @@ const LENGTH: [usize; 8] = [0, 4, 4, 2, 2, 3, 2, 2];
 
 impl LogRecord {
     pub fn kind(&self) -> u8 {
-        self.bytes()[0]
+        match self {
+            LogRecord::Init { .. } => 1,
+            LogRecord::Commit { .. } => 2,
+            LogRecord::CommitEnd { .. } => 3,
+            LogRecord::AbortEnd { .. } => 4,
+            LogRecord::Prepared { .. } => 5,
+            LogRecord::Committed { .. } => 6,
+            LogRecord::Aborted { .. } => 7,
+        }
     }
 
     pub fn transaction(&self) -> u8 {
-        self.bytes()[1]
+        match *self {
+            LogRecord::Init { transaction, .. }
+            | LogRecord::Commit { transaction, .. }
+            | LogRecord::CommitEnd { transaction }
+            | LogRecord::AbortEnd { transaction }
+            | LogRecord::Prepared { transaction, .. }
+            | LogRecord::Committed { transaction }
+            | LogRecord::Aborted { transaction } => transaction,
+        }
     }
 
     pub fn bytes(&self) -> Vec<u8> {

@@ -10,14 +10,20 @@ pub fn drill_events(input: &[u8]) -> std::slice::Chunks<'_, u8> {
 
 /// The drill's output lines.
 pub fn drill(input: &[u8]) -> Vec<String> {
+    watched_drill(input, |_, _| {}).0
+}
+
+/// The drill's output lines and the run after it; `watch` gets each event with the run before it.
+pub fn watched_drill(input: &[u8], mut watch: impl FnMut(&Run, &[u8])) -> (Vec<String>, Run) {
     let mut run = Run::fresh();
     let mut lines = Vec::new();
     for (i, event) in drill_events(input).enumerate() {
+        watch(&run, event);
         let a = run.event(event);
         lines.push(format!("{} {} {} {} {}", i + 1, a.number, a.records, a.forces, a.sends));
     }
     lines.extend(run.handover_lines());
-    lines
+    (lines, run)
 }
 
 impl Run {

@@ -126,7 +126,7 @@ fn transactions_to_open(rng: &mut Rng) -> Vec<Event> {
 }
 
 /// A mask of so many participants.
-fn random_mask(rng: &mut Rng, size: usize) -> Mask {
+pub fn random_mask(rng: &mut Rng, size: usize) -> Mask {
     let mut mask = 0u8;
     while mask.count_ones() < size as u32 {
         mask |= bit(1 + rng.below(8) as u8);
@@ -226,7 +226,7 @@ fn changes(run: &Run, plan: &Plan) -> bool {
     !effects.is_empty() || phases.iter().any(|&(h, phase)| moved(h, phase))
 }
 
-fn some_keep(rng: &mut Rng, unforced: usize) -> u8 {
+pub fn some_keep(rng: &mut Rng, unforced: usize) -> u8 {
     match rng.below(3) {
         0 => 0,
         1 => unforced as u8,
@@ -235,7 +235,7 @@ fn some_keep(rng: &mut Rng, unforced: usize) -> u8 {
 }
 
 /// The same event with a cut within its effects and a keep within the unforced records.
-fn with_cut(rng: &mut Rng, run: &Run, mut event: Event) -> Event {
+pub fn with_cut(rng: &mut Rng, run: &Run, mut event: Event) -> Event {
     if let Ok(Plan::Row { site, effects, .. }) = run.judge(&event) {
         let cut = rng.below(effects.len() + 1);
         event[4] = cut as u8;
@@ -292,7 +292,7 @@ fn faulty_event(rng: &mut Rng, run: &Run, opens: &[Event], style: &Style) -> Eve
 }
 
 /// Fields near their ranges.
-fn small_event(rng: &mut Rng) -> Event {
+pub fn small_event(rng: &mut Rng) -> Event {
     let code = rng.below(9) as u8;
     let x = if rng.percent(40) { 0 } else { rng.below(9) as u8 };
     let y = if code == 0 { rng.byte() } else { rng.below(10) as u8 };
@@ -306,7 +306,7 @@ fn small_event(rng: &mut Rng) -> Event {
     [code, x, y, z, cut, keep]
 }
 
-fn wild_event(rng: &mut Rng) -> Event {
+pub fn wild_event(rng: &mut Rng) -> Event {
     if rng.percent(70) {
         return small_event(rng);
     }

@@ -1,0 +1,382 @@
+//! The joint run of the drill in plain Rust. A set of participants is a mask, and so are the kinds of the stable records of
+//! a transaction at a site, since these stand in rising order.
+
+use crate::step::*;
+
+pub const EVENT: usize = 6;
+const NO_CUT: u8 = 255;
+/// Bits of the records' kinds.
+const INIT: u8 = 1 << 1;
+const COMMIT_RECORD: u8 = 1 << 2;
+const COMMIT_END: u8 = 1 << 3;
+const ABORT_END: u8 = 1 << 4;
+const PREPARED_RECORD: u8 = 1 << 5;
+const COMMITTED_RECORD: u8 = 1 << 6;
+const ABORTED_RECORD: u8 = 1 << 7;
+
+#[derive(Clone, Copy, Default)]
+pub struct Answer {
+    pub number: u8,
+    pub records: u8,
+    pub forces: u8,
+    pub sends: u8,
+}
+
+/// A transaction; without members it is not opened.
+#[derive(Clone, Copy, Default)]
+pub struct Transaction {
+    pub members: u8,
+    presume_commit: u8,
+    /// The participants whose message of each kind was sent.
+    sent: [u8; 7],
+    /// Sites that entered commit, and abort.
+    pub committed: u16,
+    pub aborted: u16,
+}
+
+impl Transaction {
+    /// Who owes an ack for this message.
+    fn owing(&self, message: u8) -> u8 {
+        match message {
+            COMMIT => self.members & !self.presume_commit,
+            ABORT => self.presume_commit,
+            _ => 0,
+        }
+    }
+}
+
+#[derive(Clone, Copy)]
+struct Site {
+    /// The phase of each transaction here.
+    phases: [u8; 8],
+    /// Kinds of the stable records of each transaction.
+    stable: [u8; 8],
+    /// Transaction and bit of the kind, the oldest first. Each transaction has one at most between two events.
+    unforced: [(u8, u8); 10],
+    count: u8,
+}
+
+impl Site {
+    fn append(&mut self, h: u8, kind: u8) {
+        self.unforced[self.count as usize] = (h, kind);
+        self.count += 1;
+    }
+
+    /// The oldest unforced records become stable, the others are lost.
+    fn keep(&mut self, keep: u8) {
+        for &(h, kind) in &self.unforced[..keep as usize] {
+            self.stable[h as usize] |= kind;
+        }
+        self.count = 0;
+    }
+}
+
+pub struct Run {
+    /// Bit s: site s is up.
+    up: u16,
+    pub transactions: [Transaction; 8],
+    /// The sets that the coordinator waits for.
+    waiting: [u8; 8],
+    sites: [Site; 9],
+}
+
+fn bit(participant: u8) -> u8 {
+    1 << (participant - 1)
+}
+
+/// The first n of a set, lowest first.
+fn lowest(mut set: u8, n: u32) -> u8 {
+    if n >= set.count_ones() {
+        return set;
+    }
+    let all = set;
+    for _ in 0..n {
+        set &= set - 1;
+    }
+    all & !set
+}
+
+fn effects(Step(row): Step) -> u32 {
+    let [_, _, _, record, force, outcome, _, to] = row.to_le_bytes();
+    (record != 0) as u32 + force as u32 + (outcome != 0) as u32 + to.count_ones()
+}
+
+impl Run {
+    pub fn fresh() -> Run {
+        let site = Site { phases: [UNKNOWN; 8], stable: [0; 8], unforced: [(0, 0); 10], count: 0 };
+        Run { up: 0x1FF, transactions: [Transaction::default(); 8], waiting: [0; 8], sites: [site; 9] }
+    }
+
+    fn is_up(&self, site: u8) -> bool {
+        self.up >> site & 1 != 0
+    }
+
+    /// An opened transaction; the site is the coordinator or a member.
+    fn member(&self, h: u8, site: u8) -> Result<&Transaction, u8> {
+        let t = &self.transactions[h as usize & 7];
+        if t.members == 0 {
+            return Err(3);
+        }
+        if site != 0 && t.members & bit(site) == 0 {
+            return Err(4);
+        }
+        Ok(t)
+    }
+
+    /// One event: its answer with counts, or the number of a refusal.
+    pub fn event(&mut self, &[code, x, y, z, cut, keep]: &[u8; EVENT]) -> Result<Answer, u8> {
+        if match code {
+            0 => x > 7 || y == 0 || z & !y != 0 || cut != NO_CUT || keep != 0,
+            1 => x > 7 || y != 0 || z != 0 || cut == NO_CUT && keep != 0,
+            2 => x > 7 || y == 0 || y > 8 || z > ABORT_ACK || cut == NO_CUT && keep != 0,
+            3 => x > 7 || y > 8 || z != 0 || cut == NO_CUT && keep != 0,
+            4 => x != 0 || y > 8 || z != 0 || cut != NO_CUT || keep != 0,
+            5 => x > 7 || y > 8 || z != 0 || cut != NO_CUT || keep != 0,
+            6 => x != 0 || y > 8 || z != 0 || cut != NO_CUT,
+            7 => x != 0 || y > 8 || z != 0 || cut == NO_CUT && keep != 0,
+            _ => true,
+        } {
+            return Err(1);
+        }
+        match code {
+            0 => self.open(x, y, z),
+            1 => {
+                let t = self.member(x, 0)?;
+                let (members, presume_commit) = (t.members, t.presume_commit);
+                if !self.is_up(0) {
+                    return Err(5);
+                }
+                if self.sites[0].phases[x as usize] != OPEN {
+                    return Err(8);
+                }
+                self.step(0, x, coordinator(BEGIN, 0, OPEN, 0, members, presume_commit), cut, keep)
+            }
+            2 => self.deliver(x, y, z, cut, keep),
+            3 => {
+                self.member(x, y)?;
+                if !self.is_up(y) {
+                    return Err(5);
+                }
+                let phase = self.sites[y as usize].phases[x as usize];
+                let none = if y == 0 { matches!(phase, OPEN | UNKNOWN) } else { phase > PREPARED };
+                if none {
+                    return Err(8);
+                }
+                let row = self.row(x, y, TIMER, if y == 0 { 0 } else { bit(y) });
+                self.step(y, x, row, cut, keep)
+            }
+            4 => {
+                if !self.is_up(y) {
+                    return Err(5);
+                }
+                let site = &mut self.sites[y as usize];
+                site.keep(site.count);
+                Ok(Answer { forces: 1, ..Answer::default() })
+            }
+            5 => self.discard(x, y),
+            6 => {
+                if !self.is_up(y) {
+                    return Err(5);
+                }
+                if keep > self.sites[y as usize].count {
+                    return Err(9);
+                }
+                self.down(y, keep);
+                Ok(Answer::default())
+            }
+            _ => self.restart(y, cut, keep),
+        }
+    }
+
+    fn open(&mut self, h: u8, members: u8, presume_commit: u8) -> Result<Answer, u8> {
+        let t = &mut self.transactions[h as usize];
+        if t.members != 0 {
+            return Err(2);
+        }
+        let needed = (members as u16) << 1 | 1;
+        if self.up & needed != needed {
+            return Err(5);
+        }
+        *t = Transaction { members, presume_commit, ..Transaction::default() };
+        self.sites[0].phases[h as usize] = OPEN;
+        for b in (1..=8).filter(|&b| members & bit(b) != 0) {
+            self.sites[b as usize].phases[h as usize] = WORKING;
+        }
+        Ok(Answer::default())
+    }
+
+    fn deliver(&mut self, h: u8, b: u8, kind: u8, cut: u8, keep: u8) -> Result<Answer, u8> {
+        let t = self.member(h, b)?;
+        let receiver = if matches!(kind, PREPARE | COMMIT | ABORT) { b } else { 0 };
+        if !self.is_up(receiver) {
+            return Err(5);
+        }
+        if t.sent[kind as usize] & bit(b) == 0 {
+            return Err(7);
+        }
+        let row = self.row(h, receiver, kind, bit(b));
+        self.step(receiver, h, row, cut, keep)
+    }
+
+    /// The row of a message or a timer; `named` is the participant's bit, 0 for the coordinator's timer.
+    fn row(&self, h: u8, site: u8, kind: u8, named: u8) -> Step {
+        let t = &self.transactions[h as usize];
+        let phase = self.sites[site as usize].phases[h as usize];
+        if site == 0 {
+            coordinator(kind, named, phase, self.waiting[h as usize], t.members, t.presume_commit)
+        } else {
+            participant(kind, named, t.presume_commit & named != 0, phase)
+        }
+    }
+
+    fn step(&mut self, site: u8, h: u8, row: Step, cut: u8, keep: u8) -> Result<Answer, u8> {
+        let mut answer = Answer::default();
+        if cut == NO_CUT {
+            self.perform(site, h, row, NO_CUT as u32, &mut answer);
+            self.enter_phase(site, h, row);
+            return Ok(answer);
+        }
+        let (cut, all) = (cut as u32, effects(row));
+        if cut > all {
+            return Err(9);
+        }
+        let [_, _, _, record, force, ..] = row.0.to_le_bytes();
+        let place = if record == Record::AbortEnd as u8 { all } else { 1 };
+        let appended = record != 0 && cut >= place;
+        let forced = force != 0 && cut >= 2;
+        let unforced = if forced { 0 } else { self.sites[site as usize].count + appended as u8 };
+        if keep > unforced {
+            return Err(9);
+        }
+        self.perform(site, h, row, cut, &mut answer);
+        self.down(site, keep);
+        Ok(answer)
+    }
+
+    fn enter_phase(&mut self, site: u8, h: u8, Step(row): Step) {
+        let [_, phase, waiting, ..] = row.to_le_bytes();
+        self.sites[site as usize].phases[h as usize] = phase;
+        if site == 0 {
+            self.waiting[h as usize] = waiting;
+        }
+    }
+
+    /// The first effects of a row. How many are left to happen.
+    fn perform(&mut self, site: u8, h: u8, Step(row): Step, mut left: u32, answer: &mut Answer) -> u32 {
+        let [_, _, _, record, force, outcome, message, to] = row.to_le_bytes();
+        let log = &mut self.sites[site as usize];
+        let last = record == Record::AbortEnd as u8;
+        if record != 0 && !last && left > 0 {
+            log.append(h, 1 << record);
+            answer.records += 1;
+            left -= 1;
+        }
+        if force != 0 && left > 0 {
+            log.keep(log.count);
+            answer.forces += 1;
+            left -= 1;
+        }
+        let t = &mut self.transactions[h as usize];
+        if outcome != 0 && left > 0 {
+            let entered = if outcome == Outcome::Commit as u8 { &mut t.committed } else { &mut t.aborted };
+            *entered |= 1 << site;
+            left -= 1;
+        }
+        if to != 0 {
+            let owing = to & t.owing(message);
+            let first = lowest(owing, left);
+            let rest = lowest(to & !owing, left - first.count_ones());
+            t.sent[message as usize] |= first | rest;
+            let sends = (first | rest).count_ones();
+            answer.sends += sends as u8;
+            left -= sends;
+        }
+        if last && left > 0 {
+            self.sites[site as usize].append(h, ABORT_END);
+            answer.records += 1;
+            left -= 1;
+        }
+        left
+    }
+
+    fn down(&mut self, site: u8, keep: u8) {
+        self.up &= !(1 << site);
+        let log = &mut self.sites[site as usize];
+        log.keep(keep);
+        log.phases = [UNKNOWN; 8];
+        if site == 0 {
+            self.waiting = [0; 8];
+        }
+    }
+
+    fn discard(&mut self, h: u8, site: u8) -> Result<Answer, u8> {
+        let t = *self.member(h, site)?;
+        if !self.is_up(site) {
+            return Err(5);
+        }
+        let log = &mut self.sites[site as usize];
+        let stable = &mut log.stable[h as usize];
+        let closed = match *stable {
+            0..COMMIT_RECORD => false,
+            COMMIT_RECORD..COMMIT_END => t.members == t.presume_commit,
+            COMMIT_END..PREPARED_RECORD => true,
+            newest => newest >= COMMITTED_RECORD,
+        };
+        if !closed {
+            return Err(8);
+        }
+        *stable &= *stable - 1;
+        if *stable == 0 && site != 0 {
+            log.phases[h as usize] = UNKNOWN;
+        }
+        Ok(Answer::default())
+    }
+
+    /// The row of a restart, for one transaction.
+    fn restarted(&self, site: u8, h: u8) -> Step {
+        let t = &self.transactions[h as usize];
+        let stable = self.sites[site as usize].stable[h as usize];
+        let has = |records: u8| stable & records != 0;
+        let unknown = Step::to_phase(UNKNOWN, 0);
+        if stable == 0 {
+            unknown
+        } else if has(COMMIT_RECORD) && !has(COMMIT_END) {
+            let acks = t.members & !t.presume_commit;
+            let told = if acks == 0 { 0 } else { t.members };
+            Step::awaiting(COMMITTING, acks).enter(Outcome::Commit).send(COMMIT, told)
+        } else if has(INIT) && !has(COMMIT_RECORD | ABORT_END) {
+            Step::to_phase(ABORTING, t.presume_commit).enter(Outcome::Abort).send(ABORT, t.members)
+        } else if has(COMMITTED_RECORD) {
+            Step::to_phase(COMMITTED, 0).enter(Outcome::Commit)
+        } else if has(ABORTED_RECORD) {
+            Step::to_phase(ABORTED, 0).enter(Outcome::Abort)
+        } else if has(PREPARED_RECORD) {
+            Step::to_phase(PREPARED, 0).send(YES, bit(site))
+        } else {
+            unknown
+        }
+    }
+
+    fn restart(&mut self, site: u8, cut: u8, keep: u8) -> Result<Answer, u8> {
+        if self.is_up(site) {
+            return Err(6);
+        }
+        let mut left = cut as u32;
+        // a site that is down has no unforced record
+        if cut != NO_CUT && (keep > 0 || left > (0..8).map(|h| effects(self.restarted(site, h))).sum()) {
+            return Err(9);
+        }
+        let mut answer = Answer::default();
+        for h in 0..8 {
+            let row = self.restarted(site, h);
+            left = self.perform(site, h, row, left, &mut answer);
+            if cut == NO_CUT {
+                self.enter_phase(site, h, row);
+            }
+        }
+        if cut == NO_CUT {
+            self.up |= 1 << site;
+        }
+        Ok(answer)
+    }
+}

@@ -1,0 +1,127 @@
+/* dpr_drill as a C firmware calls it: K1 to K9 of document 01, the examples of its table of refusals, and buffers of every
+ * length around the text's. The whole text and all the memory around is compared; the first difference ends the program. */
+#include "dpr.h"
+
+#include <stdio.h>
+#include <stdlib.h>
+#include <string.h>
+
+_Static_assert(DPR_DRILL_BYTES_MAX == 10000 * DPR_EVENT_BYTES, "10,000 events");
+
+enum { GUARD = 64, FILL = 0xEE };
+
+static unsigned checks;
+static uint8_t memory[GUARD + DPR_DRILL_TEXT_MAX + GUARD], untouched[sizeof memory];
+
+static void expect(int ok, const char *name, const char *what, const char *wanted, size_t length) {
+  checks++;
+  if (!ok) {
+    fprintf(stderr, "FAILED: %s: %s\n%s  got %zu bytes:\n%.*s\n", name, what, wanted, length, (int)(length < 400 ? length : 400),
+            (const char *)memory + GUARD);
+    exit(1);
+  }
+}
+
+/* One call with a buffer of `room` bytes full of EE, with bytes EE on both sides of it. */
+static void drill(const char *name, const char *wanted, const uint8_t *events, size_t len, size_t room) {
+  size_t length = strlen(wanted), written = length <= room ? length : 0;
+  memset(memory, FILL, sizeof memory);
+  size_t got = dpr_drill(events, len, memory + GUARD, room);
+  expect(got == written, name, "wrong length", wanted, got);
+  expect(memcmp(memory + GUARD, wanted, written) == 0, name, "wrong text", wanted, got);
+  memset(memory + GUARD, FILL, written);
+  expect(memcmp(memory, untouched, sizeof memory) == 0, name, "a byte beside the text was written", wanted, got);
+}
+
+/* With room, with room for exactly the text, and without. */
+static void drills(const char *name, const char *wanted, const uint8_t *events, size_t len) {
+  size_t length = strlen(wanted);
+  drill(name, wanted, events, len, DPR_DRILL_TEXT_MAX);
+  for (size_t room = 0; room <= length + 2; room++)
+    drill(name, wanted, events, len, room);
+}
+
+#define DRILL(name, wanted, ...)                   \
+  do {                                             \
+    const uint8_t events[] = {__VA_ARGS__};        \
+    drills(name, wanted, events, sizeof events);   \
+  } while (0)
+
+#define NONE 0xFF, 0 /* no cut, no keep */
+#define OPEN(handover, members, presume_commit) 0, handover, members, presume_commit, NONE
+#define BEGIN(handover) 1, handover, 0, 0, NONE
+#define DELIVER(box, kind) 2, 0, box, kind, NONE
+#define DELIVER_CUT(box, kind, cut, keep) 2, 0, box, kind, cut, keep
+#define TIMER(site) 3, 0, site, 0, NONE
+#define FORCE(site) 4, 0, site, 0, NONE
+#define DISCARD(site) 5, 0, site, 0, NONE
+#define CRASH(site) 6, 0, site, 0, NONE
+#define RESTART(site) 7, 0, site, 0, NONE
+
+/* K1's first three events, all of it, and K2 */
+#define VOTED OPEN(0, 1, 1), BEGIN(0), DELIVER(1, DPR_PREPARE)
+#define K1 VOTED, DELIVER(1, DPR_YES), DELIVER(1, DPR_COMMIT)
+#define K2 OPEN(0, 1, 0), BEGIN(0), DELIVER(1, DPR_PREPARE), DELIVER(1, DPR_YES), DELIVER(1, DPR_COMMIT), DELIVER(1, DPR_COMMIT_ACK)
+#define VOTED_TEXT "1 0 0 0 0\n2 0 1 1 1\n3 0 1 1 1\n"
+#define K1_TEXT VOTED_TEXT "4 0 1 1 1\n5 0 1 0 0\n"
+#define K2_TEXT "1 0 0 0 0\n2 0 0 0 1\n3 0 1 1 1\n4 0 1 1 1\n5 0 1 1 1\n6 0 1 0 0\n"
+#define NOTHING "HANDOVER 0 ---------\n"
+#define BOTH_COMMIT "HANDOVER 0 CC-------\n"
+
+static void examples(void) {
+  DRILL("K1", K1_TEXT BOTH_COMMIT, K1);
+  DRILL("K2", K2_TEXT BOTH_COMMIT, K2);
+  DRILL("K3", K2_TEXT "7 0 0 0 1\n8 0 0 0 0\n" BOTH_COMMIT, K2, DELIVER(1, DPR_YES), DELIVER(1, DPR_ABORT));
+  DRILL("K4", VOTED_TEXT "4 0 1 0 0\n5 0 0 0 1\nHANDOVER 0 A--------\n", VOTED, DELIVER_CUT(1, DPR_YES, 1, 0), RESTART(0));
+  DRILL("K5", VOTED_TEXT "4 0 1 0 0\n5 0 0 0 0\n6 0 0 0 1\n7 0 1 0 0\n" BOTH_COMMIT, VOTED, DELIVER_CUT(1, DPR_YES, 1, 1), RESTART(0),
+        DELIVER(1, DPR_YES), DELIVER(1, DPR_COMMIT));
+  DRILL("K6, cut 4", VOTED_TEXT "4 0 1 1 1\nHANDOVER 0 C--------\n", VOTED, DELIVER_CUT(1, DPR_YES, 4, 0));
+  DRILL("K6, cut 5", VOTED_TEXT "4 9 0 0 0\n" NOTHING, VOTED, DELIVER_CUT(1, DPR_YES, 5, 0));
+  DRILL("K7", K1_TEXT "6 8 0 0 0\n7 0 0 1 0\n8 0 0 0 0\n" BOTH_COMMIT, K1, DISCARD(1), FORCE(1), DISCARD(1));
+  DRILL("K8", K1_TEXT "6 0 0 0 0\n7 0 0 0 0\n8 8 0 0 0\n" BOTH_COMMIT, K1, DISCARD(0), DISCARD(0), DISCARD(0));
+  DRILL("K9", "1 0 0 0 0\n2 1 0 0 0\n3 1 0 0 0\nHANDOVER 7 ---------\n", OPEN(7, 0xFF, 0), OPEN(8, 1, 0), OPEN(6, 0, 0));
+}
+
+/* The examples of the table, in its order. */
+static void refusals(void) {
+  DRILL("1, code 8", "1 1 0 0 0\n", 8, 0, 0, 0, NONE);
+  DRILL("1, five bytes", "1 0 0 0 0\n2 1 0 0 0\n" NOTHING, OPEN(0, 1, 1), 1, 0, 0, 0, 0xFF);
+  DRILL("2", "1 0 0 0 0\n2 2 0 0 0\n" NOTHING, OPEN(0, 1, 0), OPEN(0, 1, 0));
+  DRILL("3", "1 3 0 0 0\n", BEGIN(0));
+  DRILL("4", "1 0 0 0 0\n2 4 0 0 0\n" NOTHING, OPEN(0, 1, 0), TIMER(2));
+  DRILL("5", "1 0 0 0 0\n2 5 0 0 0\n", CRASH(0), CRASH(0));
+  DRILL("6", "1 6 0 0 0\n", RESTART(0));
+  DRILL("7", "1 0 0 0 0\n2 7 0 0 0\n" NOTHING, OPEN(0, 1, 0), DELIVER(1, DPR_PREPARE));
+  DRILL("8", "1 0 0 0 0\n2 0 0 0 1\n3 8 0 0 0\n" NOTHING, OPEN(0, 1, 0), BEGIN(0), BEGIN(0));
+  DRILL("9", "1 9 0 0 0\n", 6, 0, 0, 0, 0xFF, 1);
+  drills("no event", "", (const uint8_t[]){0}, 0);
+}
+
+/* 10,000 forces of the hub, and an opening behind them that is not read. */
+static void longest(void) {
+  static uint8_t events[DPR_DRILL_BYTES_MAX + DPR_EVENT_BYTES];
+  static char wanted[DPR_DRILL_TEXT_MAX + 1];
+  size_t length = 0;
+  for (unsigned i = 0; i < 10000; i++) {
+    memcpy(events + DPR_EVENT_BYTES * i, (const uint8_t[]){FORCE(0)}, DPR_EVENT_BYTES);
+    length += (size_t)sprintf(wanted + length, "%u 0 0 1 0\n", i + 1);
+  }
+  memcpy(events + DPR_DRILL_BYTES_MAX, (const uint8_t[]){OPEN(0, 1, 0)}, DPR_EVENT_BYTES);
+  for (size_t len = DPR_DRILL_BYTES_MAX; len <= sizeof events; len++)
+    drill("60,000 bytes and more", wanted, events, len, length);
+  drill("60,000 bytes and more", wanted, events, sizeof events, length - 1);
+  drill("60,000 bytes and more", wanted, events, sizeof events, DPR_DRILL_TEXT_MAX);
+  /* the last event is broken */
+  length = (size_t)(strrchr(wanted, ' ') - wanted);
+  strcpy(wanted + length - strlen("10000 0 0 1"), "10000 1 0 0 0\n");
+  drill("59,999 bytes", wanted, events, DPR_DRILL_BYTES_MAX - 1, DPR_DRILL_TEXT_MAX);
+}
+
+int main(void) {
+  memset(untouched, FILL, sizeof untouched);
+  examples();
+  refusals();
+  longest();
+  printf("firmware in C: %u checks, ok\n", checks);
+  return 0;
+}
