@@ -13,5 +13,6 @@ mod Demand3
 mod logs
 mod Reachable
 mod stand
+mod Program
 mod Cases
 mod Examples

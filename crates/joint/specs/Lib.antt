@@ -6,4 +6,5 @@ pub mod Run
 pub mod Drill
 pub mod Safety
 pub mod Stand
+pub mod Program
 pub mod Inside

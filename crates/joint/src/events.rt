@@ -1,4 +1,5 @@
 // One event of the joint run.
+// Demand 3 of the program rests on what `Run::new` and `Run::event` promise: specs/Program.antt.
 use crate::answers::Answer;
 use crate::answers::Counts;
 use crate::power::end;
@@ -15,19 +16,18 @@ use site::inputs::TIMER;
 use site::phases::ParticipantPhase;
 ghost use mathlib.Core.Path.{_≡_};
 ghost use mathlib.Core.Bool.{true, _&&_, not};
-ghost use mathlib.Core.List.{List, _∷_};
+ghost use mathlib.Core.List.{_∷_};
 ghost use mathlib.Core.Option.{none, some};
-ghost use Prim.Native.Nat.{ℕ, _≤_};
+ghost use Prim.Native.Nat.{_≤_};
 ghost use lib.ListN.{getD};
 ghost use Rattle.codec.specs.Lists.{any};
 ghost use Rattle.codec.specs.Sets.{listed};
 ghost use Rattle.site.specs.Step.{messages, prepare};
-ghost use Rattle.joint.specs.State.{fresh};
 ghost use Rattle.joint.specs.Event.{opening, beginning, delivery, timeout, forcing, discarding, crash, bytesInRange, cutInRange, eventOf, cutOf};
 ghost use Rattle.joint.specs.Refusals.{isDown};
 ghost use Rattle.joint.specs.Plan.{discard};
-ghost use Rattle.joint.specs.Run as run;
-ghost use Rattle.joint.specs.Stand.{runIn, nextIn, told, refusalNumber};
+ghost use Rattle.joint.specs.Stand.{runIn, nextIn, refusalNumber};
+ghost use Rattle.joint.specs.Program.{Takes};
 ghost use Rattle.joint.specs.Inside.{taken, cutFrom, Roomy, acceptedAs};
 
 // Whether an event's bytes are in their ranges: unused x, y, z are 0, and at open z is a part of y.
@@ -246,7 +246,7 @@ impl Run {
 
     // An event of any bytes, of any length. In every run that events reach, it is the plain run's.
     pub fn event(self, event: &[u8]) -> Next
-        ensures { λ r. ⌜ ((es : List (List ℕ)) → runIn self ≡ run.after fresh es → nextIn r ≡ told (run.event (run.after fresh es) (now (event .entry)))) ⌝ }
+        ensures { λ r. ⌜ Takes self (now (event .entry)) r ⌝ }
     {
         if event.len() != Run::EVENT_LENGTH {
             return refused(self, Answer::Malformed);

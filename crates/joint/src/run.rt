@@ -9,8 +9,8 @@ ghost use mathlib.Core.Path.{_≡_};
 ghost use Rattle.codec.specs.Image.{writeImage};
 ghost use Rattle.codec.specs.Answers.{written};
 ghost use Rattle.site.specs.Answers.{coordinatorIn, participantIn, outcomeIn};
-ghost use Rattle.joint.specs.State as plain;
 ghost use Rattle.joint.specs.Stand.{transactionIn, runIn};
+ghost use Rattle.joint.specs.Program.{Begins};
 
 // Sites by number, 0 the coordinator; transactions by number.
 pub struct Run {
@@ -59,7 +59,7 @@ impl Run {
 
     // Every site up, each phase Unknown, no record and no message.
     pub fn new() -> Run
-        ensures { λ r. ⌜ runIn r ≡ plain.fresh ⌝ }
+        ensures { λ r. ⌜ Begins r ⌝ }
     {
         Run {
             sites: [Site::new(); 9],
