@@ -1,30 +1,33 @@
 -- What the program's inner functions promise each other. No reader has to believe it: proofs/ shows what it has to do with 01.
 use Prim.Native.Nat.{ℕ, zero, suc, _+_, _-_, _≤_}
-use mathlib.Core.Bool.{Bool, true, false, cond, _&&_, _||_}
+use mathlib.Core.Bool.{Bool, true, false, cond, not, _&&_, _||_}
 use mathlib.Core.List.{List, [], _∷_, _++_, map, flatten}
 use mathlib.Core.Option.{Option, none, some}
 use mathlib.Core.Path.{_≡_}
 use lib.ListN.{length, take, drop, getD}
 use lib.Dec.{eqb, leb}
-use Rattle.codec.specs.Lists.{select, first}
-use Rattle.codec.specs.Sets.{participants, member}
-use Rattle.codec.specs.Records.{LogRecord}
-use Rattle.site.specs.Step.{messageKind, Input, Effect, append, force, enter, send, Row}
+use Rattle.codec.specs.Lists.{select, any, first}
+use Rattle.codec.specs.Sets.{participants, member, empty, listed}
+use Rattle.codec.specs.Records.{LogRecord, ofTransaction}
+use Rattle.site.specs.Step.{prepare, messages, messageKind, receiver, Input, Effect, append, force, enter, send, Row}
 use Rattle.site.specs.Cohort.{presumptionOf}
 use Rattle.site.specs.Coordinator.{coordinatorStep, coordinatorRestart}
-use Rattle.site.specs.Participant.{participantStep, participantRestart}
+use Rattle.site.specs.Participant.{Participant, participantStep, participantRestart}
 use Rattle.site.specs.Numbers.{inputOf, receives}
 use Rattle.site.specs.Answers.{effectsIn}
-use Rattle.joint.specs.State.{Run, Site, Transaction, appended, forced, withEntered, withSent, withCoordinator, withParticipant, update, down, opened, performAll}
-use Rattle.joint.specs.Event.{Event, cutAt}
-use Rattle.joint.specs.Refusals.{refusals}
-use Rattle.joint.specs.Plan.{Plan, plan, step, orNothing, restartAll, transactions}
+use Rattle.joint.specs.State.{Run, Site, Transaction, appended, forced, withEntered, withSent, withCoordinator, withParticipant, update, stopped, forgotten, down, opened, performAll}
+use Rattle.joint.specs.Event.{Event, eventOf, bytesInRange, cutInRange, cutAt, cutOf, Parsed}
+use Rattle.joint.specs.Refusals.{isDown, refusals}
+use Rattle.joint.specs.Plan.{Plan, plan, step, orNothing, openedAs, closes, newest, trimmed, remembers, restartAll, transactions}
 use Rattle.joint.specs.Run.{isAppend, isForce, isSend, count, Answer, carryUnless}
 use Rattle.joint.specs.Drill.{line, eventLines, entryLetter, transactionLine}
-use Rattle.joint.specs.Stand.{siteIn, transactionIn, runIn, accepted, refusalNumber, Told, told}
+use Rattle.joint.specs.Stand.{siteIn, transactionIn, transactionsIn, answerIn, refusalNumber, Told, told}
 use Rattle.joint.specs.declared.progress.Progress.{Progress}
 use Rattle.joint.specs.declared.moves.Move.{Move}
-use Rattle.joint.specs.declared.power.Restarting.{Restarting}
+use Rattle.joint.specs.declared.power.Change.{Change}
+use Rattle.joint.specs.declared.restarts.Again as resumed
+use Rattle.joint.specs.declared.restarts.Restarted.{Restarted}
+use Rattle.joint.specs.declared.asked.Asked.{Asked}
 
 -- ---- effects on one site and one transaction
 
@@ -182,6 +185,109 @@ uponInput r t s kind p =
 unfoldable pub FitsPlan : Run → Option Plan → Type 0
 FitsPlan r o = (p : Plan) → o ≡ some p → size (r .site (p .site)) + count isAppend (p .acts) ≤ 24
 
+-- ---- what an event does to its site and its transaction alone
+
+-- the answer, both after the event, and whether the site went down
+pub record Changed : Type 0 where
+  pub answer : Answer
+  pub site : Site
+  pub transaction : Transaction
+  pub down : Bool
+
+unfoldable pub changeIn : Change → Changed
+changeIn c = record { answer = answerIn (c .answer); site = siteIn (c .site); transaction = transactionIn (c .transaction); down = c .down }
+
+-- in the whole run: where site s went down, its phases in all transactions are forgotten
+abbrev pub fallen : Bool → ℕ → Run → Run
+fallen true s r = record { site = r .site; transaction = λ t. forgotten s (r .transaction t) }
+fallen false s r = r
+
+unfoldable pub applied : Run → ℕ → ℕ → Changed → Told
+applied r s t c =
+    record {
+      answer = c .answer;
+      run = fallen (c .down) s (record { site = update s (λ _. c .site) (r .site); transaction = update t (λ _. c .transaction) (r .transaction) });
+    }
+
+-- a is the site, x the transaction before the event
+abbrev pub refusedAs : ℕ → Site → Transaction → Changed
+refusedAs n a x = record { answer = refusalNumber n; site = a; transaction = x; down = false }
+
+unfoldable pub endedAs : Site → Transaction → Doing → ℕ → ℕ → Changed
+endedAs a x d cut keep =
+    cond (eqb cut 255) (record { answer = counts d; site = d .site; transaction = d .transaction; down = false })
+    (cond (eqb (d .left) 0 && leb keep (length (d .site .unforced)))
+    (record { answer = counts d; site = stopped keep (d .site); transaction = d .transaction; down = true })
+    (refusedAs 9 a x))
+
+unfoldable pub movedAs : Site → Transaction → ℕ → ℕ → Moved → ℕ → ℕ → Changed
+movedAs a x s t m cut keep = endedAs a x (progressed s t (m .effects) (starting a (m .transaction) cut)) cut keep
+
+-- begin or timer without a row
+abbrev pub unasked : ℕ → Moved → Bool
+unasked kind m = leb 16 kind && not (m .found)
+
+unfoldable pub stepAs : Site → Transaction → ℕ → ℕ → ℕ → ℕ → ℕ → ℕ → Changed
+stepAs a x t s kind p cut keep =
+    let m = stepMove x s (inputOf kind p) in
+    cond (unasked kind m) (refusedAs 8 a x) (movedAs a x s t m cut keep)
+
+-- the site's log has room for the step's records
+unfoldable pub StepFits : Site → Transaction → ℕ → ℕ → ℕ → Type 0
+StepFits a x s kind p =
+    let m = stepMove x s (inputOf kind p) in
+    unasked kind m ≡ false → Fits (m .effects) a
+
+-- site s is asked something that it receives, if p takes part
+abbrev pub Asking : Transaction → ℕ → ℕ → ℕ → Type 0
+Asking x s kind p = not (partIn x p) ≡ false → MayReceive x s kind p
+
+unfoldable pub askAs : Site → Transaction → ℕ → ℕ → ℕ → ℕ → ℕ → ℕ → Changed
+askAs a x t s kind p cut keep =
+    cond (empty (x .cohort .members)) (refusedAs 3 a x)
+    (cond (not (partIn x p)) (refusedAs 4 a x)
+    (cond (not (a .up)) (refusedAs 5 a x)
+    (cond (leb kind 6 && not (x .sent p kind)) (refusedAs 7 a x)
+    (stepAs a x t s kind p cut keep))))
+
+-- room, where no refusal strikes
+unfoldable pub AskFits : Site → Transaction → ℕ → ℕ → ℕ → Type 0
+AskFits a x s kind p =
+    empty (x .cohort .members) ≡ false → not (partIn x p) ≡ false → not (a .up) ≡ false → (leb kind 6 && not (x .sent p kind)) ≡ false
+    → StepFits a x s kind p
+
+unfoldable pub openAs : Site → Transaction → Bool → ℕ → ℕ → Changed
+openAs a x up M C =
+    cond (not (empty (x .cohort .members))) (refusedAs 2 a x)
+    (cond (not up) (refusedAs 5 a x)
+    (record { answer = refusalNumber 0; site = a; transaction = openedAs (record { members = M; presumeCommit = C }) x; down = false }))
+
+unfoldable pub forceAs : Site → Transaction → Changed
+forceAs a x =
+    cond (not (a .up)) (refusedAs 5 a x)
+    (record { answer = record { number = 0; records = 0; forces = 1; sends = 0 }; site = forced a; transaction = x; down = false })
+
+-- the oldest record of t is dropped; with the last one gone a participant is Unknown
+unfoldable pub discardedAs : Site → Transaction → ℕ → ℕ → Changed
+discardedAs a x t s =
+    record {
+      answer = refusalNumber 0;
+      site = trimmed t a;
+      transaction = cond (eqb s 0 || remembers t (trimmed t a)) x (withParticipant s Participant.unknown x);
+      down = false;
+    }
+
+unfoldable pub discardAs : Site → Transaction → ℕ → ℕ → Changed
+discardAs a x t s =
+    cond (empty (x .cohort .members)) (refusedAs 3 a x)
+    (cond (not (partIn x s)) (refusedAs 4 a x)
+    (cond (not (a .up)) (refusedAs 5 a x)
+    (cond (not (newest closes (select (ofTransaction t) (a .stable)))) (refusedAs 8 a x)
+    (discardedAs a x t s))))
+
+unfoldable pub crashAs : Site → Transaction → ℕ → Changed
+crashAs a x keep = cond (not (a .up)) (refusedAs 5 a x) (endedAs a x (starting a x 0) 0 keep)
+
 -- ---- restart
 
 -- the run after the restart's effects, how many more could have happened, and the answer
@@ -190,8 +296,20 @@ pub record Again : Type 0 where
   pub left : ℕ
   pub answer : Answer
 
-unfoldable pub restartingIn : Restarting → Again
-restartingIn x = record { run = runIn (x .run); left = x .left; answer = accepted (x .counts) }
+-- a run with site s and all transactions as they are
+abbrev pub withAll : ℕ → Site → (ℕ → Transaction) → Run → Run
+withAll s a f r = record { site = update s (λ _. a) (r .site); transaction = f }
+
+unfoldable pub againIn : ℕ → Run → resumed.Again → Again
+againIn s r x =
+    record {
+      run = withAll s (siteIn (x .progress .site)) (transactionsIn (x .transactions)) r;
+      left = x .progress .left;
+      answer = record { number = 0; records = x .progress .records; forces = x .progress .forces; sends = x .progress .sends };
+    }
+
+unfoldable pub restartedIn : ℕ → Run → Restarted → Told
+restartedIn s r x = record { answer = answerIn (x .answer); run = withAll s (siteIn (x .site)) (transactionsIn (x .transactions)) r }
 
 unfoldable pub restarted : Run → ℕ → ℕ → Again
 restarted r s cut =
@@ -216,6 +334,27 @@ cutFrom cut keep = cutAt false (eqb cut 255) cut keep
 -- where an event is not refused, the log of its site has room for the records that it appends
 unfoldable pub Roomy : Run → Event → Type 0
 Roomy r e = first (refusals r e) ≡ 0 → FitsPlan r (plan r e)
+
+-- the site that an event is at: the coordinator at open and begin, the receiver of a message
+unfoldable pub siteOf : ℕ → ℕ → ℕ → ℕ
+siteOf code y z = getD (0 ∷ 0 ∷ receiver (getD messages z prepare) y ∷ []) code y
+
+-- what an open asks of the sites
+abbrev pub UpFor : Run → ℕ → ℕ → Bool → Type 0
+UpFor r code y up = code ≡ 0 → up ≡ not (any (isDown r) (0 ∷ listed y))
+
+-- the bytes of an event, read
+abbrev pub Well : Asked → Type 0
+Well a = (bytesInRange (a .code) (a .x) (a .y) (a .z) && cutInRange (a .code) (a .cut) (a .keep)) ≡ true
+
+abbrev pub eventIn : Asked → Event
+eventIn a = eventOf (a .code) (a .x) (a .y) (a .z)
+
+abbrev pub cutIn : Asked → Option (ℕ × ℕ)
+cutIn a = cutOf (a .code) (a .cut) (a .keep)
+
+unfoldable pub askedIn : Asked → Option Parsed
+askedIn a = cond (a .malformed) none (some (record { event = eventIn a; cut = cutIn a }))
 
 -- ---- the drill
 

@@ -61,14 +61,13 @@ noTransaction =
       entries = replicate 9 noEntry;
     }
 
+abbrev pub transactionsIn : List Transaction → ℕ → plain.Transaction
+transactionsIn l t = transactionIn (getD l t noTransaction)
+
 -- ---- the run
 
 unfoldable pub runIn : Run → plain.Run
-runIn r =
-    record {
-      site = λ s. siteIn (getD (r .sites) s noSite);
-      transaction = λ t. transactionIn (getD (r .transactions) t noTransaction);
-    }
+runIn r = record { site = λ s. siteIn (getD (r .sites) s noSite); transaction = transactionsIn (r .transactions) }
 
 -- ---- answers
 

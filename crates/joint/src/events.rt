@@ -1,57 +1,194 @@
-// One event of the joint run.
-// Demand 3 of the program rests on what `Run::new` and `Run::event` promise: specs/Program.antt.
+// One event of the joint run. (specs/Program.antt has the promise of Run::event.)
 use crate::answers::Answer;
 use crate::answers::Counts;
+use crate::asked::Asked;
+use crate::power::Change;
 use crate::power::end;
+use crate::power::forget_all;
 use crate::power::refused;
-use crate::power::restart;
 use crate::power::step;
+use crate::progress::Progress;
+use crate::restarts::restart_site;
 use crate::run::Next;
 use crate::run::Run;
+use crate::sites::Site;
+use crate::transactions::Transaction;
 use codec::message::Parts;
 use codec::sets::member;
-use codec::sets::part;
 use site::inputs::BEGIN;
 use site::inputs::TIMER;
 use site::phases::ParticipantPhase;
 ghost use mathlib.Core.Path.{_≡_};
-ghost use mathlib.Core.Bool.{true, _&&_, not};
+ghost use mathlib.Core.Bool.{not};
 ghost use mathlib.Core.List.{_∷_};
-ghost use mathlib.Core.Option.{none, some};
 ghost use Prim.Native.Nat.{_≤_};
-ghost use lib.ListN.{getD};
 ghost use Rattle.codec.specs.Lists.{any};
 ghost use Rattle.codec.specs.Sets.{listed};
-ghost use Rattle.site.specs.Step.{messages, prepare};
-ghost use Rattle.joint.specs.Event.{opening, beginning, delivery, timeout, forcing, discarding, crash, bytesInRange, cutInRange, eventOf, cutOf};
+ghost use Rattle.joint.specs.State as plain;
 ghost use Rattle.joint.specs.Refusals.{isDown};
-ghost use Rattle.joint.specs.Plan.{discard};
-ghost use Rattle.joint.specs.Stand.{runIn, nextIn, refusalNumber};
+ghost use Rattle.joint.specs.Stand.{siteIn, transactionIn, runIn, nextIn};
 ghost use Rattle.joint.specs.Program.{Takes};
-ghost use Rattle.joint.specs.Inside.{taken, cutFrom, Roomy, acceptedAs};
+ghost use Rattle.joint.specs.Inside.{changeIn, askAs, AskFits, openAs, forceAs, discardedAs, discardAs, crashAs, Asking, siteOf, UpFor, Well, eventIn, cutIn, applied, taken, Roomy};
 
-// Whether an event's bytes are in their ranges: unused x, y, z are 0, and at open z is a part of y.
-fn bytes_in_range(code: u8, x: u8, y: u8, z: u8) -> bool
-    ensures { λ r. ⌜ r ≡ bytesInRange code x y z ⌝ }
+// Begin, a timer or a message of a participant, at site `number`; begin names participant 0, a timer its own site.
+fn ask(
+    site: Site,
+    before: Transaction,
+    transaction: u8,
+    number: u8,
+    kind: u8,
+    participant: u8,
+    cut: u8,
+    keep: u8,
+) -> Change
+    requires { ⌜ Asking (transactionIn before) number kind participant ⌝ }
+    ensures { λ r. ⌜ (AskFits (siteIn site) (transactionIn before) number kind participant → changeIn r ≡ askAs (siteIn site) (transactionIn before) transaction number kind participant cut keep) ⌝ }
 {
-    if Run::RESTART < code {
-        return false;
+    if !before.opened() {
+        return refused(site, before, Answer::NeverOpened);
     }
-    let at = code as usize;
-    (x <= Run::LAST_X[at])
-        & (Run::FIRST_Y[at] <= y)
-        & (y <= Run::LAST_Y[at])
-        & (z <= Run::LAST_Z[at])
-        & ((code != Run::OPEN) | part(z, y))
+    if !before.takes_part(participant) {
+        return refused(site, before, Answer::NoMember);
+    }
+    if !site.up {
+        return refused(site, before, Answer::SiteDown);
+    }
+    if (kind <= Parts::LAST_KIND) & !before.sent(participant, kind) {
+        return refused(site, before, Answer::NeverSent);
+    }
+    step(
+        site,
+        before,
+        transaction,
+        number,
+        kind,
+        participant,
+        cut,
+        keep,
+    )
 }
 
-// A cut stands on codes 1, 2, 3, 7; keep is 0 but on a cut or a crash.
-fn cut_in_range(code: u8, cut: u8, keep: u8) -> bool
-    ensures { λ r. ⌜ r ≡ cutInRange code cut keep ⌝ }
+fn open(site: Site, before: Transaction, up: bool, members: u8, presume_commit: u8) -> Change
+    ensures { λ r. ⌜ changeIn r ≡ openAs (siteIn site) (transactionIn before) up members «presume_commit» ⌝ }
 {
-    let whole = cut == Run::WHOLE;
-    let may = ((Run::BEGIN <= code) & (code <= Run::TIMER)) | (code == Run::RESTART);
-    (whole | may) & ((keep == 0) | !whole | (code == Run::CRASH))
+    if before.opened() {
+        return refused(site, before, Answer::OpenedBefore);
+    }
+    if !up {
+        return refused(site, before, Answer::SiteDown);
+    }
+    Change {
+        answer: Answer::Accepted(Counts::NONE),
+        site,
+        transaction: before.open(members, presume_commit),
+        down: false,
+    }
+}
+
+fn force(site: Site, before: Transaction) -> Change
+    ensures { λ r. ⌜ changeIn r ≡ forceAs (siteIn site) (transactionIn before) ⌝ }
+{
+    if !site.up {
+        return refused(site, before, Answer::SiteDown);
+    }
+    Change {
+        answer: Answer::Accepted(Counts {
+            records: 0,
+            forces: 1,
+            sends: 0,
+        }),
+        site: site.force(),
+        transaction: before,
+        down: false,
+    }
+}
+
+// The oldest record is dropped; with the last one gone a participant is Unknown.
+fn discarded(site: Site, before: Transaction, transaction: u8, number: u8) -> Change
+    requires { ⌜ number ≤ 8 ⌝ }
+    ensures { λ r. ⌜ changeIn r ≡ discardedAs (siteIn site) (transactionIn before) transaction number ⌝ }
+{
+    let trimmed = site.trim(transaction);
+    if (number == 0) | trimmed.remembers(transaction) {
+        return Change {
+            answer: Answer::Accepted(Counts::NONE),
+            site: trimmed,
+            transaction: before,
+            down: false,
+        };
+    }
+    Change {
+        answer: Answer::Accepted(Counts::NONE),
+        site: trimmed,
+        transaction: before.with_participant(number as usize, ParticipantPhase::Unknown),
+        down: false,
+    }
+}
+
+fn discard(site: Site, before: Transaction, transaction: u8, number: u8) -> Change
+    requires { ⌜ number ≤ 8 ⌝ }
+    ensures { λ r. ⌜ changeIn r ≡ discardAs (siteIn site) (transactionIn before) transaction number ⌝ }
+{
+    if !before.opened() {
+        return refused(site, before, Answer::NeverOpened);
+    }
+    if !before.takes_part(number) {
+        return refused(site, before, Answer::NoMember);
+    }
+    if !site.up {
+        return refused(site, before, Answer::SiteDown);
+    }
+    if !site.may_discard(transaction) {
+        return refused(site, before, Answer::NotAllowed);
+    }
+    discarded(site, before, transaction, number)
+}
+
+// An event of no effects, cut there.
+fn crash(site: Site, before: Transaction, keep: u8) -> Change
+    ensures { λ r. ⌜ changeIn r ≡ crashAs (siteIn site) (transactionIn before) keep ⌝ }
+{
+    if !site.up {
+        return refused(site, before, Answer::SiteDown);
+    }
+    end(site, before, Progress::start(site, before, 0), 0, keep)
+}
+
+// An event whose bytes are in their ranges, but a restart: what it does to its site and its transaction. `up` says whether
+// the coordinator and the members are up, where it is an open.
+fn change(site: Site, before: Transaction, up: bool, asked: Asked) -> Change
+    requires { ⌜ Well asked × (asked .code ≤ 6) ⌝ }
+    ensures { λ r. ⌜ ((w : plain.Run) → siteIn site ≡ w .site (siteOf (asked .code) (asked .y) (asked .z)) → transactionIn before ≡ w .transaction (asked .x) → UpFor w (asked .code) (asked .y) up → Roomy w (eventIn asked) → applied w (siteOf (asked .code) (asked .y) (asked .z)) (asked .x) (changeIn r) ≡ taken w (eventIn asked) (cutIn asked)) ⌝ }
+{
+    let code = asked.code;
+    match code {
+        Run::OPEN => open(site, before, up, asked.y, asked.z),
+        Run::BEGIN => ask(site, before, asked.x, 0, BEGIN, 0, asked.cut, asked.keep),
+        Run::DELIVER => ask(
+            site,
+            before,
+            asked.x,
+            asked.site(),
+            asked.z,
+            asked.y,
+            asked.cut,
+            asked.keep,
+        ),
+        Run::TIMER => ask(
+            site,
+            before,
+            asked.x,
+            asked.y,
+            TIMER,
+            asked.y,
+            asked.cut,
+            asked.keep,
+        ),
+        Run::FORCE => force(site, before),
+        Run::DISCARD => discard(site, before, asked.x, asked.y),
+        Run::CRASH => crash(site, before, asked.keep),
+        7..=255 => refused(site, before, Answer::Malformed),
+    }
 }
 
 impl Run {
@@ -72,197 +209,64 @@ impl Run {
         true
     }
 
-    fn open(self, transaction: u8, members: u8, presume_commit: u8) -> Next
-        requires { ⌜ transaction ≤ 7 ⌝ }
-        ensures { λ r. ⌜ nextIn r ≡ taken (runIn self) (opening transaction members «presume_commit») none ⌝ }
-    {
-        let at = transaction as usize;
-        let found = self.transactions[at];
-        if found.opened() {
-            return refused(self, Answer::OpenedBefore);
-        }
-        if !self.all_up(members) {
-            return refused(self, Answer::SiteDown);
-        }
-        let mut run = self;
-        run.transactions[at] = found.open(members, presume_commit);
-        Next {
-            answer: Answer::Accepted(Counts::NONE),
-            run,
-        }
-    }
-
-    fn begin(self, transaction: u8, cut: u8, keep: u8) -> Next
-        requires { ⌜ transaction ≤ 7 ⌝ }
-        ensures { λ r. ⌜ (Roomy (runIn self) (beginning transaction) → nextIn r ≡ taken (runIn self) (beginning transaction) (cutFrom cut keep)) ⌝ }
-    {
-        let at = transaction as usize;
-        let found = self.transactions[at];
-        if !found.opened() {
-            return refused(self, Answer::NeverOpened);
-        }
-        if !self.up(0) {
-            return refused(self, Answer::SiteDown);
-        }
-        step(self, transaction, 0, BEGIN, 0, cut, keep)
-    }
-
-    fn deliver(self, transaction: u8, participant: u8, kind: u8, cut: u8, keep: u8) -> Next
-        requires { ⌜ (transaction ≤ 7) × (((1 ≤ participant) × (participant ≤ 8)) × (kind ≤ 6)) ⌝ }
-        ensures { λ r. ⌜ (Roomy (runIn self) (delivery transaction participant (getD messages kind prepare)) → nextIn r ≡ taken (runIn self) (delivery transaction participant (getD messages kind prepare)) (cutFrom cut keep)) ⌝ }
-    {
-        let at = transaction as usize;
-        let found = self.transactions[at];
-        if !found.opened() {
-            return refused(self, Answer::NeverOpened);
-        }
-        if !found.takes_part(participant) {
-            return refused(self, Answer::NoMember);
-        }
-        let site = match kind {
-            Parts::PREPARE | Parts::COMMIT..=Parts::ABORT => participant,
-            _ => 0,
-        };
-        if !self.up(site) {
-            return refused(self, Answer::SiteDown);
-        }
-        if !found.sent(participant, kind) {
-            return refused(self, Answer::NeverSent);
-        }
-        step(self, transaction, site, kind, participant, cut, keep)
-    }
-
-    fn timer(self, transaction: u8, site: u8, cut: u8, keep: u8) -> Next
-        requires { ⌜ (transaction ≤ 7) × (site ≤ 8) ⌝ }
-        ensures { λ r. ⌜ (Roomy (runIn self) (timeout transaction site) → nextIn r ≡ taken (runIn self) (timeout transaction site) (cutFrom cut keep)) ⌝ }
-    {
-        let at = transaction as usize;
-        let found = self.transactions[at];
-        if !found.opened() {
-            return refused(self, Answer::NeverOpened);
-        }
-        if !found.takes_part(site) {
-            return refused(self, Answer::NoMember);
-        }
-        if !self.up(site) {
-            return refused(self, Answer::SiteDown);
-        }
-        step(self, transaction, site, TIMER, site, cut, keep)
-    }
-
-    fn force(self, site: u8) -> Next
-        requires { ⌜ site ≤ 8 ⌝ }
-        ensures { λ r. ⌜ nextIn r ≡ taken (runIn self) (forcing site) none ⌝ }
-    {
-        if !self.up(site) {
-            return refused(self, Answer::SiteDown);
-        }
-        let at = site as usize;
-        let found = self.sites[at];
-        let mut run = self;
-        run.sites[at] = found.force();
-        Next {
-            answer: Answer::Accepted(Counts {
-                records: 0,
-                forces: 1,
-                sends: 0,
-            }),
-            run,
-        }
-    }
-
-    fn discard(self, transaction: u8, site: u8) -> Next
-        requires { ⌜ (transaction ≤ 7) × (site ≤ 8) ⌝ }
-        ensures { λ r. ⌜ nextIn r ≡ taken (runIn self) (discarding transaction site) none ⌝ }
-    {
-        let at = transaction as usize;
-        let found = self.transactions[at];
-        if !found.opened() {
-            return refused(self, Answer::NeverOpened);
-        }
-        if !found.takes_part(site) {
-            return refused(self, Answer::NoMember);
-        }
-        if !self.up(site) {
-            return refused(self, Answer::SiteDown);
-        }
-        let i = site as usize;
-        let log = self.sites[i];
-        if !log.may_discard(transaction) {
-            return refused(self, Answer::NotAllowed);
-        }
-        self.discarded(transaction, site)
-    }
-
-    // The oldest record is dropped; with the last one gone a participant is Unknown.
-    fn discarded(self, transaction: u8, site: u8) -> Next
-        requires { ⌜ (transaction ≤ 7) × (site ≤ 8) ⌝ }
-        ensures { λ r. ⌜ nextIn r ≡ acceptedAs (refusalNumber 0) (discard transaction site (runIn self)) ⌝ }
-    {
-        let at = transaction as usize;
-        let found = self.transactions[at];
-        let i = site as usize;
-        let log = self.sites[i];
-        let trimmed = log.trim(transaction);
-        let mut run = self;
-        run.sites[i] = trimmed;
-        if (site != 0) & !trimmed.remembers(transaction) {
-            run.transactions[at] = found.with_participant(i, ParticipantPhase::Unknown);
-        }
-        Next {
-            answer: Answer::Accepted(Counts::NONE),
-            run,
-        }
-    }
-
-    // An event of no effects, cut there.
-    fn crash(self, site: u8, keep: u8) -> Next
-        requires { ⌜ site ≤ 8 ⌝ }
-        ensures { λ r. ⌜ nextIn r ≡ taken (runIn self) (crash site) (some (0, keep)) ⌝ }
-    {
-        if !self.up(site) {
-            return refused(self, Answer::SiteDown);
-        }
-        end(self, self, site as usize, 0, Counts::NONE, 0, keep)
-    }
-
-    // An event whose bytes are in their ranges.
-    fn perform(self, code: u8, x: u8, y: u8, z: u8, cut: u8, keep: u8) -> Next
-        requires { ⌜ (bytesInRange code x y z && cutInRange code cut keep) ≡ true ⌝ }
-        ensures { λ r. ⌜ (Roomy (runIn self) (eventOf code x y z) → nextIn r ≡ taken (runIn self) (eventOf code x y z) (cutOf code cut keep)) ⌝ }
-    {
-        match code {
-            Run::OPEN => self.open(x, y, z),
-            Run::BEGIN => self.begin(x, cut, keep),
-            Run::DELIVER => self.deliver(x, y, z, cut, keep),
-            Run::TIMER => self.timer(x, y, cut, keep),
-            Run::FORCE => self.force(y),
-            Run::DISCARD => self.discard(x, y),
-            Run::CRASH => self.crash(y, keep),
-            Run::RESTART => restart(self, y, cut, keep),
-            8..=255 => refused(self, Answer::Malformed),
-        }
-    }
-
     // An event of any bytes, of any length. In every run that events reach, it is the plain run's.
     pub fn event(self, event: &[u8]) -> Next
         ensures { λ r. ⌜ Takes self (now (event .entry)) r ⌝ }
     {
-        if event.len() != Run::EVENT_LENGTH {
-            return refused(self, Answer::Malformed);
+        let asked = Asked::read(event);
+        if asked.malformed {
+            return Next {
+                answer: Answer::Malformed,
+                run: self,
+            };
         }
-        let code = event[0];
-        let x = event[1];
-        let y = event[2];
-        let z = event[3];
-        let cut = event[4];
-        let keep = event[5];
-        if !bytes_in_range(code, x, y, z) {
-            return refused(self, Answer::Malformed);
+        if asked.code == Run::RESTART {
+            return self.restart(asked);
         }
-        if !cut_in_range(code, cut, keep) {
-            return refused(self, Answer::Malformed);
+        self.perform(asked)
+    }
+
+    fn restart(self, asked: Asked) -> Next
+        requires { ⌜ (Well asked) × (asked .code ≡ 7) ⌝ }
+        ensures { λ r. ⌜ nextIn r ≡ taken (runIn self) (eventIn asked) (cutIn asked) ⌝ }
+    {
+        let at = asked.y as usize;
+        let site = self.sites[at];
+        let transactions = self.transactions;
+        let again = restart_site(site, transactions, asked.y, asked.cut, asked.keep);
+        let mut run = self;
+        let changed = again.site;
+        run.sites[at] = changed;
+        let changed = again.transactions;
+        run.transactions = changed;
+        let answer = again.answer;
+        Next { answer, run }
+    }
+
+    fn perform(self, asked: Asked) -> Next
+        requires { ⌜ (Well asked) × (asked .code ≤ 6) ⌝ }
+        ensures { λ r. ⌜ (Roomy (runIn self) (eventIn asked) → nextIn r ≡ taken (runIn self) (eventIn asked) (cutIn asked)) ⌝ }
+    {
+        let s = asked.site() as usize;
+        let t = asked.x as usize;
+        let site = self.sites[s];
+        let transaction = self.transactions[t];
+        let up = if asked.code == Run::OPEN {
+            self.all_up(asked.y)
+        } else {
+            true
+        };
+        let next = change(site, transaction, up, asked);
+        let mut run = self;
+        let changed = next.site;
+        run.sites[s] = changed;
+        let changed = next.transaction;
+        run.transactions[t] = changed;
+        let answer = next.answer;
+        if next.down {
+            let transactions = run.transactions;
+            run.transactions = forget_all(transactions, s);
         }
-        self.perform(code, x, y, z, cut, keep)
+        Next { answer, run }
     }
 }

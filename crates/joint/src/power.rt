@@ -1,161 +1,116 @@
-// An event's effects in the run, and power that goes.
+// What an event does to its site and its transaction, and power that goes.
 use crate::answers::Answer;
-use crate::answers::Counts;
 use crate::moves::Move;
 use crate::progress::Progress;
-use crate::run::Next;
 use crate::run::Run;
+use crate::sites::Site;
 use crate::transactions::Transaction;
 use site::inputs::BEGIN;
 ghost use mathlib.Core.Path.{_≡_};
+ghost use mathlib.Core.Bool.{false};
 ghost use Prim.Native.Nat.{_≤_};
+ghost use Rattle.site.specs.Numbers.{inputOf};
 ghost use Rattle.site.specs.Answers.{effectsIn};
-ghost use Rattle.joint.specs.State as plain;
-ghost use Rattle.joint.specs.Event.{restart};
-ghost use Rattle.joint.specs.Run.{carryPlan};
-ghost use Rattle.joint.specs.Stand.{runIn, answerIn, nextIn, accepted, told};
-ghost use Rattle.joint.specs.Inside.{Fits, moveIn, ended, movedTo, FitsPlan, uponInput, MayReceive, restartingIn, restarted, taken, cutFrom};
+ghost use Rattle.joint.specs.State.{forgotten};
+ghost use Rattle.joint.specs.Stand.{siteIn, transactionIn, transactionsIn, answerIn};
+ghost use Rattle.joint.specs.Inside.{Fits, progressIn, moveIn, stepMove, changeIn, endedAs, movedAs, stepAs, unasked, MayReceive};
 
-// A run after a restart's effects; power had `left` more of them.
-pub struct Restarting {
-    pub run: Run,
-    pub left: u8,
-    pub counts: Counts,
+// An event's answer, and its site and transaction after it. Where the site went down, its phases elsewhere are to be forgotten.
+pub struct Change {
+    pub answer: Answer,
+    pub site: Site,
+    pub transaction: Transaction,
+    pub down: bool,
 }
 
-pub fn refused(run: Run, answer: Answer) -> Next
-    ensures { λ r. ⌜ nextIn r ≡ record { answer = answerIn answer; run = runIn run } ⌝ }
+pub fn refused(site: Site, transaction: Transaction, answer: Answer) -> Change
+    ensures { λ r. ⌜ changeIn r ≡ record { answer = answerIn answer; site = siteIn site; transaction = transactionIn transaction; down = false } ⌝ }
 {
-    Next { answer, run }
+    Change {
+        answer,
+        site,
+        transaction,
+        down: false,
+    }
 }
 
-// A site goes down, and keeps so many of its unforced records: all phases there are Unknown.
-fn down(run: Run, site: usize, keep: u8) -> Run
+// The phase at a site is Unknown in every transaction.
+pub fn forget_all(transactions: [Transaction; 8], site: usize) -> [Transaction; 8]
     requires { ⌜ site ≤ 8 ⌝ }
-    ensures { λ r. ⌜ runIn r ≡ plain.down site keep (runIn run) ⌝ }
+    ensures { λ r. ⌜ transactionsIn r ≡ (λ t. forgotten site (transactionsIn transactions t)) ⌝ }
 {
-    let found = run.sites[site];
-    let mut run = run;
-    run.sites[site] = found.stop(keep);
+    let mut transactions = transactions;
     let mut i: usize = 0;
     while i < 8 {
-        let transaction = run.transactions[i];
-        run.transactions[i] = transaction.forget(site);
+        let transaction = transactions[i];
+        transactions[i] = transaction.forget(site);
         i += 1;
     }
-    run
+    transactions
 }
 
-// `run` was before the event, and `after` is after its effects; power had `left` more of them.
-pub fn end(run: Run, after: Run, site: usize, left: u8, counts: Counts, cut: u8, keep: u8) -> Next
-    requires { ⌜ site ≤ 8 ⌝ }
-    ensures { λ r. ⌜ nextIn r ≡ ended (runIn run) (runIn after) site left (accepted counts) cut keep ⌝ }
+// `site` and `transaction` were before the event, and `progress` is after its effects.
+pub fn end(site: Site, transaction: Transaction, progress: Progress, cut: u8, keep: u8) -> Change
+    ensures { λ r. ⌜ changeIn r ≡ endedAs (siteIn site) (transactionIn transaction) (progressIn progress) cut keep ⌝ }
 {
+    let after = progress.site;
+    let changed = progress.transaction;
     if cut == Run::WHOLE {
-        return Next {
-            answer: Answer::Accepted(counts),
-            run: after,
+        return Change {
+            answer: Answer::Accepted(progress.counts()),
+            site: after,
+            transaction: changed,
+            down: false,
         };
     }
-    let found = after.sites[site];
-    if (left != 0) | (found.unforced_count() < (keep as usize)) {
-        return refused(run, Answer::CutTooFar);
+    if (progress.left != 0) | (after.unforced_count() < (keep as usize)) {
+        return refused(site, transaction, Answer::CutTooFar);
     }
-    Next {
-        answer: Answer::Accepted(counts),
-        run: down(after, site, keep),
+    Change {
+        answer: Answer::Accepted(progress.counts()),
+        site: after.stop(keep),
+        transaction: changed,
+        down: true,
     }
 }
 
-// A site's move in a transaction, up to the cut.
-fn moving(run: Run, site: usize, transaction: usize, next: Move, cut: u8, keep: u8) -> Next
-    requires { ⌜ (site ≤ 8) × (transaction ≤ 7) ⌝ }
-    ensures { λ r. ⌜ (Fits (effectsIn (next .effects)) (runIn run .site site) → nextIn r ≡ movedTo (runIn run) site transaction (moveIn next) cut keep) ⌝ }
+// A move of site `number` in a transaction, up to the cut.
+fn moving(
+    site: Site,
+    before: Transaction,
+    number: u8,
+    transaction: u8,
+    next: Move,
+    cut: u8,
+    keep: u8,
+) -> Change
+    requires { ⌜ number ≤ 8 ⌝ }
+    ensures { λ r. ⌜ (Fits (effectsIn (next .effects)) (siteIn site) → changeIn r ≡ movedAs (siteIn site) (transactionIn before) number transaction (moveIn next) cut keep) ⌝ }
 {
-    let found = run.sites[site];
     let moved = next.transaction;
     let effects = next.effects;
-    let start = Progress::start(found, moved, cut);
-    let progress = start.row(site, transaction as u8, effects);
-    let mut after = run;
-    let changed = progress.site;
-    after.sites[site] = changed;
-    let changed = progress.transaction;
-    after.transactions[transaction] = changed;
-    end(
-        run,
-        after,
-        site,
-        progress.left,
-        progress.counts(),
-        cut,
-        keep,
-    )
+    let start = Progress::start(site, moved, cut);
+    let progress = start.row(number as usize, transaction, effects);
+    end(site, before, progress, cut, keep)
 }
 
-// A site's step upon a message of a participant, begin or its timer; these two are refused where there is no row.
+// The step of site `number` upon a message of a participant, begin or its timer; these two are refused where there is no row.
 pub fn step(
-    run: Run,
+    site: Site,
+    before: Transaction,
     transaction: u8,
-    site: u8,
+    number: u8,
     kind: u8,
     participant: u8,
     cut: u8,
     keep: u8,
-) -> Next
-    requires { ⌜ (transaction ≤ 7) × MayReceive (runIn run .transaction transaction) site kind participant ⌝ }
-    ensures { λ r. ⌜ (FitsPlan (runIn run) (uponInput (runIn run) transaction site kind participant) → nextIn r ≡ told (carryPlan (runIn run) (uponInput (runIn run) transaction site kind participant) (cutFrom cut keep))) ⌝ }
+) -> Change
+    requires { ⌜ MayReceive (transactionIn before) number kind participant ⌝ }
+    ensures { λ r. ⌜ ((unasked kind (stepMove (transactionIn before) number (inputOf kind participant)) ≡ false → Fits (stepMove (transactionIn before) number (inputOf kind participant) .effects) (siteIn site)) → changeIn r ≡ stepAs (siteIn site) (transactionIn before) transaction number kind participant cut keep) ⌝ }
 {
-    let at = transaction as usize;
-    let found = run.transactions[at];
-    let next = Move::step(found, site, kind, participant);
+    let next = Move::step(before, number, kind, participant);
     if (BEGIN <= kind) & !next.found {
-        return refused(run, Answer::NotAllowed);
+        return refused(site, before, Answer::NotAllowed);
     }
-    moving(run, site as usize, at, next, cut, keep)
-}
-
-// A site that is up again: its restart in each opened transaction, in rising order, up to the cut.
-fn perform_restart(run: Run, site: usize, cut: u8) -> Restarting
-    requires { ⌜ site ≤ 8 ⌝ }
-    ensures { λ r. ⌜ restartingIn r ≡ restarted (runIn run) site cut ⌝ }
-{
-    let found = run.sites[site];
-    let mut run = run;
-    let mut progress = Progress::start(found, Transaction::new(), cut);
-    let mut i: usize = 0;
-    while i < 8 {
-        let at = i;
-        i += 1;
-        let transaction = run.transactions[at];
-        if transaction.opened() {
-            let next = Move::restart(transaction, site as u8, found.kinds(at as u8));
-            let moved = next.transaction;
-            let effects = next.effects;
-            progress.transaction = moved;
-            progress = progress.row(site, at as u8, effects);
-            let changed = progress.transaction;
-            run.transactions[at] = changed;
-        }
-    }
-    let changed = progress.site;
-    run.sites[site] = changed.start();
-    Restarting {
-        run,
-        left: progress.left,
-        counts: progress.counts(),
-    }
-}
-
-pub fn restart(run: Run, site: u8, cut: u8, keep: u8) -> Next
-    requires { ⌜ site ≤ 8 ⌝ }
-    ensures { λ r. ⌜ nextIn r ≡ taken (runIn run) (restart site) (cutFrom cut keep) ⌝ }
-{
-    if run.up(site) {
-        return refused(run, Answer::SiteUp);
-    }
-    let again = perform_restart(run, site as usize, cut);
-    let after = again.run;
-    let counts = again.counts;
-    end(run, after, site as usize, again.left, counts, cut, keep)
+    moving(site, before, number, transaction, next, cut, keep)
 }

@@ -5,7 +5,6 @@ use crate::transactions::Transaction;
 use codec::message::Parts;
 use codec::record::Record;
 use codec::sets::both;
-use codec::sets::member;
 use codec::sets::minus;
 use site::effects::Effects;
 use site::presumption::Outcome;
@@ -129,12 +128,17 @@ impl Progress {
         requires { ⌜ (kind ≤ 6) × Counted (progressIn self) ⌝ }
         ensures { λ r. ⌜ ((s t : ℕ) → progressIn r ≡ progressed s t (map (send (getD messages kind prepare)) (listed to)) (progressIn self)) ⌝ }
     {
+        if to == 0 {
+            return self;
+        }
         let mut progress = self;
+        let mut rest = to;
         let mut participant: usize = 1;
-        while participant <= 8 {
-            if member(participant as u8, to) {
+        while rest != 0 {
+            if rest % 2 == 1 {
                 progress = progress.send(kind, participant);
             }
+            rest /= 2;
             participant += 1;
         }
         progress

@@ -71,6 +71,11 @@ fn write_field(n: usize, end: u8, out: &mut [u8], at: usize) -> usize
     requires { ⌜ (n < 1000000) × (at + length (decimal 5 n ++ (end ∷ [])) ≤ length (now out)) ⌝ }
     ensures { λ r. ⌜ (r ≡ at + length (decimal 5 n ++ (end ∷ []))) × (now (out .exit) ≡ stored at (decimal 5 n ++ (end ∷ [])) (now (out .entry))) ⌝ }
 {
+    if n < 10 {
+        out[at] = (48 + n) as u8;
+        out[at + 1] = end;
+        return at + 2;
+    }
     let last = write_number(n, out, at);
     out[last] = end;
     last + 1

@@ -16,7 +16,7 @@ use Rattle.joint.specs.Stand.{Told}
 use Rattle.joint.specs.Inside.{taken, Roomy}
 use Rattle.joint.proofs.Booleans.{clash}
 
-both-hold : (a b : Bool) → (a && b) ≡ true → (a ≡ true) × (b ≡ true)
+pub both-hold : (a b : Bool) → (a && b) ≡ true → (a ≡ true) × (b ≡ true)
 both-hold true b h = (refl, h)
 both-hold false b h = absurd (clash (sym h))
 

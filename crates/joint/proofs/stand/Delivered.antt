@@ -57,11 +57,11 @@ may-time x (suc n) h = (h, (refl, refl))
 -- ---- messages, by kind
 
 -- 0, 3 and 4 go to the participant
-abbrev outward : ℕ → Bool
+abbrev pub outward : ℕ → Bool
 outward kind = eqb kind 0 || (leb 3 kind && ltb kind 5)
 
 module _ (kind : ℕ) (h : kind ≤ 6) where
-  message-of : messageKind (getD messages kind prepare) ≡ kind
+  pub message-of : messageKind (getD messages kind prepare) ≡ kind
   unfolding messageKind messages
   message-of = eqb→eq _ _ (below-at 7 (λ kind. eqb (messageKind (getD messages kind prepare)) kind) tt kind (omega (arith, h)))
 
@@ -74,15 +74,15 @@ module _ (kind : ℕ) (h : kind ≤ 6) where
   unfolding plan uponInput
   delivery-plan r t p = rw (lt-leb 16 kind (omega (arith, h)), input-of p) refl
 
-  participant-receives : receives 1 kind ≡ outward kind
+  pub participant-receives : receives 1 kind ≡ outward kind
   unfolding receives kindsReceived any
   participant-receives = alike-eq _ _ (below-at 7 (λ kind. alike (receives 1 kind) (outward kind)) tt kind (omega (arith, h)))
 
-  coordinator-receives : receives 0 kind ≡ not (outward kind)
+  pub coordinator-receives : receives 0 kind ≡ not (outward kind)
   unfolding receives kindsReceived any
   coordinator-receives = alike-eq _ _ (below-at 7 (λ kind. alike (receives 0 kind) (not (outward kind))) tt kind (omega (arith, h)))
 
-goes-to : (kind p : ℕ) → kind ≤ 6 → receiver (getD messages kind prepare) p ≡ cond (outward kind) p 0
+pub goes-to : (kind p : ℕ) → kind ≤ 6 → receiver (getD messages kind prepare) p ≡ cond (outward kind) p 0
 unfolding receiver messages
 goes-to zero p h = refl
 goes-to (suc zero) p h = refl
@@ -114,12 +114,12 @@ module _ (kind p : ℕ) (h : kind ≤ 6) where
 
 -- ---- who receives a message
 
-to-itself : (x : plain.Transaction) (p kind : ℕ) → 1 ≤ p → p ≤ 8 → receives 1 kind ≡ true → MayReceive x p kind p
+pub to-itself : (x : plain.Transaction) (p kind : ℕ) → 1 ≤ p → p ≤ 8 → receives 1 kind ≡ true → MayReceive x p kind p
 unfolding MayReceive
 to-itself x zero kind l u e = absurd (omega (arith, l))
 to-itself x (suc n) kind l u e = (u, (refl, e))
 
-from-member : (x : plain.Transaction) (p kind : ℕ) → receives 0 kind ≡ true → member p (x .cohort .members) ≡ true → MayReceive x 0 kind p
+pub from-member : (x : plain.Transaction) (p kind : ℕ) → receives 0 kind ≡ true → member p (x .cohort .members) ≡ true → MayReceive x 0 kind p
 unfolding MayReceive
 from-member x p kind e m = rw (e, m) (or-true (leb 16 kind))
 

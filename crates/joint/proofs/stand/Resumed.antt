@@ -30,7 +30,7 @@ use Rattle.joint.proofs.stand.Restarted.{actsOf, settled, acts-of, sett
 
 -- ---- few effects
 
-tell-length : (g : Cohort) (o : Outcome) (to : ℕ) → length (tellAll g o to) ≤ 16
+pub tell-length : (g : Cohort) (o : Outcome) (to : ℕ) → length (tellAll g o to) ≤ 16
 unfolding tellAll inOrder
 tell-length g o to = simp length-map (ordered-length (owing g o) to)
 

@@ -1,16 +1,17 @@
 -- Sending to a set, one participant after the other, and first to those that owe an ack.
-use Prim.Native.Nat.{ℕ, suc, _+_, _-_, _≤_, _<_}
+use Prim.Native.Nat.{ℕ, suc, _+_, _-_, _/_, _%_, _^_, _≤_, _<_}
 use mathlib.Core.Path.{_≡_, refl, sym, ap, ap₂, _∙_}
 use mathlib.Core.Bool.{Bool, true, false, cond, not, _&&_, _||_}
+use mathlib.Core.Logic.{⊎-elim}
 use mathlib.Core.List.{List, [], _∷_, _++_, map, map-append}
-use lib.ListN.{drop, getD, drop-of-length-le}
+use lib.ListN.{drop-of-length-le, drop, getD}
 use lib.Seq.{drop-cons}
 use lib.Dec.{eqb, leb, ltb, eqb→eq}
 use native.Mathlib.Omega.{arith}
-use borrow.Author.Tests.{eqb-true, ltb-true, ltb-false, lt-leb, le-leb}
-use Rattle.codec.specs.Lists.{select}
+use borrow.Author.Tests.{eqb-true, eq-eqb, ne-eqb, ltb-true, ltb-false, lt-leb, le-leb}
+use Rattle.codec.specs.Lists.{select, same}
 use Rattle.codec.specs.Sets.{participants, member, listed, those, both, minus}
-use Rattle.codec.specs.laws.Tests.{or-none, below-at}
+use Rattle.codec.specs.laws.Tests.{or-none, below-at, below-at-2, lt-or-le, alike, alike-eq, true-of, same-list}
 use Rattle.site.specs.Step.{Message, prepare, messages, Effect, send, given}
 use Rattle.site.specs.Answers.{sending}
 use Rattle.site.specs.Coordinator.{ordered, inTurn}
@@ -57,6 +58,10 @@ in-order first to =
     (ap₂ _++_ (select-listed (λ p. member p first) to) (select-listed (λ p. not (member p first)) to))
 
 -- to nobody, or what is no message
+pub listed-none : listed 0 ≡ []
+unfolding listed select participants member
+listed-none = refl
+
 to-nobody : (first : ℕ) → ordered first 0 ≡ []
 unfolding ordered inTurn listed select participants member
 to-nobody first = refl
@@ -91,10 +96,11 @@ sending-both kind owing to q =
 abbrev pub from : ℕ → ℕ → List ℕ
 from to b = select (λ p. member p to) (drop (b - 1) participants)
 
--- what is still to send, sent after what was, is the whole
-pub record Sending (m : Message) (to : ℕ) (before now : Doing) (next : ℕ) : Type 0 where
+-- what is still to send, sent after what was, is the whole; the mask is what halving has left of the set
+pub record Sending (m : Message) (to : ℕ) (before now : Doing) (mask next : ℕ) : Type 0 where
   pub low : 1 ≤ next
   pub high : next ≤ 9
+  pub halved : mask ≡ to / 2 ^ (next - 1)
   pub counted : Counted now
   pub rest : (s t : ℕ) → progressed s t (map (send m) (from to next)) now ≡ progressed s t (map (send m) (listed to)) before
 
@@ -110,41 +116,86 @@ pub from-at : (to b : ℕ) → 1 ≤ b → b ≤ 8 → from to b ≡ cond (membe
 unfolding select
 from-at to b l h = ap (select (λ p. member p to)) (participant-at b l h)
 
-pub from-end : (to b : ℕ) → 8 < b → from to b ≡ []
+-- a mask halved i times: its lowest bit is participant i + 1, and where it is 0 none is left
+module _ (i to : ℕ) (h : i < 9) (byte : to < 256) where
+  half : to / 2 ^ i / 2 ≡ to / 2 ^ (i + 1)
+  half = eqb→eq _ _ (below-at-2 9 256 (λ i to. eqb (to / 2 ^ i / 2) (to / 2 ^ (i + 1))) tt i to h byte)
+
+  lowest : member (i + 1) to ≡ eqb (to / 2 ^ i % 2) 1
+  unfolding member
+  lowest = alike-eq _ _ (below-at-2 9 256 (λ i to. alike (member (i + 1) to) (eqb (to / 2 ^ i % 2) 1)) tt i to h byte)
+
+  none-left : to / 2 ^ i ≡ 0 → select (λ p. member p to) (drop i participants) ≡ []
+  unfolding member participants select same
+  none-left z =
+      let none : (not (eqb (to / 2 ^ i) 0) || same (select (λ p. member p to) (drop i participants)) []) ≡ true =
+      true-of _ (below-at-2 9 256 (λ i to. not (eqb (to / 2 ^ i) 0) || same (select (λ p. member p to) (drop i participants)) []) tt i to h byte) in
+      same-list _ _ (rw (eq-eqb (to / 2 ^ i) 0 z) at none)
+
+-- nobody is behind the eighth
+pub from-past : (to b : ℕ) → 8 < b → from to b ≡ []
 unfolding select participants
-from-end to b h = ap (select (λ p. member p to)) (drop-of-length-le participants {i = b - 1} (omega arith))
+from-past to b h = ap (select (λ p. member p to)) (drop-of-length-le participants {i = b - 1} (omega arith))
 
-module _ (m : Message) (to : ℕ) (before : Doing) where
-  pub sending-starts : Counted before → Sending m to before before 1
+module _ (m : Message) (to : ℕ) (before : Doing) (byte : to < 256) where
+  pub sending-starts : Counted before → Sending m to before before to 1
   unfolding listed
-  sending-starts c = record { low = omega arith; high = omega arith; counted = c; rest = λ s t. refl }
+  sending-starts c = record { low = omega arith; high = omega arith; halved = omega arith; counted = c; rest = λ s t. refl }
 
-  module _ (now : Doing) (b : ℕ) (w : Sending m to before now b) where
-    pub sending-sends : b ≤ 8 → member b to ≡ true → (next : Doing) → ((s t : ℕ) → next ≡ progressed s t (send m b ∷ []) now) → Sending m to before next (b + 1)
-    sending-sends h e next q =
+  module _ (now : Doing) (mask b : ℕ) (w : Sending m to before now mask b) where
+    within : b - 1 < 9
+    within = omega (arith, w .low, w .high)
+
+    pub sending-on : (mask ≡ 0 → ⊥) → b ≤ 8
+    sending-on n =
+        ⊎-elim
+        (λ h. omega (arith, h))
+        (λ h.
+        let last : b ≡ 9 = omega (arith, h, w .high) in
+        let over : mask ≡ to / 256 = rw last at (w .halved) in
+        absurd (n (omega (arith, over, byte))))
+        (lt-or-le b 9)
+
+    halved-next : mask / 2 ≡ to / 2 ^ (b + 1 - 1)
+    halved-next =
+        let next : b - 1 + 1 ≡ b + 1 - 1 = omega (arith, w .low) in
+        ap (λ (n : ℕ). n / 2) (w .halved) ∙ half (b - 1) to within byte ∙ ap (λ (n : ℕ). to / 2 ^ n) next
+
+    is-member : member b to ≡ eqb (mask % 2) 1
+    is-member =
+        let this : b - 1 + 1 ≡ b = omega (arith, w .low) in
+        ap (λ (n : ℕ). member n to) (sym this) ∙ lowest (b - 1) to within byte ∙ ap (λ (n : ℕ). eqb (n % 2) 1) (sym (w .halved))
+
+    from-next : (mask ≡ 0 → ⊥) → (x : Bool) → eqb (mask % 2) 1 ≡ x → from to b ≡ cond x (b ∷ from to (b + 1)) (from to (b + 1))
+    from-next n x e = from-at to b (w .low) (sending-on n) ∙ ap (λ (x : Bool). cond x (b ∷ from to (b + 1)) (from to (b + 1))) (is-member ∙ e)
+
+    pub sending-sends : (mask ≡ 0 → ⊥) → mask % 2 ≡ 1 → (next : Doing) → ((s t : ℕ) → next ≡ progressed s t (send m b ∷ []) now) → Sending m to before next (mask / 2) (b + 1)
+    sending-sends n e next q =
         record {
           low = omega arith;
-          high = omega arith;
+          high = omega (arith, sending-on n);
+          halved = halved-next;
           counted = rw (q 0 0) (counted-kept 0 0 (send m b ∷ []) now (w .counted));
           rest = λ s t.
-              let l : from to b ≡ b ∷ from to (b + 1) = from-at to b (w .low) h ∙ ap (λ (x : Bool). cond x (b ∷ from to (b + 1)) (from to (b + 1))) e in
               ap (progressed s t (map (send m) (from to (b + 1)))) (q s t)
               ∙ sym (progressed-append s t (send m b ∷ []) (map (send m) (from to (b + 1))) now)
-              ∙ ap (λ (l : List ℕ). progressed s t (map (send m) l) now) (sym l)
+              ∙ ap (λ (l : List ℕ). progressed s t (map (send m) l) now) (sym (from-next n true (eq-eqb (mask % 2) 1 e)))
               ∙ w .rest s t;
         }
 
-    pub sending-passes : b ≤ 8 → member b to ≡ false → Sending m to before now (b + 1)
-    sending-passes h e =
+    pub sending-passes : (mask ≡ 0 → ⊥) → (mask % 2 ≡ 1 → ⊥) → Sending m to before now (mask / 2) (b + 1)
+    sending-passes n e =
         record {
           low = omega arith;
-          high = omega arith;
+          high = omega (arith, sending-on n);
+          halved = halved-next;
           counted = w .counted;
-          rest = λ s t.
-              let l : from to b ≡ from to (b + 1) = from-at to b (w .low) h ∙ ap (λ (x : Bool). cond x (b ∷ from to (b + 1)) (from to (b + 1))) e in
-              ap (λ (l : List ℕ). progressed s t (map (send m) l) now) (sym l) ∙ w .rest s t;
+          rest = λ s t. ap (λ (l : List ℕ). progressed s t (map (send m) l) now) (sym (from-next n false (ne-eqb (mask % 2) 1 e))) ∙ w .rest s t;
         }
 
-    pub sending-ends : 8 < b → (s t : ℕ) → now ≡ progressed s t (map (send m) (listed to)) before
-    sending-ends h s t =
-        sym (progressed-none s t now) ∙ ap (λ (l : List ℕ). progressed s t (map (send m) l) now) (sym (from-end to b h)) ∙ w .rest s t
+    from-end : mask ≡ 0 → from to b ≡ []
+    from-end z = none-left (b - 1) to within byte (sym (w .halved) ∙ z)
+
+    pub sending-ends : mask ≡ 0 → (s t : ℕ) → now ≡ progressed s t (map (send m) (listed to)) before
+    sending-ends z s t =
+        sym (progressed-none s t now) ∙ ap (λ (l : List ℕ). progressed s t (map (send m) l) now) (sym (from-end z)) ∙ w .rest s t

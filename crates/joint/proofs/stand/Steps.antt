@@ -34,7 +34,7 @@ select-length f (x ∷ l) = go (f x) (select-length f l)
     go true h = omega (arith, h)
     go false h = omega (arith, h)
 
-listed-length : (m : ℕ) → length (listed m) ≤ 8
+pub listed-length : (m : ℕ) → length (listed m) ≤ 8
 unfolding listed participants
 listed-length m = select-length (λ p. member p m) participants
 

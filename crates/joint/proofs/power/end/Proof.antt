@@ -1,71 +1,73 @@
-use mathlib.Core.Path.{_≡_, refl, ap, _∙_}
-use lib.ListN.{length}
-use Rattle.joint.specs.State as plain
-use Rattle.joint.specs.Stand.{answerIn, nextIn}
-use Rattle.joint.proofs.stand.Arrays.{length-shown}
-use Rattle.joint.proofs.stand.Reads.{site-read}
-use Rattle.joint.proofs.stand.Ends.{ended-whole, ended-over, ended-cut}
+use mathlib.Core.Path.{_∙_}
+use mathlib.Core.Bool.{true, false}
 use borrow.Author.Needs.{needs}
+use Rattle.joint.specs.Stand.{answerIn, siteIn, transactionIn}
+use Rattle.joint.specs.Inside.{progressIn, changeIn}
+use Rattle.joint.proofs.stand.Changes.{whole, too-far, at-cut}
 use Rattle.joint.proofs.power.end.Statement.{statement}
 use Rattle.joint.proofs.power.end.Tie as tie
 use Rattle.joint.proofs.power.end.Reads as reads
 use Rattle.joint.proofs.power.end.Lts as lts
-use Rattle.joint.proofs.power.down.Reads as down-reads
 use Rattle.joint.proofs.power.refused.Reads as refused-reads
+use Rattle.joint.proofs.progress.Progress.counts.Reads as counts-reads
+use Rattle.joint.proofs.sites.Site.stop.Reads as stop-reads
 use Rattle.joint.proofs.sites.Site.unforced_count.Reads as unforced-count-reads
 
--- src/power.rt:55:9
+-- src/power.rt:60:38
+counts-requires : tie.Need-counts-requires
+counts-requires c κs = search needs
+
+-- src/power.rt:59:9
 returns : tie.Need-returns
-unfolding nextIn answerIn
-returns c = ended-whole _ _ _ _ _ _ _ _ refl (c .if1 .taken)
+unfolding changeIn answerIn progressIn
+returns c =
+    let a = c .before .before .before .before .args in
+    let n = c .counts .ensures in
+    (λ i. record { answer = record { number = 0; records = n .0 i; forces = n .1 .0 i; sends = n .1 .1 i }; site = siteIn (a .progress .site); transaction = transactionIn (a .progress .transaction); down = false })
+    ∙ whole _ _ (progressIn (a .progress)) _ _ (c .before .if1 .taken)
 
--- src/power.rt:60:17
-mul-found : tie.Need-mul-found
-mul-found c = search needs
-
--- src/power.rt:60:17
-element-copy-out-found : tie.Need-element-copy-out-found
-element-copy-out-found c = search needs
-
--- src/power.rt:61:23
+-- src/power.rt:66:32
 unforced-count-requires : tie.Need-unforced-count-requires
 unforced-count-requires c κs = search needs
 
--- src/power.rt:62:9
+-- src/power.rt:67:9
 refused-requires : tie.Need-refused-requires
 refused-requires c κs = search needs
 
--- src/power.rt:62:9
+-- src/power.rt:67:9
 returns-2 : tie.Need-returns-2
-unfolding answerIn
+unfolding answerIn progressIn
 returns-2 c =
-    let a = c .before .before .before .before .before .args in
-    let e : length (a .t2 .sites) ≡ 9 = search length-shown in
-    let n = c .before .before .unforced-count .ensures ∙ ap (λ (x : plain.Site). length (x .unforced)) (site-read (a .t2) (a .site) _ e (search needs)) in
-    c .refused .ensures ∙ ended-over _ _ _ _ _ _ _ _ n (c .before .before .before .before .if1 .left) (c .before .if2 .taken)
+    let a = c .before .before .before .before .before .before .before .args in
+    c .refused .ensures
+    ∙ too-far _ _ (progressIn (a .progress)) _ _ _ (c .before .before .unforced-count .ensures) (c .before .before .before .before .if1 .left) (c .before .if2 .taken)
 
--- src/power.rt:66:14
-down-requires : tie.Need-down-requires
-down-requires c κs = search needs
+-- src/power.rt:70:34
+counts-requires-2 : tie.Need-counts-requires-2
+counts-requires-2 c κs = search needs
 
--- src/power.rt:50:1
+-- src/power.rt:71:15
+stop-requires : tie.Need-stop-requires
+stop-requires c κs = search needs
+
+-- src/power.rt:53:1
 returns-3 : tie.Need-returns-3
-unfolding nextIn answerIn
+unfolding changeIn answerIn progressIn
 returns-3 c =
-    let a = c .before .before .before .before .before .args in
-    let e : length (a .t2 .sites) ≡ 9 = search length-shown in
-    let n = c .before .before .unforced-count .ensures ∙ ap (λ (x : plain.Site). length (x .unforced)) (site-read (a .t2) (a .site) _ e (search needs)) in
-    rw (c .down .ensures) (ended-cut _ _ _ _ _ _ _ _ n (c .before .before .before .before .if1 .left) (c .before .if2 .left))
+    let a = c .before .before .before .before .before .before .before .before .args in
+    let n = c .before .counts2 .ensures in
+    (λ i. record { answer = record { number = 0; records = n .0 i; forces = n .1 .0 i; sends = n .1 .1 i }; site = c .stop .ensures i; transaction = transactionIn (a .progress .transaction); down = true })
+    ∙ at-cut _ _ (progressIn (a .progress)) _ _ _ (c .before .before .before .unforced-count .ensures) (c .before .before .before .before .before .if1 .left) (c .before .before .if2 .left)
 
 pub end-spec : {M : Type 1} → statement M
 end-spec =
     tie.close
     (tie.spec
+    counts-requires
     returns
-    mul-found
-    element-copy-out-found
     unforced-count-requires
     refused-requires
     returns-2
-    down-requires
+    counts-requires-2
+    stop-requires
     returns-3)

@@ -1,5 +1,5 @@
 use mathlib.Core.Path.{refl}
-use Rattle.joint.specs.Stand.{nextIn}
+use Rattle.joint.specs.Inside.{changeIn}
 use Rattle.joint.proofs.power.refused.Statement.{statement}
 use Rattle.joint.proofs.power.refused.Tie as tie
 use Rattle.joint.proofs.power.refused.Reads as reads
@@ -7,7 +7,7 @@ use Rattle.joint.proofs.power.refused.Lts as lts
 
 -- src/power.rt:26:1
 returns : tie.Need-returns
-unfolding nextIn
+unfolding changeIn
 returns c = refl
 
 pub refused-spec : {M : Type 1} → statement M

@@ -9,7 +9,7 @@ use Rattle.codec.specs.Sets.{member, listed}
 use Rattle.joint.specs.State.{Run}
 use Rattle.joint.specs.Refusals.{isDown}
 use Rattle.joint.specs.Stand.{runIn}
-use Rattle.joint.proofs.stand.Sending.{from, from-at, from-end}
+use Rattle.joint.proofs.stand.Sending.{from, from-at, from-past}
 use Rattle.joint.proofs.run.Run.all_up.Statement.{statement}
 use Rattle.joint.proofs.run.Run.all_up.Tie as tie
 
@@ -53,7 +53,7 @@ module _ (r : Run) (to : ℕ) where
 
     ends : 8 < i → true ≡ not (any (isDown r) (0 ∷ listed to))
     unfolding any
-    ends h = ap (λ (l : List ℕ). not (any (isDown r) l)) (sym (from-end to i h)) ∙ ap not (w .rest)
+    ends h = ap (λ (l : List ℕ). not (any (isDown r) l)) (sym (from-past to i h)) ∙ ap not (w .rest)
 
 abbrev Inv-loop : tie.InvT-loop
 Inv-loop self members i₀ i = Reached (runIn self) members i
