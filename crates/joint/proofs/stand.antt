@@ -34,4 +34,5 @@ pub mod Turns
 pub mod Asks
 pub mod Downs
 pub mod Resuming
-pub mod Heard
+pub mod Readings
+pub mod Replaying

@@ -156,7 +156,7 @@ fn crash(site: Site, before: Transaction, keep: u8) -> Change
 
 // An event whose bytes are in their ranges, but a restart: what it does to its site and its transaction. `up` says whether
 // the coordinator and the members are up, where it is an open.
-fn change(site: Site, before: Transaction, up: bool, asked: Asked) -> Change
+pub fn change(site: Site, before: Transaction, up: bool, asked: Asked) -> Change
     requires { ⌜ Well asked × (asked .code ≤ 6) ⌝ }
     ensures { λ r. ⌜ ((w : plain.Run) → siteIn site ≡ w .site (siteOf (asked .code) (asked .y) (asked .z)) → transactionIn before ≡ w .transaction (asked .x) → UpFor w (asked .code) (asked .y) up → Roomy w (eventIn asked) → applied w (siteOf (asked .code) (asked .y) (asked .z)) (asked .x) (changeIn r) ≡ taken w (eventIn asked) (cutIn asked)) ⌝ }
 {
@@ -193,7 +193,7 @@ fn change(site: Site, before: Transaction, up: bool, asked: Asked) -> Change
 
 impl Run {
     // Whether the coordinator and the members are up.
-    fn all_up(self, members: u8) -> bool
+    pub fn all_up(self, members: u8) -> bool
         ensures { λ r. ⌜ r ≡ not (any (isDown (runIn self)) (0 ∷ listed members)) ⌝ }
     {
         if !self.up(0) {

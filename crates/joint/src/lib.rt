@@ -2,7 +2,7 @@
 pub mod answers;
 mod asked;
 pub mod drill;
-pub mod events;
+mod events;
 mod moves;
 mod power;
 mod progress;

@@ -1,5 +1,9 @@
 // A list of events from the fresh run.
 use crate::answers::Answer;
+use crate::asked::Asked;
+use crate::events::change;
+use crate::power::forget_all;
+use crate::restarts::restart_site;
 use crate::run::Run;
 ghost use mathlib.Core.Path.{_≡_};
 ghost use Prim.Native.Nat.{_+_, _≤_};
@@ -44,11 +48,44 @@ pub fn replay(bytes: &[u8], answers: &mut [u8]) -> Ran
         } else {
             at + Run::EVENT_LENGTH
         };
-        let next = run.event(&bytes[at..end]);
-        let answer = next.answer;
-        store(answer, answers, 4 * count);
-        run = next.run;
+        let asked = Asked::read(&bytes[at..end]);
+        let out = 4 * count;
         count += 1;
+        if asked.malformed {
+            store(Answer::Malformed, answers, out);
+        } else {
+            let s = asked.site() as usize;
+            let site = run.sites[s];
+            if asked.code == Run::RESTART {
+                let transactions = run.transactions;
+                let again = restart_site(site, transactions, asked.y, asked.cut, asked.keep);
+                let changed = again.site;
+                run.sites[s] = changed;
+                let changed = again.transactions;
+                run.transactions = changed;
+                let answer = again.answer;
+                store(answer, answers, out);
+            } else {
+                let t = asked.x as usize;
+                let transaction = run.transactions[t];
+                let up = if asked.code == Run::OPEN {
+                    run.all_up(asked.y)
+                } else {
+                    true
+                };
+                let next = change(site, transaction, up, asked);
+                let changed = next.site;
+                run.sites[s] = changed;
+                let changed = next.transaction;
+                run.transactions[t] = changed;
+                if next.down {
+                    let transactions = run.transactions;
+                    run.transactions = forget_all(transactions, s);
+                }
+                let answer = next.answer;
+                store(answer, answers, out);
+            }
+        }
     }
     Ran { count, run }
 }

@@ -6,8 +6,7 @@ use Rattle.joint.specs.State.{fresh}
 use Rattle.joint.specs.Run.{after}
 use Rattle.joint.specs.Stand.{answerIn, refusalNumber, runIn, nextIn}
 use Rattle.joint.specs.Inside.{Roomy, taken, eventIn, cutIn}
-use Rattle.joint.proofs.stand.Rooms.{room}
-use Rattle.joint.proofs.stand.Heard.{malformed-told, asked-told, asked-code, asked-bytes}
+use Rattle.joint.proofs.stand.Readings.{malformed-event, asked-event, code-small, roomy}
 use borrow.Author.Needs.{needs}
 use Rattle.joint.proofs.run.Run.event.Statement.{statement}
 use Rattle.joint.proofs.run.Run.event.Tie as tie
@@ -25,7 +24,7 @@ unfolding nextIn answerIn
 returns c es e =
     let w = c .before in
     ap (λ (r : plain.Run). record { answer = refusalNumber 1; run = r }) e
-    ∙ malformed-told (after fresh es) (w .before .before .args .event .now) (w .read .result) (w .read .ensures .0) (c .if1 .taken)
+    ∙ sym (malformed-event (w .read .result) (w .before .before .args .event .now) (w .read .ensures .0) (after fresh es) (c .if1 .taken))
 
 restart-requires : tie.Need-restart-requires
 restart-requires c κs =
@@ -38,13 +37,13 @@ returns-2 c es e =
     let a = w .read .result in
     c .restart .ensures
     ∙ ap (λ (r : plain.Run). taken r (eventIn a) (cutIn a)) e
-    ∙ asked-told (after fresh es) (w .before .before .args .event .now) a (w .read .ensures .0) (c .before .before .before .if1 .left)
+    ∙ sym (asked-event a (w .before .before .args .event .now) (w .read .ensures .0) (after fresh es) (c .before .before .before .if1 .left))
 
 perform-requires : tie.Need-perform-requires
 perform-requires c κs =
     let w = c .before .before .before in
     let well = w .read .ensures .1 (c .before .before .if1 .left) in
-    let h = asked-code (w .read .result) well in
+    let h = code-small (w .read .result) well in
     (well, omega (arith, h, c .if2 .left))
 
 returns-3 : tie.Need-returns-3
@@ -52,10 +51,10 @@ returns-3 c es e =
     let w = c .before .before .before .before in
     let a = w .read .result in
     let m = c .before .before .before .if1 .left in
-    let space = room es (a .code) (a .x) (a .y) (a .z) (asked-bytes a (w .read .ensures .1 m)) in
+    let space = roomy a (w .read .ensures .1 m) es in
     c .perform .ensures (subst (λ (r : plain.Run). Roomy r (eventIn a)) (sym e) space)
     ∙ ap (λ (r : plain.Run). taken r (eventIn a) (cutIn a)) e
-    ∙ asked-told (after fresh es) (w .before .before .args .event .now) a (w .read .ensures .0) m
+    ∙ sym (asked-event a (w .before .before .args .event .now) (w .read .ensures .0) (after fresh es) m)
 
 pub event-spec : {M : Type 1} → statement M
 event-spec =

@@ -7,7 +7,7 @@ use Rattle.joint.specs.Stand.{runIn, nextIn}
 use Rattle.joint.specs.Inside.{changeIn, applied, taken, eventIn, cutIn, siteOf, UpFor, Roomy}
 use Rattle.joint.proofs.stand.Arrays.{length-shown}
 use Rattle.joint.proofs.stand.Reads.{site-read, transaction-read}
-use Rattle.joint.proofs.stand.Heard.{asked-site, asked-transaction}
+use Rattle.joint.proofs.stand.Readings.{site-small, x-small}
 use Rattle.joint.proofs.stand.Turned.{change-kept, change-down}
 use borrow.Author.Needs.{needs}
 use Rattle.joint.proofs.run.Run.perform.Statement.{statement}
@@ -33,10 +33,10 @@ Placed = lts.After-site (site-reads.Asked, site-reads.Learnt, all-up-reads.Asked
 
 -- where the event is
 small : (c : Placed) → c .site .result ≤ 8
-small c = subst (λ (n : ℕ). n ≤ 8) (sym (c .site .ensures)) (asked-site (c .before .args .asked) (c .before .pre .0))
+small c = subst (λ (n : ℕ). n ≤ 8) (sym (c .site .ensures)) (site-small (c .before .args .asked) (c .before .pre .0))
 
 low : (b : Called) → b .args .asked .x ≤ 7
-low b = asked-transaction (b .args .asked) (b .pre .0)
+low b = x-small (b .args .asked) (b .pre .0)
 
 site-requires : tie.Need-site-requires
 site-requires c κs = tt
