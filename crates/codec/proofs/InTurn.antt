@@ -18,7 +18,7 @@ use Rattle.codec.specs.declared.log.Log.{Log}
 use Rattle.codec.specs.laws.Fields.{bytes-length, length-most}
 use Rattle.codec.proofs.Held.{held-count, held-bytes}
 use Rattle.codec.specs.laws.Tables.{length-table}
-use Rattle.codec.proofs.Stored.{Next}
+use Rattle.codec.specs.laws.Stored.{Next}
 
 -- the records of a log, as bytes, from one on
 abbrev pub bytesFrom : List Record → ℕ → ℕ → List (List ℕ)

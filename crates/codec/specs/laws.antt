@@ -7,3 +7,4 @@ pub mod Refusals
 pub mod Tables
 pub mod Pairs
 pub mod RoundTrip
+pub mod Stored

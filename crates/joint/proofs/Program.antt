@@ -1,7 +1,7 @@
 -- Demand 3 of the program: by its promises every execution is the plain run's, which is safe.
 use Prim.Native.Nat.{ℕ, _≤_}
 use mathlib.Core.Path.{_≡_, refl, sym, ap, _∙_}
-use mathlib.Core.List.{List, [], _∷_, _++_, map, map-append}
+use mathlib.Core.List.{List, map, map-append}
 use Rattle.codec.specs.Image.{accepted, readImage}
 use Rattle.joint.specs.State.{fresh}
 use Rattle.joint.specs.Run as plain

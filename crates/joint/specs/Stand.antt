@@ -1,9 +1,8 @@
 -- What the program's values stand for, and its answers in 01's numbers. Nothing here says what is right: State to Drill do.
 use Prim.Native.Nat.{ℕ}
 use mathlib.Core.Bool.{Bool, true, false}
-use mathlib.Core.List.{List, [], _∷_, map}
+use mathlib.Core.List.{List, map}
 use lib.ListN.{take, drop, getD, replicate}
-use Rattle.codec.specs.Records.{LogRecord}
 use Rattle.codec.specs.Answers.{recordIn, noRecord}
 use Rattle.site.specs.Presumption.{Outcome, commit, abort}
 use Rattle.site.specs.Answers.{coordinatorIn, participantIn, cohortIn, hasKind}

@@ -156,7 +156,7 @@ fn crash(site: Site, before: Transaction, keep: u8) -> Change
 
 // An event whose bytes are in their ranges, but a restart: what it does to its site and its transaction. `up` says whether
 // the coordinator and the members are up, where it is an open.
-pub fn change(site: Site, before: Transaction, up: bool, asked: Asked) -> Change
+pub(crate) fn change(site: Site, before: Transaction, up: bool, asked: Asked) -> Change
     requires { ⌜ Well asked × (asked .code ≤ 6) ⌝ }
     ensures { λ r. ⌜ ((w : plain.Run) → siteIn site ≡ w .site (siteOf (asked .code) (asked .y) (asked .z)) → transactionIn before ≡ w .transaction (asked .x) → UpFor w (asked .code) (asked .y) up → Roomy w (eventIn asked) → applied w (siteOf (asked .code) (asked .y) (asked .z)) (asked .x) (changeIn r) ≡ taken w (eventIn asked) (cutIn asked)) ⌝ }
 {

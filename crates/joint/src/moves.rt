@@ -84,7 +84,7 @@ impl Move {
     }
 
     // Of a site: the coordinator upon a message of a member, begin or its timer, a participant upon its own message or its timer.
-    pub fn step(transaction: Transaction, site: u8, kind: u8, participant: u8) -> Move
+    pub(crate) fn step(transaction: Transaction, site: u8, kind: u8, participant: u8) -> Move
         requires { ⌜ MayReceive (transactionIn transaction) site kind participant ⌝ }
         ensures { λ r. ⌜ moveIn r ≡ stepMove (transactionIn transaction) site (inputOf kind participant) ⌝ }
     {
@@ -95,7 +95,7 @@ impl Move {
     }
 
     // At restart, from the kinds of record that the stable log has of the transaction, bit k for kind k.
-    pub fn restart(transaction: Transaction, site: u8, kinds: u8) -> Move
+    pub(crate) fn restart(transaction: Transaction, site: u8, kinds: u8) -> Move
         requires { ⌜ site ≤ 8 ⌝ }
         ensures { λ r. ⌜ moveIn r ≡ restartMove (transactionIn transaction) site (hasKind kinds) ⌝ }
     {

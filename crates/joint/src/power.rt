@@ -35,7 +35,7 @@ pub fn refused(site: Site, transaction: Transaction, answer: Answer) -> Change
 }
 
 // The phase at a site is Unknown in every transaction.
-pub fn forget_all(transactions: [Transaction; 8], site: usize) -> [Transaction; 8]
+pub(crate) fn forget_all(transactions: [Transaction; 8], site: usize) -> [Transaction; 8]
     requires { ⌜ site ≤ 8 ⌝ }
     ensures { λ r. ⌜ transactionsIn r ≡ (λ t. forgotten site (transactionsIn transactions t)) ⌝ }
 {
@@ -95,7 +95,7 @@ fn moving(
 }
 
 // The step of site `number` upon a message of a participant, begin or its timer; these two are refused where there is no row.
-pub fn step(
+pub(crate) fn step(
     site: Site,
     before: Transaction,
     transaction: u8,

@@ -157,7 +157,7 @@ impl Progress {
     }
 
     // All effects of a row, of a transaction at a site.
-    pub fn row(self, site: usize, transaction: u8, effects: Effects) -> Progress
+    pub(crate) fn row(self, site: usize, transaction: u8, effects: Effects) -> Progress
         requires { ⌜ (site ≤ 8) × Counted (progressIn self) ⌝ }
         ensures { λ r. ⌜ (Fits (effectsIn effects) (siteIn (self .site)) → progressIn r ≡ progressed site transaction (effectsIn effects) (progressIn self)) ⌝ }
     {

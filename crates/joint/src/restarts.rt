@@ -57,7 +57,7 @@ fn resume_all(site: Site, transactions: [Transaction; 8], number: usize, cut: u8
     }
 }
 
-pub fn restart_site(
+pub(crate) fn restart_site(
     site: Site,
     transactions: [Transaction; 8],
     number: u8,

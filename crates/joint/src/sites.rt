@@ -28,7 +28,7 @@ pub struct Site {
 }
 
 // With one kind more in a set of kinds, bit k for kind k.
-pub fn with_kind(kinds: u8, kind: u8) -> u8
+pub(crate) fn with_kind(kinds: u8, kind: u8) -> u8
     requires { ⌜ kind ≤ 7 ⌝ }
     ensures { λ r. ⌜ ((k : ℕ) → hasKind r k ≡ (eqb k kind || hasKind kinds k)) ⌝ }
 {

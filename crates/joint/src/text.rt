@@ -101,7 +101,7 @@ fn write_line(number: usize, answers: &[u8], from: usize, out: &mut [u8], at: us
 }
 
 // The length of the lines of `count` answers, four bytes each.
-pub fn lines_size(answers: &[u8], count: usize) -> usize
+pub(crate) fn lines_size(answers: &[u8], count: usize) -> usize
     requires { ⌜ (count ≤ 10000) × (4 * count ≤ length (now answers)) ⌝ }
     ensures { λ r. ⌜ r ≡ length (linesOf count (now (answers .entry))) ⌝ }
 {
@@ -114,7 +114,7 @@ pub fn lines_size(answers: &[u8], count: usize) -> usize
     size
 }
 
-pub fn write_lines(answers: &[u8], count: usize, out: &mut [u8]) -> usize
+pub(crate) fn write_lines(answers: &[u8], count: usize, out: &mut [u8]) -> usize
     requires { ⌜ ((count ≤ 10000) × (4 * count ≤ length (now answers))) × (length (linesOf count (now answers)) ≤ length (now out)) ⌝ }
     ensures { λ r. ⌜ (r ≡ length (linesOf count (now (answers .entry)))) × (now (out .exit) ≡ stored 0 (linesOf count (now (answers .entry))) (now (out .entry))) ⌝ }
 {
@@ -200,7 +200,7 @@ pub fn opened_count(run: Run) -> usize
 }
 
 // The lines of the opened transactions, 21 bytes each.
-pub fn write_transactions(run: Run, out: &mut [u8])
+pub(crate) fn write_transactions(run: Run, out: &mut [u8])
     requires { ⌜ 21 * length (openedIn (runIn run)) ≤ length (now out) ⌝ }
     ensures { λ _. ⌜ now (out .exit) ≡ stored 0 (transactionLines (runIn run)) (now (out .entry)) ⌝ }
 {

@@ -125,7 +125,7 @@ impl Transaction {
         }
     }
 
-    pub fn with_participant(self, participant: usize, phase: ParticipantPhase) -> Transaction
+    pub(crate) fn with_participant(self, participant: usize, phase: ParticipantPhase) -> Transaction
         requires { ⌜ participant ≤ 8 ⌝ }
         ensures { λ r. ⌜ transactionIn r ≡ withParticipant participant (participantIn phase) (transactionIn self) ⌝ }
     {
@@ -140,7 +140,7 @@ impl Transaction {
         transaction
     }
 
-    pub fn with_sent(self, participant: usize, kind: u8) -> Transaction
+    pub(crate) fn with_sent(self, participant: usize, kind: u8) -> Transaction
         requires { ⌜ (participant ≤ 8) × (kind ≤ 6) ⌝ }
         ensures { λ r. ⌜ transactionIn r ≡ withSent participant kind (transactionIn self) ⌝ }
     {
@@ -151,7 +151,7 @@ impl Transaction {
         transaction
     }
 
-    pub fn with_entered(self, site: usize, outcome: Outcome) -> Transaction
+    pub(crate) fn with_entered(self, site: usize, outcome: Outcome) -> Transaction
         requires { ⌜ site ≤ 8 ⌝ }
         ensures { λ r. ⌜ transactionIn r ≡ withEntered site (outcomeIn outcome) (transactionIn self) ⌝ }
     {
@@ -170,7 +170,7 @@ impl Transaction {
     }
 
     // The phase at a site is Unknown.
-    pub fn forget(self, site: usize) -> Transaction
+    pub(crate) fn forget(self, site: usize) -> Transaction
         requires { ⌜ site ≤ 8 ⌝ }
         ensures { λ r. ⌜ transactionIn r ≡ forgotten site (transactionIn self) ⌝ }
     {

@@ -17,7 +17,8 @@ use Rattle.site.specs.Coordinator.{ordered, tellAll, inOrder, preparing,
 use Rattle.site.specs.Participant.{outcomeRecord, voting, promising, onPrepare, acking, finish, acknowledging, ackingIf, onTell, participantTimer, participantStep, Participant, working, prepared, decided}
 use Rattle.site.specs.Numbers.{Arguments, waitingSet, Summary, summary, fieldsOf, goFirst, entryOf, appending, othersDone, done}
 use Rattle.site.specs.Inside.{Numbered}
-use Rattle.site.proofs.Sent.{kind-known, ordered-by-turn, ordered-none, ordered-one}
+use Rattle.site.specs.laws.Sets.{ordered-none}
+use Rattle.site.proofs.Sent.{kind-known, ordered-by-turn, ordered-one}
 use Rattle.site.proofs.Summed.{weight, weight-ordered, kindOf, sum-bare, sum-ended, withEntered, withForced, withAppended, sum-entering, sum-forcing, sum-appending, or-zero-first}
 
 -- messages to a set, by their kind and the set

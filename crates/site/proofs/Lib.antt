@@ -1,5 +1,4 @@
 mod Phased
-mod Owing
 mod Sent
 mod Rows
 mod NoRow

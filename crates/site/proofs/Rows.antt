@@ -16,7 +16,8 @@ use Rattle.site.specs.Participant.{outcomeRecord}
 use Rattle.site.specs.Numbers.{appending, outcomeNumber, entryOf}
 use Rattle.site.specs.Answers.{closing}
 use Rattle.site.specs.Inside.{Numbered}
-use Rattle.site.proofs.Sent.{ordered-none, ordered-one}
+use Rattle.site.specs.laws.Sets.{ordered-none}
+use Rattle.site.proofs.Sent.{ordered-one}
 
 pub entering-outcome : (o : Outcome) → entryOf (outcomeNumber o) ≡ enter o ∷ []
 unfolding entryOf outcomeNumber

@@ -3,19 +3,19 @@ use mathlib.Core.Path.{_≡_, refl, ap, ap₂, sym, subst, _∙_}
 use mathlib.Core.Bool.{Bool, true, false, cond, not}
 use mathlib.Core.Logic.{_⊎_, inl, inr}
 use mathlib.Core.List.{List, [], _∷_, _++_, map}
-use Prim.Native.Nat.{ℕ, suc, _^_, _-_, _<_}
-use native.Mathlib.Nat.{zero-div}
+use Prim.Native.Nat.{ℕ, suc, _-_, _<_}
 use native.Mathlib.Omega.{arith}
 use lib.ListN.{getD}
 use lib.Dec.{leb}
 use Rattle.codec.specs.Lists.{select, same}
 use Rattle.codec.specs.Sets.{participants, member, listed, bits, those, only}
 use Rattle.codec.specs.laws.Tests.{below-at, true-of, same-list}
-use Rattle.codec.specs.laws.Members.{numbered, member-participant}
+use Rattle.codec.specs.laws.Members.{none-in, numbered, member-participant}
 use Rattle.site.specs.Presumption.{commit, abort}
 use Rattle.site.specs.Step.{Message, prepare, voteYes, voteNo, tell, ack, messages, messageKind, send, given}
 use Rattle.site.specs.Coordinator.{inTurn, ordered}
 use Rattle.site.specs.Answers.{sending}
+use Rattle.site.specs.laws.Sets.{ordered-none}
 use Rattle.site.specs.Inside.{Numbered}
 
 -- ---- the order
@@ -30,19 +30,11 @@ unfolding select
 select-all f [] h = refl
 select-all f (n ∷ l) h = rw (h n) (ap (n ∷_) (select-all f l h))
 
-none-in : (p : ℕ) → member p 0 ≡ false
-unfolding member
-none-in p = rw (zero-div (2 ^ p)) refl
-
 pub ordered-by-turn : (to : ℕ) → ordered 0 to ≡ inTurn to
 unfolding ordered
 ordered-by-turn to =
     ap₂ _++_ (select-none (λ p. member p 0) (inTurn to) none-in)
     (select-all (λ p. not (member p 0)) (inTurn to) (λ p. ap not (none-in p)))
-
-pub ordered-none : (first : ℕ) → ordered first 0 ≡ []
-unfolding ordered inTurn listed select participants member
-ordered-none first = refl
 
 one-listed : (i : ℕ) → i < 8 → listed (only (suc i)) ≡ suc i ∷ []
 unfolding same listed select only those bits participants member

@@ -31,6 +31,10 @@ high-bits n j k h l =
     let none : n / 2 ^ k < 1 = div-lt-iff-lt-mul (pow-pos k) .1 small in
     omega arith
 
+pub none-in : (p : ℕ) → member p 0 ≡ false
+unfolding member
+none-in p = rw (high-bits 0 0 p (omega arith) (omega arith)) refl
+
 pub no-member : (p m : ℕ) → m < 256 → noParticipant p ≡ true → member p m ≡ false
 unfolding member
 no-member p m h e = by (ltb p 1) refl e

@@ -11,7 +11,7 @@ use Rattle.site.specs.Cohort.{Cohort, masksOf}
 use Rattle.joint.specs.State.{Site, holds}
 use Rattle.joint.proofs.safety.Tables.{has}
 use Rattle.joint.proofs.safety.Invariant.{recordFor, awaitsCommit}
-use Rattle.joint.proofs.safety.Sets.{owing-minus}
+use Rattle.site.specs.laws.Sets.{owing-commit}
 
 pub holds-kinds : (g : Cohort) (t p k : ℕ) (ks : List ℕ) → holds t k (map (recordFor g t p) ks) ≡ has k ks
 unfolding holds has any ofTransaction
@@ -26,4 +26,4 @@ holds-at g t p ks e k = ap (λ (z : Site). holds t k (z .stable)) e ∙ holds-ki
 -- a record 2 awaits acks where someone owes one for commit
 pub commit-awaits : (g : Cohort) (t s : ℕ) → awaitsAcks (recordFor g t s 2) ≡ awaitsCommit g
 unfolding awaitsAcks membersIn presumeCommitIn masksOf
-commit-awaits g t s = rw (owing-minus g)
+commit-awaits g t s = rw (owing-commit g)

@@ -7,11 +7,11 @@ use lib.ListN.{getD}
 use lib.Dec.{T, eqb}
 use native.Mathlib.Omega.{arith}
 use borrow.Author.Tests.{eq-eqb, eqb-true}
-use Rattle.codec.specs.Sets.{without, participants, member, empty, bits, those, both, minus}
+use Rattle.codec.specs.Sets.{without, participants, member, empty, bits, those, both}
 use Rattle.codec.specs.laws.Tests.{and-left, and-right, true-of, of-true, alike, alike-eq, below, below-at, bools, bools-at}
 use Rattle.codec.specs.laws.Masks.{those-alike, those-below, those-members}
-use Rattle.codec.specs.laws.Members.{numbered, high-bits, member-participant}
-use Rattle.site.specs.Presumption.{Outcome, commit, abort, presumedAbort, presumedCommit, acks}
+use Rattle.codec.specs.laws.Members.{none-in, numbered, member-participant}
+use Rattle.site.specs.Presumption.{Outcome, abort, presumedAbort, presumedCommit, acks}
 use Rattle.site.specs.Cohort.{Cohort, presumptionOf, owing}
 use Rattle.joint.proofs.Booleans.{both-ways, is-false}
 
@@ -57,13 +57,9 @@ member-those f n m h t =
 
 -- ---- no members
 
-pub none-in-0 : (p : ℕ) → member p 0 ≡ false
-unfolding member
-none-in-0 p = rw (high-bits 0 0 p (omega arith) (omega arith)) refl
-
 pub empty-none : (w p : ℕ) → T (empty w) → T (member p w) → ⊥
 unfolding empty
-empty-none w p e t = subst T (ap (member p) (eqb-true w 0 (true-of (eqb w 0) e)) ∙ none-in-0 p) t
+empty-none w p e t = subst T (ap (member p) (eqb-true w 0 (true-of (eqb w 0) e)) ∙ none-in p) t
 
 -- a set without members is 0
 pub none-empty : (w : ℕ) → w < 256 → ((n : ℕ) → T (member (suc n) w) → ⊥) → T (empty w)
@@ -127,17 +123,6 @@ owes-abort g n k = go (member (suc n) (g .presumeCommit)) (owing-member g abort 
     go : (b : Bool) → T (acks (cond b presumedCommit presumedAbort) abort) → T b
     go true u = tt
     go false u = absurd (unfold acks in u)
-
--- acks for commit are owed by the members that do not presume it
-pub owing-minus : (g : Cohort) → owing g commit ≡ minus (g .members) (g .presumeCommit)
-unfolding owing minus presumptionOf acks
-owing-minus g =
-    those-alike (λ p. member p (g .members) && acks (presumptionOf g p) commit) (λ p. member p (g .members) && not (member p (g .presumeCommit)))
-    (λ i h. ap (λ (b : Bool). member (suc i) (g .members) && b) (go (member (suc i) (g .presumeCommit))))
-  where
-    go : (b : Bool) → acks (cond b presumedCommit presumedAbort) commit ≡ not b
-    go true = refl
-    go false = refl
 
 -- participant suc n is a member of the cohort
 abbrev pub belongs : Cohort → ℕ → Bool

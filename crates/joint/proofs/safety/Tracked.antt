@@ -20,7 +20,7 @@ use Rattle.joint.proofs.view.View.{View, siteView, view, is-opened}
 use Rattle.joint.proofs.view.Acts.{holds-select}
 use Rattle.joint.proofs.view.Events.{event-turns}
 use Rattle.joint.proofs.safety.Tables.{has, Stage}
-use Rattle.joint.proofs.safety.Sets.{none-in-0}
+use Rattle.codec.specs.laws.Members.{none-in}
 use Rattle.joint.proofs.safety.Holds.{holds-at}
 use Rattle.joint.proofs.safety.Invariant.{kindsIn, waiting, resting, down, Standing, never, initial, collecting, decided, hasDecided, initLog, writesInit, stableAt, Place, Mid, Inv, cohortOf}
 use Rattle.joint.proofs.safety.coordinator.Logs.{waiting-down, resting-down, commit-record}
@@ -116,7 +116,7 @@ module _ (t : ℕ) where
                     sound = record { number = λ e. absurd (true≢false e); byte = omega arith; part = part-none; opened = refl; fit = tt; proper = tt; sets = tt };
                     log = refl;
                     entries = λ o k. k;
-                    places = λ n. subst (λ (b : Bool). Place b t Stage.fresh n (seenAfter [])) (sym (none-in-0 (suc n))) (record { stable = refl; unforced = refl; sent = λ m. refl; entered = λ o. refl });
+                    places = λ n. subst (λ (b : Bool). Place b t Stage.fresh n (seenAfter [])) (sym (none-in (suc n))) (record { stable = refl; unforced = refl; sent = λ m. refl; entered = λ o. refl });
                   };
               phase = refl;
               whole = tt;

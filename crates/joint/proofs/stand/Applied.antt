@@ -1,18 +1,14 @@
 -- What an event does to its site and its transaction alone is what it does in the whole run.
-use Prim.Native.Nat.{ℕ, zero, suc, _+_, _≤_}
-use mathlib.Core.Path.{_≡_, refl, sym, ap, _∙_, subst}
-use mathlib.Core.Bool.{Bool, true, false, cond, not, _&&_, _||_}
-use mathlib.Core.List.{List, [], _∷_}
-use mathlib.Core.Option.{Option, none, some}
-use lib.ListN.{length, getD}
+use Prim.Native.Nat.{ℕ, _≤_}
+use mathlib.Core.Path.{_≡_, refl, sym, _∙_}
+use mathlib.Core.Bool.{Bool, true, false, cond, _&&_}
+use lib.ListN.{length}
 use lib.Dec.{eqb, leb}
-use native.Mathlib.Omega.{arith}
-use Rattle.codec.specs.Lists.{first, select}
 use Rattle.site.specs.Numbers.{inputOf}
-use Rattle.joint.specs.State.{Run, Site, Transaction, update, stopped, forgotten, down}
+use Rattle.joint.specs.State.{Run, update, stopped, forgotten, down}
 use Rattle.joint.specs.Run.{carryPlan}
-use Rattle.joint.specs.Stand.{refusalNumber, Told, told}
-use Rattle.joint.specs.Inside.{Doing, starting, progressed, placed, Fits, Moved, stepMove, refusedBy, ended, counts, movedTo, uponInput, FitsPlan, cutFrom, Changed, fallen, applied, refusedAs, endedAs, movedAs, unasked, stepAs, StepFits}
+use Rattle.joint.specs.Stand.{refusalNumber, told}
+use Rattle.joint.specs.Inside.{Doing, starting, progressed, placed, Moved, stepMove, refusedBy, ended, counts, movedTo, uponInput, FitsPlan, cutFrom, applied, refusedAs, endedAs, movedAs, unasked, stepAs, StepFits}
 use Rattle.joint.proofs.Updates.{update-same}
 use Rattle.joint.proofs.stand.Placed.{update-own, update-twice, run-path}
 use Rattle.joint.proofs.stand.Steps.{step-fitting, step-unasked, step-moved}

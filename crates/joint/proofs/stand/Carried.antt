@@ -1,23 +1,23 @@
 -- What the program does with an event's plan is what the plain run makes of it, whole or cut.
-use Prim.Native.Nat.{ℕ, zero, suc, _+_, _-_, _≤_}
+use Prim.Native.Nat.{ℕ, _+_, _-_, _≤_}
 use mathlib.Core.Path.{_≡_, refl, sym, ap, _∙_, subst}
 use mathlib.Core.Bool.{Bool, true, false, cond, _&&_}
-use mathlib.Core.List.{List, [], _∷_}
+use mathlib.Core.List.{List, []}
 use mathlib.Core.Option.{Option, none, some}
 use lib.ListN.{length, take}
 use lib.Seq.{take-all}
 use lib.Dec.{eqb, leb}
-use borrow.Author.Tests.{eqb-true, eqb-false, eq-eqb, ne-eqb, leb-true, leb-false}
+use borrow.Author.Tests.{eqb-true, eq-eqb, ne-eqb, leb-true, leb-false}
 use native.Mathlib.Nat.{zero-add}
 use native.Mathlib.Omega.{arith}
 use Rattle.codec.specs.Lists.{every, select}
-use Rattle.site.specs.Step.{Effect, Input, Row}
+use Rattle.site.specs.Step.{Effect, Row}
 use Rattle.joint.specs.State.{Run, Transaction, Act, atTransaction, performAll, down}
 use Rattle.joint.specs.Event.{cutAt}
 use Rattle.joint.specs.Plan.{Plan, settling, acting, rowPlan, planned, orNothing}
-use Rattle.joint.specs.Run.{Result, refuse, partly, canCut, cutShort, carry, carryPlan, Answer, isAppend, isForce, isSend, count, answerOf}
+use Rattle.joint.specs.Run.{refuse, partly, canCut, cutShort, carry, carryPlan, Answer, isAppend, isForce, isSend, count, answerOf}
 use Rattle.joint.specs.Stand.{refusalNumber, Told, told}
-use Rattle.joint.specs.Inside.{siteAfter, transactionAfter, counted, starting, progressed, placed, Moved, moved, nowhere, refusedBy, ended, counts, movedTo, cutFrom}
+use Rattle.joint.specs.Inside.{siteAfter, transactionAfter, counted, progressed, placed, moved, nowhere, refusedBy, ended, movedTo, cutFrom}
 use Rattle.joint.proofs.stand.Placed.{placedAs, performed, placed-changed, acting-length, acting-take, acting-counted, Phase, phase-first, down-takes}
 
 -- power lasts for n effects, and none is left over: there are as many

@@ -1,24 +1,19 @@
 -- An event by its code: what the ranges say of its numbers, and where power goes.
-use Prim.Native.Nat.{ℕ, zero, suc, _≤_}
+use Prim.Native.Nat.{ℕ, _≤_}
 use mathlib.Core.Path.{_≡_, refl, sym, ap, _∙_, subst}
-use mathlib.Core.Bool.{Bool, true, false, not, _&&_, _||_}
-use mathlib.Core.List.{List, [], _∷_}
-use mathlib.Core.Option.{Option, none}
+use mathlib.Core.Bool.{Bool, true, false, _&&_, _||_, and-eq-true-iff}
+use mathlib.Core.List.{[], _∷_}
+use mathlib.Core.Option.{none}
 use lib.ListN.{getD}
-use lib.Dec.{eqb, leb}
+use lib.Dec.{eqb}
 use borrow.Author.Tests.{leb-true}
-use native.Mathlib.Omega.{arith}
-use Rattle.codec.specs.Lists.{any, every}
+use Rattle.codec.specs.Lists.{any}
 use Rattle.codec.specs.laws.Tests.{every-at}
 use Rattle.joint.specs.State.{Run}
 use Rattle.joint.specs.Event.{eventOf, ranges, bytesInRange, cutInRange, cutAt, cutOf}
 use Rattle.joint.specs.Stand.{Told}
 use Rattle.joint.specs.Inside.{taken, Roomy}
 use Rattle.joint.proofs.Booleans.{clash}
-
-pub both-hold : (a b : Bool) → (a && b) ≡ true → (a ≡ true) × (b ≡ true)
-both-hold true b h = (refl, h)
-both-hold false b h = absurd (clash (sym h))
 
 pub record InRange (code x y z : ℕ) : Type 0 where
   pub known : code ≤ 7
@@ -31,7 +26,7 @@ module _ (code x y z cut keep : ℕ) (h : (bytesInRange code x y z && cutInRange
   pub in-range : InRange code x y z
   unfolding bytesInRange
   in-range =
-      let b = both-hold (bytesInRange code x y z) (cutInRange code cut keep) h .0 in
+      let b = and-eq-true-iff (bytesInRange code x y z) (cutInRange code cut keep) .0 h .0 in
       record {
         known = leb-true _ _ (every-at _ b 0);
         last-x = leb-true _ _ (every-at _ b 1);
@@ -44,7 +39,7 @@ module _ (code x y z cut keep : ℕ) (h : (bytesInRange code x y z && cutInRange
   pub uncut : any (eqb code) (1 ∷ 2 ∷ 3 ∷ 7 ∷ []) ≡ false → eqb code 6 ≡ false → cutOf code cut keep ≡ none
   unfolding cutInRange cutOf cutAt
   uncut a n =
-      let c = both-hold (bytesInRange code x y z) (cutInRange code cut keep) h .1 in
+      let c = and-eq-true-iff (bytesInRange code x y z) (cutInRange code cut keep) .0 h .1 in
       let w = whole (eqb cut 255) (any (eqb code) (1 ∷ 2 ∷ 3 ∷ 7 ∷ [])) (every-at _ c 2) a in
       rw (n, w) refl
     where

@@ -18,7 +18,8 @@ use Rattle.joint.specs.Drill.{eventsIn, answerBytes, Replayed, replayed,
 use Rattle.joint.specs.Inside.{answersIn, linesOf, openedIn, transactionLines, textOf}
 use Rattle.joint.specs.Stand.{runIn, replayIn}
 use Rattle.joint.specs.declared.replay.Ran.{Ran}
-use Rattle.joint.proofs.stand.Replays.{take-most, length-stored, stored-two, stored-part, length-answers, bytesOf, bytesTold, length-told, eventsFor, events-count}
+use Rattle.codec.specs.laws.Stored.{length-stored, stored-part}
+use Rattle.joint.proofs.stand.Replays.{take-most, stored-two, length-answers, bytesOf, bytesTold, length-told, eventsFor, events-count}
 
 -- ---- how long a line is
 

@@ -1,25 +1,21 @@
 -- Each event by its refusals and its plan: what it does to its site and its transaction is what the plain run makes of it.
 use Prim.Native.Nat.{ℕ, zero, suc, _≤_}
 use mathlib.Core.Path.{_≡_, refl, sym, ap, _∙_, subst}
-use mathlib.Core.Bool.{Bool, true, false, cond, not, _&&_, _||_}
-use mathlib.Core.List.{List, [], _∷_}
-use mathlib.Core.Option.{Option, none, some}
+use mathlib.Core.Bool.{Bool, true, false, cond, not, _&&_}
 use lib.ListN.{getD}
-use lib.Dec.{eqb, leb}
+use lib.Dec.{leb}
 use borrow.Author.Tests.{le-leb}
 use Rattle.codec.specs.Lists.{first}
 use Rattle.codec.specs.Sets.{empty}
 use Rattle.site.specs.Step.{messages, prepare, messageKind, receiver}
 use Rattle.site.specs.Numbers.{inputOf}
-use Rattle.joint.specs.State.{Run, Site, Transaction, opened, takesPart}
+use Rattle.joint.specs.State.{Run, Transaction, opened, takesPart}
 use Rattle.joint.specs.Event.{Event, beginning, delivery, timeout}
 use Rattle.joint.specs.Refusals.{unopened, stranger, isDown, refusals}
-use Rattle.joint.specs.Plan.{Plan, plan}
-use Rattle.joint.specs.Run.{carryPlan}
-use Rattle.joint.specs.Stand.{told}
-use Rattle.joint.specs.Inside.{partIn, refusedBy, uponInput, FitsPlan, Roomy, taken, cutFrom, applied, refusedAs, stepAs, StepFits, askAs, AskFits}
-use Rattle.joint.proofs.stand.Refused.{refused-by, not-refused}
-use Rattle.joint.proofs.stand.Delivered.{stepped, begin-plan, timer-plan, delivery-plan, message-of}
+use Rattle.joint.specs.Plan.{plan}
+use Rattle.joint.specs.Inside.{partIn, uponInput, FitsPlan, Roomy, taken, cutFrom, applied, refusedAs, stepAs, askAs, AskFits}
+use Rattle.joint.proofs.stand.Refused.{refused-by}
+use Rattle.joint.proofs.stand.Delivered.{stepped, message-of}
 use Rattle.joint.proofs.stand.Applied.{kept, step-applied, step-room}
 use Rattle.joint.proofs.stand.Lengths.{step-length}
 

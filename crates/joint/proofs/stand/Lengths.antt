@@ -1,19 +1,19 @@
 -- A step has few effects.
-use Prim.Native.Nat.{ℕ, zero, suc, _+_, _≤_}
-use mathlib.Core.Path.{_≡_, refl}
+use Prim.Native.Nat.{ℕ, zero, suc, _≤_}
+use mathlib.Core.Path.{_≡_}
 use mathlib.Core.Bool.{Bool, true, false, not, _&&_}
-use mathlib.Core.List.{List, [], _∷_, _++_, map}
+use mathlib.Core.List.{[], _∷_, map}
 use mathlib.Core.Option.{Option, none, some}
 use lib.ListN.{length, length-append, length-map}
 use native.Mathlib.Omega.{arith}
 use Rattle.codec.specs.Sets.{empty, listed, without, both}
 use Rattle.site.specs.Presumption.{Outcome, commit, abort, Presumption, sameOutcome, acks}
-use Rattle.site.specs.Step.{Message, prepare, voteYes, voteNo, tell, ack, Input, begin, timer, received, Effect, append, force, enter, send, Row, given}
-use Rattle.site.specs.Cohort.{Cohort, masksOf, presumptionOf, owing}
-use Rattle.site.specs.Coordinator.{Coordinator, initial, collecting, awaitingAcks, inTurn, telling, tellAll, preparing, onBegin, committing, voted, onYes, aborting, onNo, coordinatorTimer, acked, ackedIf, onAck, coordinatorStep}
+use Rattle.site.specs.Step.{prepare, voteYes, voteNo, tell, ack, Input, begin, timer, received, append, force, send, Row}
+use Rattle.site.specs.Cohort.{Cohort, masksOf, owing}
+use Rattle.site.specs.Coordinator.{Coordinator, initial, collecting, awaitingAcks, inTurn, telling, preparing, onBegin, committing, voted, onYes, aborting, onNo, coordinatorTimer, acked, ackedIf, onAck, coordinatorStep}
 use Rattle.site.specs.Participant.{Participant, working, prepared, decided, voting, promising, onPrepare, acking, finish, acknowledging, ackingIf, onTell, participantTimer, participantStep}
 use Rattle.joint.specs.State.{Transaction, withCoordinator, withParticipant}
-use Rattle.joint.specs.Inside.{Moved, moved, stepMove}
+use Rattle.joint.specs.Inside.{moved, stepMove}
 use Rattle.joint.proofs.stand.Steps.{listed-length, given-length}
 use Rattle.joint.proofs.stand.Resumed.{tell-length}
 

@@ -1,6 +1,6 @@
 -- A move as the program makes it, in the whole run.
-use Prim.Native.Nat.{ℕ, _≤_, _+_}
-use mathlib.Core.Path.{_≡_, refl, sym, ap, _∙_}
+use Prim.Native.Nat.{ℕ, _≤_}
+use mathlib.Core.Path.{_≡_, ap}
 use native.Mathlib.Omega.{arith}
 use Rattle.joint.specs.State.{Run, Site, Transaction}
 use Rattle.joint.specs.Inside.{Doing, starting, Counted, progressed, placed, counts, ended, Moved, movedTo}

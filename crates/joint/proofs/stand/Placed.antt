@@ -1,12 +1,11 @@
 -- Effects of one transaction at one site, in the whole run: they change that site and that transaction alone.
-use Prim.Native.Nat.{ℕ, zero, suc, _+_, _-_, _≤_}
+use Prim.Native.Nat.{ℕ, zero, suc, _-_}
 use mathlib.Core.Path.{_≡_, refl, sym, ap, _∙_, fun-ext}
 use mathlib.Core.Bool.{Bool, true, false, cond}
-use mathlib.Core.List.{List, [], _∷_, _++_, map}
+use mathlib.Core.List.{List, [], _∷_}
 use lib.ListN.{length, take, length-map}
 use lib.Dec.{eqb}
-use borrow.Author.Tests.{eqb-true, eq-eqb}
-use native.Mathlib.Omega.{arith}
+use borrow.Author.Tests.{eqb-true}
 use Rattle.codec.specs.Lists.{select}
 use Rattle.codec.specs.Records.{LogRecord}
 use Rattle.site.specs.Presumption.{Outcome}
@@ -16,7 +15,7 @@ use Rattle.site.specs.Participant.{Participant}
 use Rattle.joint.specs.State.{Run, Site, Transaction, Act, update, atSite, atTransaction, appended, forced, withCoordinator, withParticipant, withSent, withEntered, forgotten, perform, performAll, down}
 use Rattle.joint.specs.Plan.{acting}
 use Rattle.joint.specs.Run.{count}
-use Rattle.joint.specs.Inside.{siteAfter, transactionAfter, counted, Doing, starting, progressed, placed}
+use Rattle.joint.specs.Inside.{siteAfter, transactionAfter, counted}
 use Rattle.joint.proofs.Updates.{update-same}
 
 -- ---- one index

@@ -1,7 +1,7 @@
 -- An event's bytes, read: what the event is by them, and where it is.
 use Prim.Native.Nat.{ℕ, zero, suc, _≤_}
 use mathlib.Core.Path.{_≡_, refl, sym, ap, _∙_}
-use mathlib.Core.Bool.{Bool, true, false, cond, _&&_}
+use mathlib.Core.Bool.{Bool, true, false, cond, and-eq-true-iff}
 use mathlib.Core.List.{List, []}
 use mathlib.Core.Option.{Option, none, some}
 use lib.ListN.{getD}
@@ -74,11 +74,7 @@ module _ (a : Asked) (well : Well a) where
 
   -- in a run that events reach
   pub roomy : (es : List (List ℕ)) → Roomy (after fresh es) (eventIn a)
-  roomy es = room es (a .code) (a .x) (a .y) (a .z) (both (bytesInRange (a .code) (a .x) (a .y) (a .z)) (cutInRange (a .code) (a .cut) (a .keep)) well)
-    where
-      both : (p q : Bool) → (p && q) ≡ true → p ≡ true
-      both true q h = refl
-      both false q h = h
+  roomy es = room es (a .code) (a .x) (a .y) (a .z) (and-eq-true-iff (bytesInRange (a .code) (a .x) (a .y) (a .z)) (cutInRange (a .code) (a .cut) (a .keep)) .0 well .0)
 
 -- ---- a restart
 

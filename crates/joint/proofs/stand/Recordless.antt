@@ -1,14 +1,14 @@
 -- A restart appends no record.
 use Prim.Native.Nat.{ℕ, zero, suc, _+_}
-use mathlib.Core.Path.{_≡_, refl, sym, ap, _∙_}
-use mathlib.Core.Bool.{Bool, true, false, cond}
-use mathlib.Core.List.{List, [], _∷_, _++_, map}
-use lib.ListN.{length, length-append}
+use mathlib.Core.Path.{_≡_, refl, _∙_}
+use mathlib.Core.Bool.{Bool}
+use mathlib.Core.List.{List, [], _∷_, _++_}
+use lib.ListN.{length-append}
 use native.Mathlib.Omega.{arith}
 use Rattle.codec.specs.Lists.{select}
 use Rattle.site.specs.Step.{Effect, append, force, enter, send}
 use Rattle.joint.specs.State.{Run, Transaction, Act}
-use Rattle.joint.specs.Plan.{restarting, rowPlan, acting, joined, restartAll}
+use Rattle.joint.specs.Plan.{restarting, rowPlan, joined, restartAll}
 use Rattle.joint.specs.Run.{isAppend, count}
 use Rattle.joint.specs.Inside.{counted, restartMove, moved}
 use Rattle.joint.proofs.Lists.{select-append, Each}

@@ -8,7 +8,7 @@ use Rattle.codec.specs.Image.{stored}
 use Rattle.joint.specs.State as plain
 use Rattle.joint.specs.State.{fresh, forgotten}
 use Rattle.joint.specs.Event.{parse, restart}
-use Rattle.joint.specs.Run.{event, after}
+use Rattle.joint.specs.Run.{after}
 use Rattle.joint.specs.Drill.{chunks, answerBytes}
 use Rattle.joint.specs.Stand.{siteIn, transactionIn, transactionsIn, answerIn, runIn, nextIn}
 use Rattle.joint.specs.Inside.{askedIn, eventIn, cutIn, cutFrom, siteOf, taken, UpFor, Roomy, Well, applied, changeIn, restartedIn}

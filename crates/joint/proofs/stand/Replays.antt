@@ -3,15 +3,15 @@ use Prim.Native.Nat.{ℕ, zero, suc, _+_, _-_, _*_, _/_, _≤_, _<_, min}
 use mathlib.Core.Path.{_≡_, refl, ap, sym, _∙_}
 use mathlib.Core.Bool.{Bool, true, false}
 use mathlib.Core.List.{List, [], _∷_, _++_, map, flatten, append-assoc, append-nil}
-use native.Mathlib.Nat.{add-assoc, zero-add}
+use native.Mathlib.Nat.{zero-add}
 use native.Mathlib.Numerals.{add-one}
 use native.Mathlib.Omega.{arith}
 use lib.Dec.{leb}
-use lib.ListN.{length, set, take, drop, length-append, length-take, length-drop, drop-of-length-le}
-use lib.Seq.{sets-eq, take-at, drop-at, drop-drop, take-all}
+use lib.ListN.{length, set, take, drop, length-drop}
+use lib.Seq.{sets-eq, drop-drop, take-all}
 use borrow.Author.Tests.{le-leb, lt-leb, leb-true, leb-false}
-use borrow.Rule.Slice.PartMut.{midOf, putMid}
 use Rattle.codec.specs.Image.{stored}
+use Rattle.codec.specs.laws.Stored.{length-stored, stored-append}
 use Rattle.joint.specs.State.{Run, fresh}
 use Rattle.joint.specs.Event.{eventLength}
 use Rattle.joint.specs.Run.{Answer, event, after, answers, answerOf}
@@ -32,29 +32,10 @@ take-most n l = go (leb n (length l)) refl
 
 -- ---- bytes stored one behind the other
 
-module _ (at : ℕ) (x buffer : List ℕ) (h : at + length x ≤ length buffer) where
-  pub length-stored : length (stored at x buffer) ≡ length buffer
-  unfolding stored
-  length-stored = simp (length-append, length-take, length-drop) (omega arith)
-
-  pub stored-append : (y : List ℕ) → stored at (x ++ y) buffer ≡ stored (at + length x) y (stored at x buffer)
-  unfolding stored
-  stored-append y =
-      let front : length (take at buffer ++ x) ≡ at + length x = simp (length-append, length-take) (omega arith) in
-      rw (take-at, ← drop-drop (length y) (at + length x) (stored at x buffer), drop-at, drop-drop, length-append, ← append-assoc, add-assoc)
-
 -- at the front, and behind it
 pub stored-two : (x y buffer : List ℕ) → length x ≤ length buffer → stored (length x) y (stored 0 x buffer) ≡ stored 0 (x ++ y) buffer
 stored-two x y buffer h =
     ap (λ (n : ℕ). stored n y (stored 0 x buffer)) (sym (zero-add (length x))) ∙ sym (stored-append 0 x buffer (omega arith) y)
-
--- what is stored at the front of the part from `at` on, when the part is back
-pub stored-part : (at : ℕ) (x buffer y : List ℕ) → y ≡ stored 0 x (midOf at (length buffer - at) buffer) → putMid at (length buffer - at) buffer y ≡ stored at x buffer
-unfolding stored
-stored-part at x buffer y e =
-    let part : midOf at (length buffer - at) buffer ≡ drop at buffer = take-all (length buffer - at) (drop at buffer) (simp length-drop (omega arith)) in
-    let behind : drop (length buffer - at) (drop at buffer) ≡ [] = drop-of-length-le (drop at buffer) {i = length buffer - at} (simp length-drop (omega arith)) in
-    rw (e, part, behind, append-nil (x ++ drop (0 + length x) (drop at buffer)), drop-drop, zero-add, ← append-assoc (take at buffer) x (drop (at + length x) buffer))
 
 -- an answer, byte by byte
 pub answer-stored : (buffer : List ℕ) (at : ℕ) (x : Answer) {a b c d : ℕ} → at + 4 ≤ length buffer

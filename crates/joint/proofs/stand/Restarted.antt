@@ -1,25 +1,22 @@
 -- The program's restart, one transaction after the other, is the plan of a restart up to the cut.
-use Prim.Native.Nat.{ℕ, zero, suc, _+_, _-_, _*_, _≤_}
-use mathlib.Core.Path.{_≡_, refl, sym, ap, _∙_, subst, fun-ext}
-use mathlib.Core.Bool.{Bool, true, false, cond, not, _&&_}
-use mathlib.Core.List.{List, [], _∷_, _++_, map, append-assoc, append-nil}
-use mathlib.Core.Option.{some}
-use lib.ListN.{length, take, length-append, length-map}
+use Prim.Native.Nat.{ℕ, zero, suc, _+_, _-_, _≤_}
+use mathlib.Core.Path.{_≡_, refl, sym, ap, _∙_, fun-ext}
+use mathlib.Core.Bool.{Bool, true, false, cond}
+use mathlib.Core.List.{List, [], _∷_, _++_, append-assoc, append-nil}
+use lib.ListN.{length, take, length-append}
 use lib.Dec.{eqb}
-use native.Mathlib.Nat.{zero-add}
 use native.Mathlib.Omega.{arith}
-use Rattle.codec.specs.Lists.{select}
 use Rattle.site.specs.Presumption.{Outcome}
-use Rattle.site.specs.Step.{messageKind, Effect, append, force, enter, send, Row, given}
+use Rattle.site.specs.Step.{messageKind, Effect, append, force, enter, send}
 use Rattle.site.specs.Cohort.{Cohort, presumptionOf}
-use Rattle.site.specs.Coordinator.{tellAll, inOrder, restartFrom, coordinatorRestart}
-use Rattle.site.specs.Participant.{restartWith, participantRestart, voting}
-use Rattle.joint.specs.State.{Run, Site, Transaction, Act, holds, opened, update, atSite, atTransaction, started, stopped, down, perform, performAll, withCoordinator, withParticipant, withEntered, withSent}
-use Rattle.joint.specs.Plan.{Plan, acting, rowPlan, restarting, joined, restartAll, transactions}
-use Rattle.joint.specs.Run.{Answer, isAppend, isForce, isSend, count}
-use Rattle.joint.specs.Inside.{siteAfter, transactionAfter, Doing, progressed, placed, counts, Again, restarted, restartMove, moved, counted}
+use Rattle.site.specs.Coordinator.{coordinatorRestart}
+use Rattle.site.specs.Participant.{participantRestart}
+use Rattle.joint.specs.State.{Run, Transaction, Act, holds, update, atSite, atTransaction, started, down, perform, performAll, withCoordinator, withParticipant, withEntered, withSent}
+use Rattle.joint.specs.Plan.{Plan, acting, rowPlan, restarting, joined, restartAll}
+use Rattle.joint.specs.Run.{isAppend, isForce, isSend, count}
+use Rattle.joint.specs.Inside.{siteAfter, transactionAfter, Doing, progressed, placed, counts, Again, restartMove, moved, counted}
 use Rattle.joint.proofs.Updates.{update-keeps}
-use Rattle.joint.proofs.stand.Placed.{update-twice, run-path, placedAs, placed-changed, Phase, coordinator-phase, participant-phase, phase-first, down-takes, acting-length, acting-take, acting-counted}
+use Rattle.joint.proofs.stand.Placed.{run-path, placedAs, Phase, coordinator-phase, participant-phase, down-takes, acting-length, acting-take, acting-counted}
 use Rattle.joint.proofs.stand.Carried.{tally, phase-placed}
 use Rattle.joint.proofs.stand.Recordless.{count-append}
 use Rattle.joint.proofs.stand.Doing.{take-append}

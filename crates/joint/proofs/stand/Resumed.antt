@@ -3,7 +3,7 @@ use Prim.Native.Nat.{ℕ, zero, suc, _+_, _-_, _*_, _≤_, _<_}
 use native.Mathlib.Numerals.{add-one}
 use mathlib.Core.Path.{_≡_, refl, sym, ap, _∙_, subst}
 use mathlib.Core.Bool.{Bool, true, false, cond, not}
-use mathlib.Core.List.{List, [], _∷_, _++_, map, append-nil}
+use mathlib.Core.List.{List, [], _∷_, _++_, append-nil}
 use lib.ListN.{length, take, getD, length-append, length-map}
 use lib.Seq.{take-suc}
 use lib.Dec.{eqb, eqb→eq}
@@ -12,11 +12,10 @@ use Rattle.codec.specs.Lists.{select}
 use Rattle.codec.specs.Sets.{empty}
 use Rattle.codec.specs.laws.Tests.{below-at}
 use Rattle.site.specs.Presumption.{Outcome, commit, abort, Presumption}
-use Rattle.site.specs.Step.{tell, Effect, enter, send, given}
 use Rattle.site.specs.Cohort.{Cohort, owing}
-use Rattle.site.specs.Coordinator.{ordered, inOrder, tellAll, restartFrom, coordinatorRestart}
+use Rattle.site.specs.Coordinator.{inOrder, tellAll, restartFrom, coordinatorRestart}
 use Rattle.site.specs.Participant.{voting, restartWith, participantRestart}
-use Rattle.joint.specs.State.{Run, Site, Act, opened, update, atSite, started, stopped, down, performAll}
+use Rattle.joint.specs.State.{Run, Site, Act, opened, atSite, started, stopped, down, performAll}
 use Rattle.joint.specs.Plan.{rowPlan, restarting, joined, restartAll, transactions}
 use Rattle.joint.specs.Run.{partly, carry, isAppend, isForce, isSend, count}
 use Rattle.joint.specs.Stand.{told}

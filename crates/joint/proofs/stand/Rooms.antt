@@ -1,19 +1,19 @@
 -- In a run that events reach, each log has room for the records that an event appends.
 use Prim.Native.Nat.{ℕ, zero, suc, _+_, _≤_}
-use mathlib.Core.Path.{_≡_, refl, sym, ap, _∙_, subst}
+use mathlib.Core.Path.{_≡_, refl, ap, _∙_, subst}
 use mathlib.Core.Bool.{Bool, true, false, cond}
 use mathlib.Core.List.{List, [], _∷_, _++_, append-nil}
-use mathlib.Core.Option.{Option, none, some}
+use mathlib.Core.Option.{none, some}
 use lib.ListN.{length, length-append}
 use native.Mathlib.Omega.{arith}
 use Rattle.codec.specs.Lists.{select, every, onlyIf, first}
 use Rattle.codec.specs.Records.{LogRecord}
 use Rattle.codec.specs.Image.{most}
-use Rattle.site.specs.Step.{Effect, append, force, enter, send, Input, begin, timer, received, receiver}
+use Rattle.site.specs.Step.{Effect, append, force, enter, send, Input, begin, timer}
 use Rattle.joint.specs.State.{Run, Site, Act, fresh, opened, appended, forced, atSite, atTransaction, perform, performAll}
-use Rattle.joint.specs.Event.{Event, opening, beginning, delivery, timeout, forcing, discarding, crash, restart, eventLength, eventOf, bytesInRange, cutInRange, cutAt, cutOf, parse}
+use Rattle.joint.specs.Event.{Event, eventLength, eventOf, bytesInRange, cutInRange, cutAt, cutOf, parse}
 use Rattle.joint.specs.Refusals.{refusals}
-use Rattle.joint.specs.Plan.{Plan, plan, settling, step, mayDiscard, discard, rowPlan, acting, orNothing, restartAll, transactions}
+use Rattle.joint.specs.Plan.{Plan, plan, settling, step, mayDiscard, discard, rowPlan, acting, transactions}
 use Rattle.joint.specs.Run.{isAppend, count, carry, carryPlan, carryUnless, eventParsed, event, after}
 use Rattle.joint.specs.Inside.{size, FitsPlan, Roomy}
 use Rattle.joint.proofs.Updates.{update-same}

@@ -15,6 +15,7 @@ use Rattle.codec.specs.laws.Tests.{or-none, below-at, below-at-2, lt-or-le, ali
 use Rattle.site.specs.Step.{Message, prepare, messages, Effect, send, given}
 use Rattle.site.specs.Answers.{sending}
 use Rattle.site.specs.Coordinator.{ordered, inTurn}
+use Rattle.site.specs.laws.Sets.{ordered-none}
 use Rattle.joint.specs.Inside.{Doing, progressed, Counted}
 use Rattle.joint.proofs.safety.Sets.{in-those}
 use Rattle.joint.proofs.stand.Doing.{progressed-append, progressed-none, counted-kept}
@@ -62,10 +63,6 @@ pub listed-none : listed 0 ≡ []
 unfolding listed select participants member
 listed-none = refl
 
-to-nobody : (first : ℕ) → ordered first 0 ≡ []
-unfolding ordered inTurn listed select participants member
-to-nobody first = refl
-
 pub sending-none : (kind owing to : ℕ) → (eqb to 0 || ltb 6 kind) ≡ true → sending kind owing to ≡ []
 unfolding sending given
 sending-none kind owing to q = by (eqb to 0) refl q
@@ -76,7 +73,7 @@ sending-none kind owing to q = by (eqb to 0) refl q
 
     by : (z : Bool) → eqb to 0 ≡ z → (z || ltb 6 kind) ≡ true
         → cond (leb kind 6) (map (send (getD messages kind prepare)) (ordered owing to)) [] ≡ []
-    by true e q = rw (eqb-true to 0 e, to-nobody owing) (nothing (leb kind 6))
+    by true e q = rw (eqb-true to 0 e, ordered-none owing) (nothing (leb kind 6))
     by false e q = rw (lt-leb kind 6 (ltb-true 6 kind q))
 
 -- what is sent is a message

@@ -1,25 +1,24 @@
 -- Open, force, discard and crash: what each does to its site and its transaction is what the plain run makes of it.
-use Prim.Native.Nat.{ℕ, zero, suc}
+use Prim.Native.Nat.{ℕ}
 use mathlib.Core.Path.{_≡_, refl, sym, ap, _∙_, fun-ext}
 use mathlib.Core.Bool.{Bool, true, false, cond, not, _||_}
-use mathlib.Core.List.{List, [], _∷_}
-use mathlib.Core.Option.{Option, none, some}
+use mathlib.Core.List.{_∷_}
+use mathlib.Core.Option.{none, some}
 use lib.Dec.{eqb}
 use borrow.Author.Tests.{eqb-true}
 use native.Mathlib.Omega.{arith}
 use Rattle.codec.specs.Lists.{any, first, select, onlyIf}
 use Rattle.codec.specs.Sets.{empty, listed}
 use Rattle.codec.specs.Records.{ofTransaction}
-use Rattle.site.specs.Step.{force}
 use Rattle.site.specs.Cohort.{Cohort}
 use Rattle.site.specs.Participant.{Participant}
-use Rattle.joint.specs.State.{Run, Site, Transaction, update, opened, takesPart, atSite, atTransaction, forced, withParticipant, perform, performAll}
-use Rattle.joint.specs.Event.{Event, opening, forcing, discarding, crash, cutAt}
+use Rattle.joint.specs.State.{Run, update, opened, takesPart, atSite, atTransaction, forced, withParticipant, perform, performAll}
+use Rattle.joint.specs.Event.{opening, forcing, discarding, crash, cutAt}
 use Rattle.joint.specs.Refusals.{unopened, stranger, isDown, refusals}
 use Rattle.joint.specs.Plan.{plan, settling, acting, openedAs, closes, newest, mayDiscard, trimmed, remembers, forgottenUnless, discard}
 use Rattle.joint.specs.Run.{partly, isAppend, isForce, isSend, count, carry, carryPlan, answerOf}
 use Rattle.joint.specs.Stand.{refusalNumber, Told, told}
-use Rattle.joint.specs.Inside.{partIn, starting, placed, refusedBy, acceptedAs, ended, taken, applied, refusedAs, endedAs, openAs, forceAs, discardedAs, discardAs, crashAs}
+use Rattle.joint.specs.Inside.{partIn, starting, placed, acceptedAs, ended, taken, applied, refusedAs, endedAs, openAs, forceAs, discardedAs, discardAs, crashAs}
 use Rattle.joint.proofs.Updates.{update-same}
 use Rattle.joint.proofs.stand.Placed.{update-own, run-path}
 use Rattle.joint.proofs.stand.Carried.{ended-told}

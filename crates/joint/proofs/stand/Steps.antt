@@ -2,25 +2,25 @@
 use Prim.Native.Nat.{ℕ, zero, suc, _+_, _-_, _≤_}
 use mathlib.Core.Path.{_≡_, refl, sym, ap, _∙_, subst}
 use mathlib.Core.Bool.{Bool, true, false, cond, not, _&&_}
-use mathlib.Core.List.{List, [], _∷_, _++_, map}
+use mathlib.Core.List.{List, [], _∷_, map}
 use mathlib.Core.Option.{Option, none, some}
 use lib.ListN.{length, length-append, length-map, getD}
 use lib.Dec.{leb}
 use native.Mathlib.Omega.{arith}
 use Rattle.codec.specs.Lists.{select}
 use Rattle.codec.specs.Sets.{participants, member, listed}
-use Rattle.site.specs.Step.{messages, prepare, Effect, append, force, enter, send, Input, Row, given}
+use Rattle.site.specs.Step.{messages, prepare, Effect, force, send, Input, Row, given}
 use Rattle.site.specs.Coordinator.{inTurn, ordered}
 use Rattle.site.specs.Numbers.{inputOf, appending, entryOf}
 use Rattle.site.specs.Answers.{fieldsBy, sending, closing, effectsIn}
 use Rattle.site.specs.declared.effects.Effects.{Effects}
 use Rattle.joint.specs.State.{Run, Transaction, withCoordinator, withParticipant}
-use Rattle.joint.specs.Plan.{Plan, settling, acting, rowPlan, planned, orNothing, step}
+use Rattle.joint.specs.Plan.{settling, rowPlan, planned, orNothing, step}
 use Rattle.joint.specs.Run.{carryPlan, isAppend, count}
 use Rattle.joint.specs.Stand.{told}
 use Rattle.joint.specs.Inside.{counted, size, Fits, Moved, moved, MayReceive, stepMove, refusedBy, movedTo, uponInput, FitsPlan, cutFrom}
 use Rattle.joint.proofs.Booleans.{clash}
-use Rattle.joint.proofs.stand.Placed.{acting-counted, Phase, coordinator-phase, participant-phase}
+use Rattle.joint.proofs.stand.Placed.{acting-counted, coordinator-phase, participant-phase}
 use Rattle.joint.proofs.stand.Carried.{asked-told, message-told}
 
 -- ---- a row has few effects

@@ -1,71 +1,16 @@
--- What is stored: bytes one behind the other in a lent buffer. Assumes nothing.
+-- Bytes stored in turn, one by one, in a lent buffer. Assumes nothing.
 use Prim.Native.Nat.{ℕ, _+_, _≤_, _<_}
-use mathlib.Core.Path.{_≡_, refl, sym, ap, _∙_}
-use mathlib.Core.List.{List, [], _∷_, _++_, append-assoc, append-nil}
-use native.Mathlib.Nat.{add-assoc, add-zero}
+use mathlib.Core.Path.{_≡_, refl}
+use mathlib.Core.List.{List, [], _∷_, _++_}
+use native.Mathlib.Nat.{add-zero}
 use native.Mathlib.Omega.{arith}
-use lib.ListN.{getD, set, length, take, drop, length-append, length-take, length-drop, take-append-drop, drop-of-length-le}
+use lib.ListN.{getD, set, length, drop, length-drop, drop-of-length-le}
 use native.Mathlib.Numerals.{add-one}
-use lib.Seq.{drop-cons, sets-eq, take-at, drop-at, drop-drop}
+use lib.Seq.{drop-cons}
 use Rattle.codec.specs.Image.{stored}
+use Rattle.codec.specs.laws.Stored.{Left, left-start, left-end, left-next, set-stored}
 
--- ---- bytes stored in a buffer
-
-module _ (at : ℕ) (x buffer : List ℕ) (h : at + length x ≤ length buffer) where
-  length-stored : length (stored at x buffer) ≡ length buffer
-  unfolding stored
-  length-stored = simp (length-append, length-take, length-drop) (omega arith)
-
-  stored-append : (y : List ℕ) → stored at (x ++ y) buffer ≡ stored (at + length x) y (stored at x buffer)
-  unfolding stored
-  stored-append y =
-      let front : length (take at buffer ++ x) ≡ at + length x = simp (length-append, length-take) (omega arith) in
-      rw (take-at, ← drop-drop (length y) (at + length x) (stored at x buffer), drop-at, drop-drop, length-append, ← append-assoc, add-assoc)
-
-stored-nil : (at : ℕ) (buffer : List ℕ) → stored at [] buffer ≡ buffer
-unfolding stored
-stored-nil at buffer = rw (append-nil, add-zero, take-append-drop)
-
--- ---- a buffer in which `rest` is left to be stored from `at` on, so that it holds `all` from `from` on where it began as `start`
-
-pub record Left (from : ℕ) (all start : List ℕ) (at : ℕ) (rest buffer : List ℕ) : Type 0 where
-  pub size : at + length rest ≡ from + length all
-  pub room : at + length rest ≤ length buffer
-  pub same : length buffer ≡ length start
-  pub whole : stored at rest buffer ≡ stored from all start
-
-pub left-start : {from : ℕ} {all start : List ℕ} → from + length all ≤ length start → Left from all start from all start
-left-start h = record { size = refl; room = h; same = refl; whole = refl }
-
-pub left-end : {from : ℕ} {all start : List ℕ} {at : ℕ} {rest buffer : List ℕ} → Left from all start at rest buffer → rest ≡ [] → buffer ≡ stored from all start
-left-end {at = at} {buffer = buffer} l e = sym (stored-nil at buffer) ∙ (rw e at (l .whole))
-
--- x is stored next
-pub record Next (bytes x rest : List ℕ) : Type 0 where
-  pub split : bytes ≡ x ++ rest
-
-module _ {from : ℕ} {all start : List ℕ} {at : ℕ} {bytes buffer x rest : List ℕ} (l : Left from all start at bytes buffer) (e : Next bytes x rest) where
-  parts : length bytes ≡ length x + length rest
-  parts = ap length (e .split) ∙ length-append x rest
-
-  pub left-room : at + length x ≤ length buffer
-  left-room = omega (arith, l .room, parts)
-
-  pub left-next : (next : ℕ) → next ≡ at + length x → (y : List ℕ) → y ≡ stored at x buffer → Left from all start next rest y
-  left-next next n y s =
-      let kept : length y ≡ length buffer = rw s (length-stored at x buffer left-room) in
-      record {
-        size = omega (arith, l .size, parts);
-        room = omega (arith, l .room, parts);
-        same = kept ∙ l .same;
-        whole = rw (n, s, ← stored-append at x buffer left-room rest, ← e .split) (l .whole);
-      }
-
--- ---- one byte stored
-
-pub set-stored : (buffer : List ℕ) (i b : ℕ) → i < length buffer → set buffer i b ≡ stored i (b ∷ []) buffer
-unfolding stored
-set-stored buffer i b h = sets-eq (b ∷ []) buffer i (omega arith)
+-- ---- one byte
 
 module _ {from : ℕ} {all start : List ℕ} {at : ℕ} {b : ℕ} {rest buffer : List ℕ} (l : Left from all start at (b ∷ rest) buffer) where
   pub byte-room : at < length buffer

@@ -17,7 +17,7 @@ use Rattle.joint.specs.State.{Run, opened}
 use Rattle.joint.specs.Plan.{transactions}
 use Rattle.joint.specs.Drill.{decimal, line, space, newline, eventLines, ascii, entryLetter, transactionLine}
 use Rattle.joint.specs.Inside.{answersIn, lineAt, linesOf, letters}
-use Rattle.joint.proofs.stand.Stored.{Next}
+use Rattle.codec.specs.laws.Stored.{Next}
 
 -- ---- numbers
 

@@ -3,13 +3,12 @@ use Prim.Native.Nat.{ℕ, _≤_}
 use mathlib.Core.Path.{_≡_, refl, sym, ap, _∙_}
 use mathlib.Core.Bool.{Bool, true, false}
 use mathlib.Core.List.{List}
-use lib.ListN.{length, getD, set}
+use lib.ListN.{length, set}
 use native.Mathlib.Omega.{arith}
 use Rattle.joint.specs.State as plain
-use Rattle.joint.specs.State.{update, forgotten, atSite}
-use Rattle.joint.specs.Stand.{siteIn, noSite, transactionIn, transactionsIn, answerIn, runIn, nextIn, Told}
-use Rattle.joint.specs.Inside.{fallen, changeIn, applied, withAll, restartedIn}
-use Rattle.joint.specs.declared.sites.Site.{Site}
+use Rattle.joint.specs.State.{update, forgotten}
+use Rattle.joint.specs.Stand.{siteIn, noSite, transactionIn, transactionsIn, answerIn, runIn, nextIn}
+use Rattle.joint.specs.Inside.{fallen, changeIn, applied, restartedIn}
 use Rattle.joint.specs.declared.transactions.Transaction.{Transaction}
 use Rattle.joint.specs.declared.power.Change.{Change}
 use Rattle.joint.specs.declared.restarts.Restarted.{Restarted}

@@ -1,8 +1,8 @@
 -- Each code's event, once its bytes are in range: its change is the plain run's.
 use Prim.Native.Nat.{ℕ, zero, suc, _≤_}
 use mathlib.Core.Path.{_≡_, refl, sym, ap, _∙_, subst}
-use mathlib.Core.Bool.{Bool, true, false, cond, not, _&&_, _||_}
-use mathlib.Core.List.{List, [], _∷_}
+use mathlib.Core.Bool.{Bool, true, false, cond, not, _&&_}
+use mathlib.Core.List.{[], _∷_}
 use lib.ListN.{getD}
 use lib.Dec.{eqb}
 use native.Mathlib.Omega.{arith}
@@ -11,9 +11,9 @@ use Rattle.codec.specs.Lists.{any}
 use Rattle.codec.specs.Sets.{member}
 use Rattle.site.specs.Step.{messages, prepare, receiver}
 use Rattle.joint.specs.State.{Run, Site, Transaction}
-use Rattle.joint.specs.Event.{eventOf, bytesInRange, cutInRange, cutOf, cutAt, ranges}
-use Rattle.joint.specs.Inside.{partIn, MayReceive, Changed, applied, askAs, AskFits, openAs, forceAs, discardAs, crashAs, siteOf, UpFor, taken, Roomy, cutFrom}
-use Rattle.joint.proofs.stand.Coded.{InRange, in-range, uncut}
+use Rattle.joint.specs.Event.{eventOf, bytesInRange, cutInRange, cutOf, cutAt}
+use Rattle.joint.specs.Inside.{partIn, MayReceive, Changed, applied, askAs, AskFits, openAs, forceAs, discardAs, crashAs, siteOf, UpFor, taken, Roomy}
+use Rattle.joint.proofs.stand.Coded.{uncut}
 use Rattle.joint.proofs.stand.Delivered.{outward, goes-to, participant-receives, coordinator-receives, to-itself, from-member, begin-plan, timer-plan, delivery-plan}
 use Rattle.joint.proofs.stand.Judged.{ask-applied, ask-room, begin-struck, timer-struck, delivery-struck}
 use Rattle.joint.proofs.stand.Settled.{open-applied, force-applied, discard-applied, crash-applied}

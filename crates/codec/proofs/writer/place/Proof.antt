@@ -4,7 +4,7 @@ use native.Mathlib.Omega.{arith}
 use lib.ListN.{length, length-map, length-take, length-drop}
 use Rattle.codec.specs.Image.{image}
 use Rattle.codec.specs.Answers.{logIn, written}
-use Rattle.codec.proofs.Stored.{stored-part}
+use Rattle.codec.specs.laws.Stored.{stored-part}
 use Rattle.codec.specs.laws.Refusals.{write-short, write-whole}
 use Rattle.codec.proofs.Held.{held-count, passed-few, image-size}
 use borrow.Author.Needs.{needs}

@@ -8,7 +8,7 @@ use mir.Facts.{fits-below}
 use borrow.Rule.Slice.PartMut.{putMid}
 use Rattle.codec.specs.Image.{magic, image}
 use Rattle.codec.specs.Answers.{logIn}
-use Rattle.codec.proofs.Stored.{Left, left-start, next-last, left-room, left-next, left-put, stored-part}
+use Rattle.codec.specs.laws.Stored.{Left, left-front, next-last, left-part, left-next, left-put, stored-part}
 use Rattle.codec.proofs.InTurn.{tableOf, recordsOf, head-fits, table-length, image-head, image-table}
 use Rattle.codec.proofs.writer.write_front.Statement.{statement}
 use Rattle.codec.proofs.writer.write_front.Tie as tie
@@ -30,12 +30,12 @@ write-head-requires c κs = omega (arith, c .before .before .pre .1)
 headed : (c : tie.After-slice-known2)
     → let n = c .before .before .before .before in
     let a = n .before .args in
-    Left (image (a .log .site) (logIn (a .log))) (a .out .now) 6 (tableOf (n .before .args .log .count) (a .log .records) ++ recordsOf (n .before .args .log .count) (a .log .records)) (c .before .before .write-head .last .1 .1 .0)
+    Left 0 (image (a .log .site) (logIn (a .log))) (a .out .now) 6 (tableOf (n .before .args .log .count) (a .log .records) ++ recordsOf (n .before .args .log .count) (a .log .records)) (c .before .before .write-head .last .1 .1 .0)
 unfolding magic
 headed c =
     let n = c .before .before .before .before in
     let s = n .before in
-    left-next (left-start (s .pre .1)) (image-head (s .args .log) (few n) (fit n)) 6 refl _ (c .before .before .write-head .ensures)
+    left-next (left-front (s .pre .1)) (image-head (s .args .log) (few n) (fit n)) 6 refl _ (c .before .before .write-head .ensures)
 
 sub-write-pairs : tie.Need-sub-write-pairs
 sub-write-pairs c = le-trans (le-add-right _ _) (headed (c .before) .room)
@@ -50,7 +50,7 @@ write-pairs-requires : tie.Need-write-pairs-requires
 write-pairs-requires c κs =
     let h = c .before .before in
     let n = h .before .before .before .before in
-    (few n, left-room (headed h) (image-table (n .before .args .log .count) (n .before .args .log .records)))
+    (few n, left-part (headed h) (image-table (n .before .args .log .count) (n .before .args .log .records)))
 
 mul-at : tie.Need-mul-at
 mul-at c = head-fits (few (c .before .before .before .before .before .before .before .before .before)) .0
@@ -64,7 +64,7 @@ tabled : (c : tie.After-slice-known3)
     let n = h .before .before .before .before in
     let a = n .before .args in
     let out = h .before .before .write-head .last .1 .1 .0 in
-    Left (image (a .log .site) (logIn (a .log))) (a .out .now) (6 + 4 * n .before .args .log .count) (recordsOf (n .before .args .log .count) (a .log .records)) (putMid 6 (length out - 6) out (c .before .before .write-pairs .last .1 .1 .0))
+    Left 0 (image (a .log .site) (logIn (a .log))) (a .out .now) (6 + 4 * n .before .args .log .count) (recordsOf (n .before .args .log .count) (a .log .records)) (putMid 6 (length out - 6) out (c .before .before .write-pairs .last .1 .1 .0))
 tabled c =
     let h = c .before .before .before .before .before in
     let n = h .before .before .before .before in
@@ -83,7 +83,7 @@ part-write-records-end c = le-refl _
 write-records-requires : tie.Need-write-records-requires
 write-records-requires c κs =
     let t = c .before in
-    (few (t .before .before .before .before .before .before .before .before .before), left-room (tabled t) next-last)
+    (few (t .before .before .before .before .before .before .before .before .before), left-part (tabled t) next-last)
 
 same-length : tie.Need-same-length
 same-length c = left-put (tabled (c .before .before .before .before)) next-last _ refl _ (c .before .before .write-records .ensures) .same

@@ -5,12 +5,13 @@ use Prim.Native.Nat.{_-_, _≤_, _<_}
 use native.Mathlib.Omega.{arith}
 use lib.ListN.{length, drop}
 use Rattle.codec.specs.Image.{magic}
-use Rattle.codec.proofs.Stored.{Left, left-start, left-next, left-end, byte-next, set-stored, sets-stored, next-last}
+use Rattle.codec.specs.laws.Stored.{Left, left-front, left-next, left-end, set-stored, next-last}
+use Rattle.codec.proofs.Stored.{byte-next, sets-stored}
 use Rattle.codec.proofs.writer.write_head.Statement.{statement}
 use Rattle.codec.proofs.writer.write_head.Tie as tie
 
 abbrev Inv-loop : tie.InvT-loop
-Inv-loop site count out₀ i₀ out i = (i ≤ 4) × Left (magic ++ site ∷ count ∷ []) out₀ i (drop i magic ++ site ∷ count ∷ []) out
+Inv-loop site count out₀ i₀ out i = (i ≤ 4) × Left 0 (magic ++ site ∷ count ∷ []) out₀ i (drop i magic ++ site ∷ count ∷ []) out
 
 abbrev μ-loop : tie.MeasureT-loop
 μ-loop site count out₀ i₀ out i = 4 - i
@@ -26,7 +27,7 @@ room c = omega (arith, long c)
 
 loop-holds : tie.Need-loop-holds Inv-loop μ-loop
 unfolding magic
-loop-holds c = (omega arith, left-start (c .pre))
+loop-holds c = (omega arith, left-front (c .pre))
 
 array-read-out : tie.Need-array-read-out Inv-loop μ-loop
 array-read-out c = c .loop-test .taken

@@ -3,14 +3,14 @@ use Prim.Native.Nat.{_-_, _*_}
 use native.Mathlib.Nat.{le-refl, le-trans, le-add-right, mul-add}
 use Rattle.codec.specs.Image.{headLength, word, pairTable}
 use Rattle.codec.specs.Inside.{bytesIn}
-use Rattle.codec.proofs.Stored.{Left, left-start, left-end, left-room, left-put}
+use Rattle.codec.specs.laws.Stored.{Left, left-front, left-end, left-part, left-put}
 use Rattle.codec.proofs.InTurn.{Counted, bytesFrom, bytes-end, table-next, counted-start, counted-next, head-fits, index-below, place-fits, next-fits, next-less, sum-fits, pair-small}
 use Rattle.codec.proofs.writer.write_pairs.Statement.{statement}
 use Rattle.codec.proofs.writer.write_pairs.Tie as tie
 
 abbrev Inv-loop : tie.InvT-loop
 Inv-loop count out₀ records offset₀ i₀ out offset i =
-    Counted records count i offset × Left (pairTable offset₀ (bytesIn count records)) out₀ (4 * i) (pairTable offset (bytesFrom records count i)) out
+    Counted records count i offset × Left 0 (pairTable offset₀ (bytesIn count records)) out₀ (4 * i) (pairTable offset (bytesFrom records count i)) out
 
 abbrev μ-loop : tie.MeasureT-loop
 μ-loop count out₀ records offset₀ i₀ out offset i = count - i
@@ -25,7 +25,7 @@ loop-holds : tie.Need-loop-holds Inv-loop μ-loop
 unfolding headLength
 loop-holds c =
     let s = c .before in
-    (counted-start _ _ _ (s .good .0 .1 .0 .1) (s .pre .0) (le-refl _), left-start (s .pre .1))
+    (counted-start _ _ _ (s .good .0 .1 .0 .1) (s .pre .0) (le-refl _), left-front (s .pre .1))
 
 mul-record : tie.Need-mul-record Inv-loop μ-loop
 mul-record c = place-fits (c .before .loop .inv .0) (c .loop-test .taken) .0
@@ -54,7 +54,7 @@ write-pair-requires c κs =
     let w = c .before .before .before in
     let i = w .before .loop .inv in
     let small = pair-small (i .0) (w .loop-test .taken) (c .before .length .ensures) in
-    (small .0, (small .1, left-room (i .1) (table-next (i .0) (w .loop-test .taken) (c .before .length .ensures))))
+    (small .0, (small .1, left-part (i .1) (table-next (i .0) (w .loop-test .taken) (c .before .length .ensures))))
 
 add-offset-2 : tie.Need-add-offset-2 Inv-loop μ-loop
 add-offset-2 c =

@@ -3,14 +3,14 @@ use mathlib.Core.List.{flatten}
 use Prim.Native.Nat.{_+_, _-_, zero-le}
 use native.Mathlib.Nat.{le-refl, le-trans, le-add-right}
 use Rattle.codec.specs.Inside.{bytesIn}
-use Rattle.codec.proofs.Stored.{Left, left-start, left-end, left-room, left-put}
+use Rattle.codec.specs.laws.Stored.{Left, left-front, left-end, left-part, left-put}
 use Rattle.codec.proofs.InTurn.{Counted, bytesFrom, bytes-end, flat-next, counted-start, counted-next, index-below, place-fits, next-fits, next-less, sum-fits}
 use Rattle.codec.proofs.writer.write_records.Statement.{statement}
 use Rattle.codec.proofs.writer.write_records.Tie as tie
 
 abbrev Inv-loop : tie.InvT-loop
 Inv-loop count out₀ records at₀ i₀ out at i =
-    Counted records count i at × Left (flatten (bytesIn count records)) out₀ at (flatten (bytesFrom records count i)) out
+    Counted records count i at × Left 0 (flatten (bytesIn count records)) out₀ at (flatten (bytesFrom records count i)) out
 
 abbrev μ-loop : tie.MeasureT-loop
 μ-loop count out₀ records at₀ i₀ out at i = count - i
@@ -18,7 +18,7 @@ abbrev μ-loop : tie.MeasureT-loop
 loop-holds : tie.Need-loop-holds Inv-loop μ-loop
 loop-holds c =
     let s = c .before in
-    (counted-start _ _ _ (s .good .0 .1 .0 .1) (s .pre .0) zero-le, left-start (s .pre .1))
+    (counted-start _ _ _ (s .good .0 .1 .0 .1) (s .pre .0) zero-le, left-front (s .pre .1))
 
 mul-record : tie.Need-mul-record Inv-loop μ-loop
 mul-record c = place-fits (c .before .loop .inv .0) (c .loop-test .taken) .0
@@ -38,7 +38,7 @@ part-write-record-end c = le-refl _
 write-record-requires : tie.Need-write-record-requires Inv-loop μ-loop
 write-record-requires c κs =
     let i = c .before .before .before .loop .inv in
-    left-room (i .1) (flat-next (i .0) (c .before .before .loop-test .taken))
+    left-part (i .1) (flat-next (i .0) (c .before .before .loop-test .taken))
 
 length-requires : tie.Need-length-requires Inv-loop μ-loop
 length-requires c κs = tt

@@ -1,5 +1,5 @@
 use Prim.Native.Nat.{ℕ, _+_, _≤_}
-use mathlib.Core.Path.{_≡_, refl, sym, ap, _∙_, subst}
+use mathlib.Core.Path.{_≡_, sym, ap, _∙_, subst}
 use lib.ListN.{getD}
 use Rattle.joint.specs.Stand.{siteIn, transactionIn}
 use native.Mathlib.Omega.{arith}
@@ -9,7 +9,6 @@ use Rattle.joint.specs.Inside.{MayReceive, changeIn, AskFits, askAs, sit
 use Rattle.joint.proofs.stand.Coded.{InRange, in-range}
 use Rattle.joint.proofs.stand.Delivered.{may-begin, may-time}
 use Rattle.joint.proofs.stand.Turns.{turned, open-turned, begin-turned, timer-turned, delivery-turned, force-turned, discard-turned, crash-turned, may-message}
-use borrow.Author.Needs.{needs}
 use Rattle.joint.proofs.events.change.Statement.{statement}
 use Rattle.joint.proofs.events.change.Tie as tie
 use Rattle.joint.proofs.events.change.Reads as reads

@@ -9,7 +9,8 @@ use borrow.Fn.Kinds.{In}
 use borrow.Fn.PlainCycle.{Measures, is, falls, and}
 use Rattle.codec.specs.Image.{stored}
 use Rattle.joint.specs.Drill.{decimal}
-use Rattle.joint.proofs.stand.Stored.{set-stored, behind-room, behind-same, behind-stored}
+use Rattle.codec.specs.laws.Stored.{set-stored}
+use Rattle.joint.proofs.stand.Stored.{behind-room, behind-same, behind-stored}
 use Rattle.joint.proofs.stand.Texts.{decimal-one, decimal-ends}
 use Rattle.joint.proofs.text.write_number.Reads as write-number
 use Rattle.joint.proofs.text.write_number.Kinds as write-number-kinds

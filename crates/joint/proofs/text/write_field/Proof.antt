@@ -6,7 +6,8 @@ use lib.ListN.{length, set, length-append}
 use borrow.Author.Needs.{needs}
 use Rattle.codec.specs.Image.{stored}
 use Rattle.joint.specs.Drill.{decimal}
-use Rattle.joint.proofs.stand.Stored.{set-stored, behind-room, behind-same, behind-stored}
+use Rattle.codec.specs.laws.Stored.{set-stored}
+use Rattle.joint.proofs.stand.Stored.{behind-room, behind-same, behind-stored}
 use Rattle.joint.proofs.stand.Texts.{decimal-one}
 use Rattle.joint.proofs.text.write_field.Statement.{statement}
 use Rattle.joint.proofs.text.write_field.Tie as tie

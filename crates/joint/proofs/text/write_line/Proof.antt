@@ -6,7 +6,7 @@ use lib.ListN.{getD}
 use borrow.Author.Needs.{needs}
 use Rattle.joint.specs.Drill.{line}
 use Rattle.joint.specs.Inside.{lineAt}
-use Rattle.joint.proofs.stand.Stored.{Left, left-start, left-end, left-room, left-next}
+use Rattle.codec.specs.laws.Stored.{Left, left-start, left-end, left-room, left-next}
 use Rattle.joint.proofs.stand.Texts.{field-next, field-last}
 use Rattle.joint.proofs.text.write_line.Statement.{statement}
 use Rattle.joint.proofs.text.write_line.Tie as tie

@@ -3,7 +3,7 @@ use mathlib.Core.Path.{ap}
 use native.Mathlib.Omega.{arith}
 use lib.ListN.{length}
 use Rattle.joint.specs.Inside.{linesOf}
-use Rattle.joint.proofs.stand.Stored.{Left, left-start, left-end, left-room, left-next}
+use Rattle.codec.specs.laws.Stored.{Left, left-start, left-end, left-room, left-next}
 use Rattle.joint.proofs.stand.Texts.{linesFrom, lines-start, lines-next, lines-end}
 use Rattle.joint.proofs.text.write_lines.Statement.{statement}
 use Rattle.joint.proofs.text.write_lines.Tie as tie

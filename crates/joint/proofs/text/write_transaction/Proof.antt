@@ -7,7 +7,8 @@ use borrow.Author.Needs.{needs}
 use Rattle.joint.specs.Drill.{transactionLine}
 use Rattle.joint.specs.Inside.{letters}
 use Rattle.joint.specs.Stand.{runIn}
-use Rattle.joint.proofs.stand.Stored.{Left, Next, left-start, left-end, left-room, left-next, byte-room, byte-next}
+use Rattle.codec.specs.laws.Stored.{Left, Next, left-start, left-end, left-room, left-next}
+use Rattle.joint.proofs.stand.Stored.{byte-room, byte-next}
 use Rattle.joint.proofs.stand.Texts.{word-text, word-next, letters-length, transaction-length}
 use Rattle.joint.proofs.text.write_transaction.Statement.{statement}
 use Rattle.joint.proofs.text.write_transaction.Tie as tie

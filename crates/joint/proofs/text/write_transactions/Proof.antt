@@ -5,7 +5,7 @@ use native.Mathlib.Omega.{arith}
 use lib.ListN.{length}
 use Rattle.joint.specs.Inside.{openedIn, transactionLines}
 use Rattle.joint.specs.Stand.{runIn}
-use Rattle.joint.proofs.stand.Stored.{Left, left-start, left-end, left-room, left-next}
+use Rattle.codec.specs.laws.Stored.{Left, left-start, left-end, left-room, left-next}
 use Rattle.joint.proofs.stand.Texts.{textFrom, text-length, text-next, text-skip, text-end, transaction-length}
 use Rattle.joint.proofs.text.write_transactions.Statement.{statement}
 use Rattle.joint.proofs.text.write_transactions.Tie as tie

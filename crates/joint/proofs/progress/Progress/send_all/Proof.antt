@@ -2,7 +2,6 @@ use mathlib.Core.Path.{sym, ap, _∙_}
 use mathlib.Core.Logic.{⊎-elim}
 use lib.ListN.{getD}
 use native.Mathlib.Omega.{arith}
-use borrow.Author.Needs.{needs}
 use Rattle.site.specs.Step.{prepare, messages}
 use Rattle.joint.specs.Inside.{progressIn}
 use Rattle.joint.proofs.stand.Doing.{progressed-none}

@@ -1,13 +1,11 @@
-use mathlib.Core.Path.{_≡_, refl, sym, ap, _∙_, subst}
-use mathlib.Core.Bool.{true, false}
+use mathlib.Core.Path.{sym, ap, _∙_, subst}
 use native.Mathlib.Omega.{arith}
 use Rattle.joint.specs.State as plain
 use Rattle.joint.specs.State.{fresh}
 use Rattle.joint.specs.Run.{after}
-use Rattle.joint.specs.Stand.{answerIn, refusalNumber, runIn, nextIn}
+use Rattle.joint.specs.Stand.{answerIn, refusalNumber, nextIn}
 use Rattle.joint.specs.Inside.{Roomy, taken, eventIn, cutIn}
 use Rattle.joint.proofs.stand.Readings.{malformed-event, asked-event, code-small, roomy}
-use borrow.Author.Needs.{needs}
 use Rattle.joint.proofs.run.Run.event.Statement.{statement}
 use Rattle.joint.proofs.run.Run.event.Tie as tie
 use Rattle.joint.proofs.run.Run.event.Reads as reads

@@ -1,10 +1,10 @@
 use Prim.Native.Nat.{ℕ, _≤_}
-use mathlib.Core.Path.{_≡_, refl, sym, ap, _∙_, subst}
+use mathlib.Core.Path.{_≡_, sym, ap, _∙_, subst}
 use mathlib.Core.Logic.{⊎-elim}
 use lib.ListN.{length}
 use native.Mathlib.Omega.{arith}
-use Rattle.joint.specs.Stand.{runIn, nextIn}
-use Rattle.joint.specs.Inside.{changeIn, applied, taken, eventIn, cutIn, siteOf, UpFor, Roomy}
+use Rattle.joint.specs.Stand.{runIn}
+use Rattle.joint.specs.Inside.{changeIn, applied, taken, eventIn, cutIn, UpFor, Roomy}
 use Rattle.joint.proofs.stand.Arrays.{length-shown}
 use Rattle.joint.proofs.stand.Reads.{site-read, transaction-read}
 use Rattle.joint.proofs.stand.Readings.{site-small, x-small}

@@ -1,12 +1,12 @@
-use mathlib.Core.Path.{_≡_, refl, sym, ap, _∙_, subst}
+use mathlib.Core.Path.{_≡_, refl, sym, _∙_, subst}
 use Prim.Native.Nat.{ℕ, _≤_}
 use lib.ListN.{length}
 use native.Mathlib.Omega.{arith}
 use Rattle.joint.specs.State as plain
 use Rattle.joint.specs.Event.{restart, eventOf, ranges, cutOf}
 use Rattle.joint.specs.declared.asked.Asked.{Asked}
-use Rattle.joint.specs.Stand.{runIn, nextIn}
-use Rattle.joint.specs.Inside.{taken, cutFrom, eventIn, cutIn, siteOf}
+use Rattle.joint.specs.Stand.{runIn}
+use Rattle.joint.specs.Inside.{taken, cutFrom, eventIn, cutIn}
 use Rattle.joint.proofs.stand.Arrays.{length-shown}
 use Rattle.joint.proofs.stand.Reads.{site-read}
 use Rattle.joint.proofs.stand.Coded.{InRange, in-range}

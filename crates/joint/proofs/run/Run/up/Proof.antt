@@ -1,4 +1,4 @@
-use mathlib.Core.Path.{_≡_, refl, sym, ap}
+use mathlib.Core.Path.{_≡_, sym, ap}
 use lib.ListN.{length}
 use borrow.Author.Needs.{needs}
 use Rattle.joint.specs.State as plain

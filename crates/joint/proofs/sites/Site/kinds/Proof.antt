@@ -1,7 +1,7 @@
 use Prim.Native.Nat.{ℕ, _≤_, _+_, _-_}
-use mathlib.Core.Path.{_≡_, refl, ap, _∙_}
+use mathlib.Core.Path.{_≡_, ap, _∙_}
 use mathlib.Core.List.{[], map}
-use mathlib.Core.Bool.{Bool, true, false, not, _&&_}
+use mathlib.Core.Bool.{true, not, and-eq-true-iff}
 use native.Mathlib.Omega.{arith}
 use borrow.Author.Needs.{needs}
 use borrow.Author.Tests.{leb-true, not-true}
@@ -9,7 +9,7 @@ use lib.ListN.{length, take, getD}
 use lib.Dec.{eqb, leb}
 use Rattle.codec.specs.Answers.{recordIn, noRecord}
 use Rattle.codec.specs.Lists.{any}
-use Rattle.codec.specs.laws.Tests.{below-at, true-of, of-true}
+use Rattle.codec.specs.laws.Tests.{below-at, true-of}
 use Rattle.site.specs.Answers.{hasKind}
 use Rattle.joint.specs.State.{holds}
 use Rattle.joint.proofs.stand.Arrays.{length-shown}
@@ -28,10 +28,6 @@ no-kind : (t k : ℕ) → k ≤ 7 → hasKind 0 k ≡ holds t k []
 unfolding hasKind holds any
 no-kind t k h = not-true (hasKind 0 k) (true-of _ (below-at 8 (λ j. not (hasKind 0 j)) tt k (omega arith)))
 
-both-true : (a b : Bool) → (a && b) ≡ true → (a ≡ true) × (b ≡ true)
-both-true true b e = (refl, e)
-both-true false b e = absurd (of-true e)
-
 of-kind : (c : tie.Then1 Inv-loop μ-loop)
     → let w = c .before .before .before .before .before in
     let s = w .before .before .before .args in
@@ -41,7 +37,7 @@ of-kind c =
     let w = c .before .before .before .before .before in
     let s = w .before .before .before .args in
     let x = getD (s .self .records) (w .loop .i) noRecord in
-    both-true (eqb (x .transaction) (s .transaction)) (leb (x .kind) 7) (c .if1 .taken)
+    and-eq-true-iff (eqb (x .transaction) (s .transaction)) (leb (x .kind) 7) .0 (c .if1 .taken)
 
 stable-count-requires : tie.Need-stable-count-requires Inv-loop μ-loop
 stable-count-requires c κs = search needs

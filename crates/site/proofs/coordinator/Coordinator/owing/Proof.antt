@@ -1,4 +1,4 @@
-use Rattle.site.proofs.Owing.{owing-commit, owing-abort}
+use Rattle.site.specs.laws.Sets.{owing-commit, owing-abort}
 use Rattle.site.specs.Answers.{cohortIn}
 use borrow.Author.Needs.{needs}
 use Rattle.site.proofs.coordinator.Coordinator.owing.Statement.{statement}

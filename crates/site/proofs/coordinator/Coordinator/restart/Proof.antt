@@ -5,7 +5,7 @@ use Rattle.site.specs.Numbers.{appending, entryOf}
 use Rattle.site.specs.Answers.{cohortIn}
 use Rattle.site.specs.Step.{messages, given}
 use Rattle.site.specs.Coordinator.{restartFrom, coordinatorRestart}
-use Rattle.site.proofs.Sent.{ordered-none}
+use Rattle.site.specs.laws.Sets.{ordered-none}
 use Rattle.site.proofs.Rows.{tell-owing}
 use Rattle.site.proofs.coordinator.Coordinator.restart.Statement.{statement}
 use Rattle.site.proofs.coordinator.Coordinator.restart.Tie as tie

@@ -1,11 +1,14 @@
--- The members that owe an ack, as the program makes their set. Assumes nothing.
+-- Who owes an ack, as a set of members and PC makes it; sends to nobody. Assumes nothing.
 use mathlib.Core.Path.{_≡_, refl, ap}
 use mathlib.Core.Bool.{Bool, true, false, cond, not, _&&_}
-use Prim.Native.Nat.{suc}
-use Rattle.codec.specs.Sets.{member, both, minus}
+use mathlib.Core.List.{[]}
+use Prim.Native.Nat.{ℕ, suc}
+use Rattle.codec.specs.Lists.{select}
+use Rattle.codec.specs.Sets.{participants, member, listed, both, minus}
 use Rattle.codec.specs.laws.Masks.{those-alike}
 use Rattle.site.specs.Presumption.{commit, abort, acks, presumedAbort, presumedCommit}
 use Rattle.site.specs.Cohort.{Cohort, presumptionOf, owing}
+use Rattle.site.specs.Coordinator.{inTurn, ordered}
 
 pub owing-commit : (g : Cohort) → owing g commit ≡ minus (g .members) (g .presumeCommit)
 unfolding owing minus presumptionOf acks
@@ -28,3 +31,7 @@ owing-abort g =
     by : (b : Bool) → acks (cond b presumedCommit presumedAbort) abort ≡ b
     by true = refl
     by false = refl
+
+pub ordered-none : (first : ℕ) → ordered first 0 ≡ []
+unfolding ordered inTurn listed select participants member
+ordered-none first = refl
