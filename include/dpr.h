@@ -176,7 +176,7 @@ uint64_t dpr_site_step(uint8_t site, uint8_t kind, uint8_t handover, uint8_t box
  * which are 10,000 events; no text is longer than DPR_DRILL_TEXT_MAX bytes. */
 #define DPR_EVENT_BYTES 6
 #define DPR_DRILL_BYTES_MAX 60000
-#define DPR_DRILL_TEXT_MAX 139062 /* 10,000 lines with numbers to 10000 and 64 sends, and 8 lines of handovers */
+#define DPR_DRILL_TEXT_MAX 220168 /* 10,000 lines of at most 22 bytes, and 8 lines of handovers of 21 bytes */
 
 /* Runs the events in the `len` bytes at `events` from a fresh run, one after another, and writes the drill's whole text
  * from the start of the `text_len` bytes at `text`. Each event has a line: its number from 1, its answer (0, or 1 to 9

@@ -56,6 +56,7 @@ pub fn drill(input: &[u8], text: &mut [u8]) -> usize
 #[no_mangle]
 pub extern "C" fn dpr_drill(events: &[u8], text: &mut [u8]) -> usize
     ensures { λ r. ⌜ written r (now (text .exit)) ≡ drillInto (now (events .entry)) (now (text .entry)) ⌝ }
+    ensures { λ _. ⌜ length (plain.drill (now (events .entry))) ≤ 220168 ⌝ }
 {
     drill(events, text)
 }

@@ -14,8 +14,8 @@ ghost use Rattle.joint.specs.Program.{Begins};
 
 // Sites by number, 0 the coordinator; transactions by number.
 pub struct Run {
-    pub sites: [Site; 9],
-    pub transactions: [Transaction; 8],
+    pub(crate) sites: [Site; 9],
+    pub(crate) transactions: [Transaction; 8],
 }
 
 // An event's answer, and the run that it leaves.

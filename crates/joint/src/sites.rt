@@ -87,7 +87,7 @@ impl Site {
     }
 
     // A full log stays as it is; no log of a run that events reach is full when a record is appended.
-    pub fn append(self, x: Record) -> Site
+    pub(crate) fn append(self, x: Record) -> Site
         ensures { λ r. ⌜ (size (siteIn self) < 24 → siteIn r ≡ appended (recordIn x) (siteIn self)) ⌝ }
     {
         let at = (self.stable as usize) + (self.unforced as usize);

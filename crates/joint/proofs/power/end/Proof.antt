@@ -6,18 +6,10 @@ use Rattle.joint.specs.Inside.{progressIn, changeIn}
 use Rattle.joint.proofs.stand.Changes.{whole, too-far, at-cut}
 use Rattle.joint.proofs.power.end.Statement.{statement}
 use Rattle.joint.proofs.power.end.Tie as tie
-use Rattle.joint.proofs.power.end.Reads as reads
-use Rattle.joint.proofs.power.end.Lts as lts
-use Rattle.joint.proofs.power.refused.Reads as refused-reads
-use Rattle.joint.proofs.progress.Progress.counts.Reads as counts-reads
-use Rattle.joint.proofs.sites.Site.stop.Reads as stop-reads
-use Rattle.joint.proofs.sites.Site.unforced_count.Reads as unforced-count-reads
 
--- src/power.rt:60:38
 counts-requires : tie.Need-counts-requires
 counts-requires c κs = search needs
 
--- src/power.rt:59:9
 returns : tie.Need-returns
 unfolding changeIn answerIn progressIn
 returns c =
@@ -26,15 +18,12 @@ returns c =
     (λ i. record { answer = record { number = 0; records = n .0 i; forces = n .1 .0 i; sends = n .1 .1 i }; site = siteIn (a .progress .site); transaction = transactionIn (a .progress .transaction); down = false })
     ∙ whole _ _ (progressIn (a .progress)) _ _ (c .before .if1 .taken)
 
--- src/power.rt:66:32
 unforced-count-requires : tie.Need-unforced-count-requires
 unforced-count-requires c κs = search needs
 
--- src/power.rt:67:9
 refused-requires : tie.Need-refused-requires
 refused-requires c κs = search needs
 
--- src/power.rt:67:9
 returns-2 : tie.Need-returns-2
 unfolding answerIn progressIn
 returns-2 c =
@@ -42,15 +31,12 @@ returns-2 c =
     c .refused .ensures
     ∙ too-far _ _ (progressIn (a .progress)) _ _ _ (c .before .before .unforced-count .ensures) (c .before .before .before .before .if1 .left) (c .before .if2 .taken)
 
--- src/power.rt:70:34
 counts-requires-2 : tie.Need-counts-requires-2
 counts-requires-2 c κs = search needs
 
--- src/power.rt:71:15
 stop-requires : tie.Need-stop-requires
 stop-requires c κs = search needs
 
--- src/power.rt:53:1
 returns-3 : tie.Need-returns-3
 unfolding changeIn answerIn progressIn
 returns-3 c =

@@ -7,27 +7,18 @@ use Rattle.joint.specs.Inside.{Doing, Counted, Fits, progressIn, progres
 use Rattle.joint.proofs.stand.Moving.{counted-starts}
 use Rattle.joint.proofs.power.moving.Statement.{statement}
 use Rattle.joint.proofs.power.moving.Tie as tie
-use Rattle.joint.proofs.power.moving.Reads as reads
-use Rattle.joint.proofs.power.moving.Lts as lts
-use Rattle.joint.proofs.power.end.Reads as end-reads
-use Rattle.joint.proofs.progress.Progress.row.Reads as row-reads
-use Rattle.joint.proofs.progress.Progress.start.Reads as start-reads
 
--- src/power.rt:84:9
 start-requires : tie.Need-start-requires
 start-requires c κs = search needs
 
--- src/power.rt:85:9
 row-requires : tie.Need-row-requires
 row-requires c κs =
     let a = c .before .before .before .args in
     (search needs, subst (λ (d : Doing). Counted d) (sym (c .start .ensures)) (counted-starts _ _ (a .cut) (search needs)))
 
--- src/power.rt:86:5
 end-requires : tie.Need-end-requires
 end-requires c κs = search needs
 
--- src/power.rt:78:1
 returns : tie.Need-returns
 unfolding moveIn movedAs progressIn
 returns c fits =

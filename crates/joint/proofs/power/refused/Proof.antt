@@ -2,10 +2,7 @@ use mathlib.Core.Path.{refl}
 use Rattle.joint.specs.Inside.{changeIn}
 use Rattle.joint.proofs.power.refused.Statement.{statement}
 use Rattle.joint.proofs.power.refused.Tie as tie
-use Rattle.joint.proofs.power.refused.Reads as reads
-use Rattle.joint.proofs.power.refused.Lts as lts
 
--- src/power.rt:26:1
 returns : tie.Need-returns
 unfolding changeIn
 returns c = refl

@@ -8,11 +8,6 @@ use Rattle.joint.specs.Inside.{Roomy, taken, eventIn, cutIn}
 use Rattle.joint.proofs.stand.Readings.{malformed-event, asked-event, code-small, roomy}
 use Rattle.joint.proofs.run.Run.event.Statement.{statement}
 use Rattle.joint.proofs.run.Run.event.Tie as tie
-use Rattle.joint.proofs.run.Run.event.Reads as reads
-use Rattle.joint.proofs.run.Run.event.Lts as lts
-use Rattle.joint.proofs.asked.Asked.read.Reads as read-reads
-use Rattle.joint.proofs.run.Run.perform.Reads as perform-reads
-use Rattle.joint.proofs.run.Run.restart.Reads as restart-reads
 
 read-requires : tie.Need-read-requires
 read-requires c κs = tt

@@ -7,8 +7,6 @@ use Rattle.joint.proofs.stand.Arrays.{length-shown}
 use Rattle.joint.proofs.stand.Reads.{site-read, site-past}
 use Rattle.joint.proofs.run.Run.up.Statement.{statement}
 use Rattle.joint.proofs.run.Run.up.Tie as tie
-use Rattle.joint.proofs.run.Run.up.Reads as reads
-use Rattle.joint.proofs.run.Run.up.Lts as lts
 
 returns : tie.Need-returns
 unfolding siteIn
