@@ -32,7 +32,7 @@ extern "C" fn lean_drill(events: *const u8, len: usize, text: *mut u8, text_len:
 const EVENTS: usize = 10_000;
 const LISTS: usize = 4;
 /// Room for every text.
-const ROOM: usize = 139_062;
+const ROOM: usize = 220_168;
 const MIXES: [&str; 4] = ["protocol", "crashes", "wild", "steady"];
 
 /// The lists of a mix. In `protocol` and `crashes` eight transactions are opened one after another over a whole list.

@@ -1,9 +1,9 @@
 -- What the writer stores: a record's bytes one by one, and bytes of a list in turn. Assumes nothing.
-use Prim.Native.Nat.{ℕ, suc, _+_, _-_, _≤_, _<_}
+use Prim.Native.Nat.{ℕ, _+_, _-_, _≤_, _<_}
 use mathlib.Core.Path.{_≡_}
 use mathlib.Core.List.{List, [], _∷_, _++_}
 use native.Mathlib.Omega.{arith}
-use lib.ListN.{getD, set, length, take, drop}
+use lib.ListN.{getD, length, take, drop}
 use native.Mathlib.Numerals.{add-one}
 use lib.Seq.{drop-cons, sets, sets-eq}
 use Rattle.codec.specs.Records.{bytesOf, lengthOf}
@@ -23,7 +23,3 @@ stored-record x n buffer h e =
 -- the bytes behind the first i of a list, with some behind them
 pub byte-next : (l tail : List ℕ) (i : ℕ) → i < length l → Next (drop i l ++ tail) (getD l i 0 ∷ []) (drop (i + 1) l ++ tail)
 byte-next l tail i h = record { split = rw (drop-cons l i 0 h, add-one) }
-
-pub sets-stored : (buffer : List ℕ) (at a b : ℕ) → at + 2 ≤ length buffer → set (set buffer at a) (suc at) b ≡ stored at (a ∷ b ∷ []) buffer
-unfolding stored
-sets-stored buffer at a b h = sets-eq (a ∷ b ∷ []) buffer at h

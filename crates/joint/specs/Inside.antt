@@ -1,5 +1,5 @@
 -- What the program's inner functions promise each other. No reader has to believe it: proofs/ shows what it has to do with 01.
-use Prim.Native.Nat.{ℕ, zero, suc, _+_, _-_, _≤_}
+use Prim.Native.Nat.{ℕ, zero, suc, _+_, _-_, _/_, _%_, _≤_}
 use mathlib.Core.Bool.{Bool, true, false, cond, not, _&&_, _||_}
 use mathlib.Core.List.{List, [], _∷_, _++_, map, flatten}
 use mathlib.Core.Option.{Option, none, some}
@@ -357,6 +357,10 @@ unfoldable pub askedIn : Asked → Option Parsed
 askedIn a = cond (a .malformed) none (some (record { event = eventIn a; cut = cutIn a }))
 
 -- ---- the drill
+
+-- the tens and the ones of a number, as characters
+abbrev pub two : ℕ → List ℕ
+two n = (48 + n / 10 % 10) ∷ (48 + n % 10) ∷ []
 
 -- n answers of four bytes each
 unfoldable pub answersIn : ℕ → List ℕ → List Answer

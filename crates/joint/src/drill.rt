@@ -18,20 +18,21 @@ ghost use Rattle.joint.specs.Inside.{textOf};
 pub const MOST: usize = 60000;
 
 // The lines of `count` answers, four bytes each, and of the opened transactions; where `text` is too short, nothing and 0.
-// No line of an answer has more than 22 bytes.
+// No line of an answer has more than 22 bytes, so the length of all has to be known only for a text that is shorter than that.
 fn write_text(answers: &[u8], count: usize, run: Run, text: &mut [u8]) -> usize
     requires { ⌜ (count ≤ 10000) × (4 * count ≤ length (now answers)) ⌝ }
     ensures { λ r. ⌜ written r (now (text .exit)) ≡ textInto (textOf count (now (answers .entry)) (runIn run)) (now (text .entry)) ⌝ }
     ensures { λ _. ⌜ length (textOf count (now (answers .entry)) (runIn run)) ≤ 220168 ⌝ }
 {
-    let lines = lines_size(answers, count);
-    let size = lines + 21 * opened_count(run);
-    if text.len() < size {
-        return 0;
+    let opened = 21 * opened_count(run);
+    if text.len() < 22 * count + opened {
+        if text.len() < lines_size(answers, count) + opened {
+            return 0;
+        }
     }
-    write_lines(answers, count, text);
+    let lines = write_lines(answers, count, text);
     write_transactions(run, &mut text[lines..]);
-    size
+    lines + opened
 }
 
 // Writes the lines of the drill at the front of `text`, and gives their length; where `text` is too short, nothing and 0.

@@ -9,7 +9,7 @@ ghost use Rattle.codec.specs.Image.{stored};
 ghost use Rattle.joint.specs.Drill as drill;
 ghost use Rattle.joint.specs.Drill.{decimal, ascii, space, entryLetter, transactionLine};
 ghost use Rattle.joint.specs.Stand.{runIn};
-ghost use Rattle.joint.specs.Inside.{lineAt, linesOf, letters, openedIn, transactionLines};
+ghost use Rattle.joint.specs.Inside.{two, lineAt, linesOf, letters, openedIn, transactionLines};
 
 // How many decimal digits a number has.
 fn digits(n: usize) -> usize
@@ -52,18 +52,45 @@ fn line_size(number: usize, answers: &[u8], from: usize) -> usize
         + 5
 }
 
-// Writes a number from `at` on. Each of these functions says where what it wrote ends.
-fn write_number(n: usize, out: &mut [u8], at: usize) -> usize
-    requires { ⌜ (n < 1000000) × (at + length (decimal 5 n) ≤ length (now out)) ⌝ }
+// A number's tens and ones.
+fn write_two(n: usize, out: &mut [u8], at: usize)
+    requires { ⌜ at + 2 ≤ length (now out) ⌝ }
+    ensures { λ _. ⌜ now (out .exit) ≡ stored at (two n) (now (out .entry)) ⌝ }
+{
+    out[at] = (48 + n / 10 % 10) as u8;
+    out[at + 1] = (48 + n % 10) as u8;
+}
+
+// Writes a number of one or two digits from `at` on. Each of these functions says where what it wrote ends.
+fn write_short(n: usize, out: &mut [u8], at: usize) -> usize
+    requires { ⌜ (n < 100) × (at + length (decimal 5 n) ≤ length (now out)) ⌝ }
     ensures { λ r. ⌜ (r ≡ at + length (decimal 5 n)) × (now (out .exit) ≡ stored at (decimal 5 n) (now (out .entry))) ⌝ }
 {
     if n < 10 {
         out[at] = (48 + n) as u8;
         return at + 1;
     }
-    let last = write_number(n / 10, out, at);
-    out[last] = (48 + n % 10) as u8;
-    last + 1
+    write_two(n, out, at);
+    at + 2
+}
+
+fn write_number(n: usize, out: &mut [u8], at: usize) -> usize
+    requires { ⌜ (n < 1000000) × (at + length (decimal 5 n) ≤ length (now out)) ⌝ }
+    ensures { λ r. ⌜ (r ≡ at + length (decimal 5 n)) × (now (out .exit) ≡ stored at (decimal 5 n) (now (out .entry))) ⌝ }
+{
+    if n < 100 {
+        return write_short(n, out, at);
+    }
+    let hundreds = n / 100;
+    if hundreds < 100 {
+        let next = write_short(hundreds, out, at);
+        write_two(n, out, next);
+        return next + 2;
+    }
+    let next = write_short(hundreds / 100, out, at);
+    write_two(hundreds, out, next);
+    write_two(n, out, next + 2);
+    next + 4
 }
 
 // A number and what ends it.
@@ -71,20 +98,21 @@ fn write_field(n: usize, end: u8, out: &mut [u8], at: usize) -> usize
     requires { ⌜ (n < 1000000) × (at + length (decimal 5 n ++ (end ∷ [])) ≤ length (now out)) ⌝ }
     ensures { λ r. ⌜ (r ≡ at + length (decimal 5 n ++ (end ∷ []))) × (now (out .exit) ≡ stored at (decimal 5 n ++ (end ∷ [])) (now (out .entry))) ⌝ }
 {
-    if n < 10 {
-        out[at] = (48 + n) as u8;
-        out[at + 1] = end;
-        return at + 2;
-    }
     let last = write_number(n, out, at);
     out[last] = end;
     last + 1
 }
 
+// Most answers and counts have one digit.
 fn write_byte(b: u8, end: u8, out: &mut [u8], at: usize) -> usize
     requires { ⌜ at + length (decimal 5 b ++ (end ∷ [])) ≤ length (now out) ⌝ }
     ensures { λ r. ⌜ (r ≡ at + length (decimal 5 b ++ (end ∷ []))) × (now (out .exit) ≡ stored at (decimal 5 b ++ (end ∷ [])) (now (out .entry))) ⌝ }
 {
+    if b < 10 {
+        out[at] = 48 + b;
+        out[at + 1] = end;
+        return at + 2;
+    }
     write_field(b as usize, end, out, at)
 }
 

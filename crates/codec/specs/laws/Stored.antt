@@ -3,6 +3,7 @@ use Prim.Native.Nat.{ℕ, _+_, _-_, _≤_, _<_}
 use mathlib.Core.Path.{_≡_, refl, sym, ap, _∙_}
 use mathlib.Core.List.{List, [], _∷_, _++_, append-assoc, append-nil}
 use native.Mathlib.Nat.{add-assoc, add-zero, zero-add}
+use native.Mathlib.Numerals.{add-one}
 use native.Mathlib.Omega.{arith}
 use lib.ListN.{set, length, take, drop, length-append, length-take, length-drop, take-append-drop, drop-of-length-le}
 use lib.Seq.{sets-eq, take-at, drop-at, drop-drop, take-all}
@@ -32,10 +33,14 @@ stored-part at x buffer y e =
     let behind : drop (length buffer - at) (drop at buffer) ≡ [] = drop-of-length-le (drop at buffer) {i = length buffer - at} (simp length-drop (omega arith)) in
     rw (e, part, behind, append-nil (x ++ drop (0 + length x) (drop at buffer)), drop-drop, zero-add, ← append-assoc (take at buffer) x (drop (at + length x) buffer))
 
--- one byte
+-- one byte, two bytes
 pub set-stored : (buffer : List ℕ) (i b : ℕ) → i < length buffer → set buffer i b ≡ stored i (b ∷ []) buffer
 unfolding stored
 set-stored buffer i b h = sets-eq (b ∷ []) buffer i (omega arith)
+
+pub two-stored : (buffer : List ℕ) (at a b : ℕ) → at + 2 ≤ length buffer → set (set buffer at a) (at + 1) b ≡ stored at (a ∷ b ∷ []) buffer
+unfolding stored
+two-stored buffer at a b h = rw add-one (sets-eq (a ∷ b ∷ []) buffer at h)
 
 -- ---- a buffer in which `rest` is left to be stored from `at` on, so that it holds `all` from `from` on where it began as `start`
 

@@ -2,23 +2,23 @@
 use Prim.Native.Nat.{ℕ, zero, suc, _+_, _-_, _*_, _/_, _%_, _≤_, _<_, min}
 use mathlib.Core.Path.{_≡_, refl, ap}
 use mathlib.Core.Bool.{Bool, true, false}
-use mathlib.Core.List.{List, [], _∷_, _++_, map, flatten}
+use mathlib.Core.List.{List, [], _∷_, _++_, flatten}
 use native.Mathlib.Omega.{arith}
 use lib.Dec.{leb, ltb}
 use lib.ListN.{length, getD, take, drop, length-append, length-take}
 use lib.Seq.{getD-drop}
 use borrow.Author.Tests.{le-leb, lt-leb, ltb-false}
 use borrow.Rule.Slice.PartMut.{midOf, putMid}
-use Rattle.codec.specs.Sets.{participants}
 use Rattle.codec.specs.Image.{stored}
 use Rattle.codec.specs.Answers.{written}
 use Rattle.joint.specs.State.{Run, fresh}
 use Rattle.joint.specs.Run.{Answer, after, answers}
-use Rattle.joint.specs.Drill.{eventsIn, answerBytes, Replayed, replayed, decimal, line, eventLines, ascii, transactionLine, drill, textInto}
+use Rattle.joint.specs.Drill.{eventsIn, answerBytes, Replayed, replayed, decimal, line, eventLines, drill, textInto}
 use Rattle.joint.specs.Inside.{answersIn, linesOf, openedIn, transactionLines, textOf}
 use Rattle.joint.specs.Stand.{runIn, replayIn}
 use Rattle.joint.specs.declared.replay.Ran.{Ran}
 use Rattle.codec.specs.laws.Stored.{length-stored, stored-part}
+use Rattle.joint.proofs.stand.Texts.{text-length}
 use Rattle.joint.proofs.stand.Replays.{take-most, stored-two, length-answers, bytesOf, bytesTold, length-told, eventsFor, events-count}
 
 -- ---- how long a line is
@@ -61,50 +61,41 @@ lines-size m (suc n) bytes h small =
       lines-size (m + 1) n (drop 4 bytes) (omega arith) (λ i. rw getD-drop (small (4 + i))),
     ))
 
-transaction-size : (r : Run) (t : ℕ) → length (transactionLine r t) ≡ 21
-unfolding transactionLine ascii decimal participants
-transaction-size r t = refl
-
-transactions-size : (r : Run) (ts : List ℕ) → length (flatten (map (transactionLine r) ts)) ≡ 21 * length ts
-unfolding flatten
-transactions-size r [] = refl
-transactions-size r (t ∷ ts) = simp length-append (omega (arith, transaction-size r t, transactions-size r ts))
-
 -- ---- all lines
 
--- how long the lines of the answers are, and how many transactions are opened; each answer in four bytes
-pub record Sized (count : ℕ) (bytes : List ℕ) (r : Run) (lines opened : ℕ) : Type 0 where
+-- how many answers, in four bytes each, and how many opened transactions
+pub record Sized (count : ℕ) (bytes : List ℕ) (r : Run) (opened : ℕ) : Type 0 where
   pub few : count ≤ 10000
   pub small : (i : ℕ) → getD bytes i 0 < 256
-  pub lines-are : lines ≡ length (linesOf count bytes)
   pub opened-are : opened ≡ length (openedIn r)
   pub opened-few : opened ≤ 8
 
-module _ {count : ℕ} {bytes : List ℕ} {r : Run} {lines opened : ℕ} (z : Sized count bytes r lines opened) where
-  text-size : length (textOf count bytes r) ≡ lines + 21 * opened
-  text-size = simp length-append (omega (arith, transactions-size r (openedIn r), z .lines-are, z .opened-are))
+module _ {count : ℕ} {bytes : List ℕ} {r : Run} {opened : ℕ} (z : Sized count bytes r opened) where
+  text-size : length (textOf count bytes r) ≡ length (linesOf count bytes) + 21 * opened
+  text-size = simp length-append (omega (arith, text-length r (openedIn r), z .opened-are))
 
-  pub size-short : lines + 21 * opened ≤ 220168
-  size-short = omega (arith, lines-size 1 count bytes (omega (arith, z .few)) (z .small), z .few, z .lines-are, z .opened-few)
+  pub lines-short : length (linesOf count bytes) ≤ 22 * count
+  lines-short = lines-size 1 count bytes (omega (arith, z .few)) (z .small)
 
   pub text-short : length (textOf count bytes r) ≤ 220168
-  text-short = omega (arith, text-size, size-short)
+  text-short = omega (arith, text-size, lines-short, z .few, z .opened-few)
 
-  pub text-none : (buffer : List ℕ) → length buffer < lines + 21 * opened → written 0 buffer ≡ textInto (textOf count bytes r) buffer
-  unfolding textInto
-  text-none buffer h =
-      let short : leb (length (textOf count bytes r)) (length buffer) ≡ false = lt-leb (length (textOf count bytes r)) (length buffer) (omega (arith, text-size)) in
-      rw short
+  module _ (lines : ℕ) (e : lines ≡ length (linesOf count bytes)) (buffer : List ℕ) where
+    pub text-none : length buffer < lines + 21 * opened → written 0 buffer ≡ textInto (textOf count bytes r) buffer
+    unfolding textInto
+    text-none h =
+        let short : leb (length (textOf count bytes r)) (length buffer) ≡ false = lt-leb (length (textOf count bytes r)) (length buffer) (omega (arith, text-size)) in
+        rw short
 
-  -- the lines of the answers, and those of the transactions in the part behind them
-  pub text-all : (buffer lined part : List ℕ) → lines + 21 * opened ≤ length buffer → lined ≡ stored 0 (linesOf count bytes) buffer
-      → part ≡ stored 0 (transactionLines r) (midOf lines (length lined - lines) lined)
-      → written (lines + 21 * opened) (putMid lines (length lined - lines) lined part) ≡ textInto (textOf count bytes r) buffer
-  unfolding textInto
-  text-all buffer lined part h p q =
-      let fits : leb (length (textOf count bytes r)) (length buffer) ≡ true = le-leb (length (textOf count bytes r)) (length buffer) (omega (arith, text-size)) in
-      let whole : putMid lines (length lined - lines) lined part ≡ stored 0 (textOf count bytes r) buffer = rw (stored-part lines (transactionLines r) lined part q, p, z .lines-are) (stored-two (linesOf count bytes) (transactionLines r) buffer (omega (arith, z .lines-are))) in
-      rw (fits, whole, text-size)
+    -- the lines of the answers, and those of the transactions in the part behind them
+    pub text-all : (lined part : List ℕ) → lines + 21 * opened ≤ length buffer → lined ≡ stored 0 (linesOf count bytes) buffer
+        → part ≡ stored 0 (transactionLines r) (midOf lines (length lined - lines) lined)
+        → written (lines + 21 * opened) (putMid lines (length lined - lines) lined part) ≡ textInto (textOf count bytes r) buffer
+    unfolding textInto
+    text-all lined part h p q =
+        let fits : leb (length (textOf count bytes r)) (length buffer) ≡ true = le-leb (length (textOf count bytes r)) (length buffer) (omega (arith, text-size)) in
+        let whole : putMid lines (length lined - lines) lined part ≡ stored 0 (textOf count bytes r) buffer = rw (stored-part lines (transactionLines r) lined part q, p, e) (stored-two (linesOf count bytes) (transactionLines r) buffer (omega (arith, e))) in
+        rw (fits, whole, text-size, e)
 
 -- ---- answers
 

@@ -2,7 +2,7 @@
 use Prim.Native.Nat.{ℕ, zero, suc, _+_, _-_, _*_, _/_, _%_, _≤_, _<_}
 use mathlib.Core.Path.{_≡_, refl, sym, ap, _∙_}
 use mathlib.Core.Bool.{Bool, true, false}
-use mathlib.Core.List.{List, [], _∷_, _++_, map, flatten, append-nil}
+use mathlib.Core.List.{List, [], _∷_, _++_, map, flatten, append-nil, append-assoc}
 use native.Mathlib.Nat.{mod-eq-of-lt, add-zero, sub-zero}
 use native.Mathlib.Numerals.{add-one}
 use native.Mathlib.Omega.{arith}
@@ -16,8 +16,9 @@ use Rattle.codec.specs.laws.Tests.{below-at, true-of}
 use Rattle.joint.specs.State.{Run, opened}
 use Rattle.joint.specs.Plan.{transactions}
 use Rattle.joint.specs.Drill.{decimal, line, space, newline, eventLines, ascii, entryLetter, transactionLine}
-use Rattle.joint.specs.Inside.{answersIn, lineAt, linesOf, letters}
-use Rattle.codec.specs.laws.Stored.{Next}
+use Rattle.joint.specs.Inside.{two, answersIn, lineAt, linesOf, letters}
+use Rattle.codec.specs.Image.{stored}
+use Rattle.codec.specs.laws.Stored.{Left, left-start, Next, left-next}
 
 -- ---- numbers
 
@@ -49,6 +50,31 @@ decimal-wider (suc k) n h = go (decimal-wider k (n / 10) (omega (arith, h))) (lt
 -- a number of more than one digit ends in its last
 pub decimal-ends : (n : ℕ) → 10 ≤ n → n < 1000000 → decimal 5 n ≡ decimal 5 (n / 10) ++ ((48 + n % 10) ∷ [])
 decimal-ends n a b = decimal-more 4 n a ∙ ap (_++ ((48 + n % 10) ∷ [])) (sym (decimal-wider 4 (n / 10) (omega (arith, b))))
+
+-- two digits
+pub decimal-two : (n : ℕ) → 10 ≤ n → n < 100 → decimal 5 n ≡ two n
+decimal-two n a b =
+    let tens : n / 10 % 10 ≡ n / 10 = mod-eq-of-lt {n = n / 10} {m = 10} (omega arith) in
+    decimal-more 4 n a ∙ rw (decimal-one 4 (n / 10) (omega arith), tens)
+
+-- more: the hundreds, and the tens and ones behind them
+decimal-hundreds : (n : ℕ) → 100 ≤ n → n < 1000000 → decimal 5 n ≡ decimal 5 (n / 100) ++ two n
+decimal-hundreds n a b =
+    let front : n / 10 / 10 ≡ n / 100 = omega arith in
+    let tens : decimal 5 (n / 10) ≡ decimal 5 (n / 100) ++ ((48 + n / 10 % 10) ∷ []) = rw front at (decimal-ends (n / 10) (omega arith) (omega arith)) in
+    decimal-ends n (omega arith) b
+    ∙ ap (_++ ((48 + n % 10) ∷ [])) tens
+    ∙ append-assoc (decimal 5 (n / 100)) ((48 + n / 10 % 10) ∷ []) ((48 + n % 10) ∷ [])
+
+-- the hundreds are stored
+pub ones-left : (n : ℕ) (out : List ℕ) (at : ℕ) → 100 ≤ n → n < 1000000 → at + length (decimal 5 n) ≤ length out
+    → (next : ℕ) → next ≡ at + length (decimal 5 (n / 100)) → (y : List ℕ) → y ≡ stored at (decimal 5 (n / 100)) out
+    → Left at (decimal 5 n) out next (two n) y
+ones-left n out at a b h = left-next (left-start h) (record { split = decimal-hundreds n a b })
+
+pub hundreds-room : (n : ℕ) (out : List ℕ) (at : ℕ) → 100 ≤ n → n < 1000000 → at + length (decimal 5 n) ≤ length out
+    → at + length (decimal 5 (n / 100)) ≤ length out
+hundreds-room n out at a b h = omega (arith, simp length-append at (ap length (decimal-hundreds n a b)))
 
 tens-positive : (j : ℕ) → 1 ≤ tens j
 tens-positive zero = omega arith

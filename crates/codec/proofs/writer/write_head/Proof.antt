@@ -5,8 +5,8 @@ use Prim.Native.Nat.{_-_, _≤_, _<_}
 use native.Mathlib.Omega.{arith}
 use lib.ListN.{length, drop}
 use Rattle.codec.specs.Image.{magic}
-use Rattle.codec.specs.laws.Stored.{Left, left-front, left-next, left-end, set-stored, next-last}
-use Rattle.codec.proofs.Stored.{byte-next, sets-stored}
+use Rattle.codec.specs.laws.Stored.{Left, left-front, left-next, left-end, set-stored, two-stored, next-last}
+use Rattle.codec.proofs.Stored.{byte-next}
 use Rattle.codec.proofs.writer.write_head.Statement.{statement}
 use Rattle.codec.proofs.writer.write_head.Tie as tie
 
@@ -59,7 +59,7 @@ same-length c = simp length-set (c .before .loop .inv .1 .same)
 returns : tie.Need-returns Inv-loop μ-loop
 unfolding magic
 returns c = let w = c .before in
-    left-end (left-next (rw (ended c) at (w .loop .inv .1)) next-last _ refl _ (sets-stored (w .loop .out) 4 (w .before .args .site) (w .before .args .count) (long c))) refl
+    left-end (left-next (rw (ended c) at (w .loop .inv .1)) next-last _ refl _ (two-stored (w .loop .out) 4 (w .before .args .site) (w .before .args .count) (long c))) refl
 
 pub write-head-spec : {M : Type 1} → statement M
 write-head-spec =
