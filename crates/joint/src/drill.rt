@@ -18,7 +18,7 @@ ghost use Rattle.joint.specs.Inside.{textOf};
 pub const MOST: usize = 60000;
 
 // The lines of `count` answers, four bytes each, and of the opened transactions; where `text` is too short, nothing and 0.
-// No line of an answer has more than 22 bytes, so the length of all has to be known only for a text that is shorter than that.
+// No line of an answer has more than 22 bytes, so the lines are measured only where `text` might be too short.
 fn write_text(answers: &[u8], count: usize, run: Run, text: &mut [u8]) -> usize
     requires { ⌜ (count ≤ 10000) × (4 * count ≤ length (now answers)) ⌝ }
     ensures { λ r. ⌜ written r (now (text .exit)) ≡ textInto (textOf count (now (answers .entry)) (runIn run)) (now (text .entry)) ⌝ }
