@@ -1,7 +1,7 @@
 /* dpr.h: log images, message numbers, one site's step and the drill of the handover engine, for C and C++ firmware.
  *
- * Link libcodec.a for dpr_image_copy and dpr_message_parts, libsite.a for dpr_site_step, and libjoint.a for dpr_drill;
- * none needs another. `rt staticlib codec`, `rt staticlib site` and `rt staticlib joint` write them to target/staticlib.
+ * Link libcodec.a for dpr_image_copy and dpr_message_parts, libsite.a for dpr_site_step, and libdrill_text.a for dpr_drill;
+ * none needs another. `rt staticlib codec`, `rt staticlib site` and `rt staticlib drill_text` write them to target/staticlib.
  * They are compiled for x86-64, and need nothing of the C library but, at most, memcpy, memmove, memset, memcmp and bcmp.
  *
  * dpr_image_copy and dpr_message_parts return a number: DPR_ACCEPTED, or the number of a refusal. A refusal leaves the

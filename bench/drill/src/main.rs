@@ -1,10 +1,10 @@
-//! The function of libjoint.a beside a drill in plain Rust, for bench/run-drill.
+//! The function of libdrill_text.a beside a drill in plain Rust, for bench/run-drill.
 //! `check`: do both and the reference model agree on the lists of all mixes? `measure MIX EVENTS`: drills of so many
 //! events, to be counted by callgrind under the names below; each text is compared.
 
 mod lean;
 #[allow(dead_code)]
-#[path = "../../../tests/joint/src/lists.rs"]
+#[path = "../../../tests/drill_text/src/lists.rs"]
 mod lists;
 mod run;
 #[allow(dead_code)]
@@ -17,7 +17,7 @@ use reference::joint::{Plan, Run, NO_CUT};
 use reference::random::{Event, Rng};
 use std::hint::black_box;
 
-#[link(name = "joint", kind = "static")]
+#[link(name = "drill_text", kind = "static")]
 extern "C" {
     fn dpr_drill(events: *const u8, len: usize, text: *mut u8, text_len: usize) -> usize;
 }
@@ -118,7 +118,7 @@ fn check() {
             let expected: String = drill(&events).iter().flat_map(|line| [line, "\n"]).collect();
             for room in [ROOM, expected.len()] {
                 assert!(text(lean_drill, &events, room) == expected.as_bytes(), "{mix}: the drill in plain Rust");
-                assert!(text(dpr_drill, &events, room) == expected.as_bytes(), "{mix}: libjoint.a");
+                assert!(text(dpr_drill, &events, room) == expected.as_bytes(), "{mix}: libdrill_text.a");
             }
             assert!(text(lean_drill, &events, expected.len() - 1).is_empty());
             let shares = shares(&events);

@@ -1,5 +1,5 @@
 // The drill program: events on standard input, lines on standard output.
-use joint::drill::drill;
+use drill_text::drill::drill;
 use libc::STDIN_FILENO;
 use libc::STDOUT_FILENO;
 ghost use mathlib.Core.Path.{_≡_};

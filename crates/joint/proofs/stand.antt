@@ -19,10 +19,7 @@ pub mod Moving
 pub mod Refused
 pub mod Coded
 pub mod AnswerCounts
-pub mod Stored
-pub mod Texts
 pub mod Replays
-pub mod Drilled
 pub mod Delivered
 pub mod Applied
 pub mod Lengths

@@ -8,3 +8,4 @@ pub mod Safety
 pub mod Stand
 pub mod Program
 pub mod Inside
+pub mod laws

@@ -1,7 +1,6 @@
-// The joint run: events, power cuts, crashes, restart and trimming, over the promises of codec and site; and the drill.
+// The joint run: events, power cuts, crashes, restart and trimming, over the promises of codec and site.
 pub mod answers;
 mod asked;
-pub mod drill;
 mod events;
 mod moves;
 mod power;
@@ -10,5 +9,4 @@ pub mod replay;
 mod restarts;
 pub mod run;
 mod sites;
-mod text;
 mod transactions;

@@ -21,6 +21,11 @@ module _ (at : ℕ) (x buffer : List ℕ) (h : at + length x ≤ length buffer) 
       let front : length (take at buffer ++ x) ≡ at + length x = simp (length-append, length-take) (omega arith) in
       rw (take-at, ← drop-drop (length y) (at + length x) (stored at x buffer), drop-at, drop-drop, length-append, ← append-assoc, add-assoc)
 
+-- at the front, and behind it
+pub stored-two : (x y buffer : List ℕ) → length x ≤ length buffer → stored (length x) y (stored 0 x buffer) ≡ stored 0 (x ++ y) buffer
+stored-two x y buffer h =
+    ap (λ (n : ℕ). stored n y (stored 0 x buffer)) (sym (zero-add (length x))) ∙ sym (stored-append 0 x buffer (omega arith) y)
+
 stored-nil : (at : ℕ) (buffer : List ℕ) → stored at [] buffer ≡ buffer
 unfolding stored
 stored-nil at buffer = rw (append-nil, add-zero, take-append-drop)

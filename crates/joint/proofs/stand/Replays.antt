@@ -1,41 +1,25 @@
 -- Events run one by one, and their answers in a lent buffer: what one event more adds to each.
-use Prim.Native.Nat.{ℕ, zero, suc, _+_, _-_, _*_, _/_, _≤_, _<_, min}
-use mathlib.Core.Path.{_≡_, refl, ap, sym, _∙_}
-use mathlib.Core.Bool.{Bool, true, false}
-use mathlib.Core.List.{List, [], _∷_, _++_, map, flatten, append-assoc, append-nil}
-use native.Mathlib.Nat.{zero-add}
+use Prim.Native.Nat.{ℕ, zero, suc, _+_, _-_, _*_, _≤_, _<_, min}
+use mathlib.Core.Path.{_≡_, refl, ap, _∙_}
+use mathlib.Core.Bool.{true, false}
+use mathlib.Core.List.{List, [], _∷_, _++_, flatten, append-nil}
 use native.Mathlib.Numerals.{add-one}
 use native.Mathlib.Omega.{arith}
 use lib.Dec.{leb}
 use lib.ListN.{length, set, take, drop, length-drop}
-use lib.Seq.{sets-eq, drop-drop, take-all}
-use borrow.Author.Tests.{le-leb, lt-leb, leb-true, leb-false}
+use lib.Seq.{sets-eq, drop-drop}
+use borrow.Author.Tests.{le-leb, lt-leb}
 use Rattle.codec.specs.Image.{stored}
-use Rattle.codec.specs.laws.Stored.{length-stored, stored-append}
+use Rattle.codec.specs.laws.Stored.{length-stored, stored-two}
 use Rattle.joint.specs.State.{Run, fresh}
 use Rattle.joint.specs.Event.{eventLength}
 use Rattle.joint.specs.Run.{Answer, event, after, answers, answerOf}
 use Rattle.joint.specs.Drill.{chunks, eventsOf, answerBytes, replayed}
 use Rattle.joint.specs.Stand.{runIn, answerIn, Told, told, nextIn, replayIn}
+use Rattle.joint.specs.laws.Events.{take-most, length-chunks, eventsFor, events-count, bytes-append, bytesTold, length-told}
 use Rattle.joint.specs.declared.run.Next.{Next}
 use Rattle.joint.specs.declared.replay.Ran.{Ran}
 use Rattle.joint.proofs.History.{after-snoc}
-
-pub take-most {ℓ} : {A : Type ℓ} (n : ℕ) (l : List A) → take (min n (length l)) l ≡ take n l
-take-most n l = go (leb n (length l)) refl
-  where
-    go : (b : Bool) → leb n (length l) ≡ b → take (min n (length l)) l ≡ take n l
-    go true t =
-        let e : min n (length l) ≡ n = omega (arith, leb-true) in
-        rw e
-    go false t = take-all (min n (length l)) l (omega (arith, leb-false)) ∙ sym (take-all n l (omega (arith, leb-false)))
-
--- ---- bytes stored one behind the other
-
--- at the front, and behind it
-pub stored-two : (x y buffer : List ℕ) → length x ≤ length buffer → stored (length x) y (stored 0 x buffer) ≡ stored 0 (x ++ y) buffer
-stored-two x y buffer h =
-    ap (λ (n : ℕ). stored n y (stored 0 x buffer)) (sym (zero-add (length x))) ∙ sym (stored-append 0 x buffer (omega arith) y)
 
 -- an answer, byte by byte
 pub answer-stored : (buffer : List ℕ) (at : ℕ) (x : Answer) {a b c d : ℕ} → at + 4 ≤ length buffer
@@ -48,11 +32,6 @@ answer-stored buffer at x h p q r s =
     rw (p, q, r, s, add-one, two, three) (sets-eq (answerBytes x) buffer at h)
 
 -- ---- events
-
-pub length-chunks : (n : ℕ) (bytes : List ℕ) → length (chunks n bytes) ≡ n
-unfolding chunks
-length-chunks zero bytes = refl
-length-chunks (suc n) bytes = ap suc (length-chunks n (drop eventLength bytes))
 
 -- the event behind the first n
 abbrev pub eventAt : ℕ → List ℕ → List ℕ
@@ -78,32 +57,6 @@ pub answers-snoc : (r : Run) (es : List (List ℕ)) (e : List ℕ) → answers r
 unfolding after answers
 answers-snoc r [] e = refl
 answers-snoc r (x ∷ es) e = ap (λ (l : List Answer). answerOf (event r x) ∷ l) (answers-snoc (event r x .run) es e)
-
-pub length-answers : (r : Run) (es : List (List ℕ)) → length (answers r es) ≡ length es
-unfolding answers
-length-answers r [] = refl
-length-answers r (e ∷ es) = ap suc (length-answers (event r e .run) es)
-
--- as bytes
-abbrev pub bytesOf : List Answer → List ℕ
-bytesOf l = flatten (map answerBytes l)
-
-pub bytes-append : (l m : List Answer) → bytesOf (l ++ m) ≡ bytesOf l ++ bytesOf m
-unfolding flatten
-bytes-append [] m = refl
-bytes-append (a ∷ l) m = rw (bytes-append l m, append-assoc)
-
-pub length-bytes : (l : List Answer) → length (bytesOf l) ≡ 4 * length l
-unfolding flatten answerBytes
-length-bytes [] = refl
-length-bytes (a ∷ l) = omega (arith, length-bytes l)
-
--- the answers to a list of events from the fresh run
-abbrev pub bytesTold : List (List ℕ) → List ℕ
-bytesTold es = bytesOf (answers fresh es)
-
-pub length-told : (es : List (List ℕ)) → length (bytesTold es) ≡ 4 * length es
-length-told es = length-bytes (answers fresh es) ∙ ap (4 *_) (length-answers fresh es)
 
 pub told-snoc : (es : List (List ℕ)) (e : List ℕ) → bytesTold (es ++ (e ∷ [])) ≡ bytesTold es ++ answerBytes (answerOf (event (after fresh es) e))
 unfolding flatten
@@ -145,14 +98,6 @@ module _ {bytes start : List ℕ} {events : ℕ} {buffer : List ℕ} {run : Run}
       }
 
 -- ---- what a replay gives
-
--- how many events there are
-abbrev pub eventsFor : List ℕ → ℕ
-eventsFor bytes = (length bytes + 5) / 6
-
-pub events-count : (bytes : List ℕ) → length (eventsOf bytes) ≡ eventsFor bytes
-unfolding eventsOf eventLength
-events-count bytes = length-chunks (eventsFor bytes) bytes
 
 events-told : (bytes : List ℕ) → length (bytesTold (eventsOf bytes)) ≡ 4 * eventsFor bytes
 events-told bytes = length-told (eventsOf bytes) ∙ ap (4 *_) (events-count bytes)

@@ -1,0 +1,67 @@
+use Prim.Native.Nat.{_-_, _≤_}
+use mathlib.Core.Path.{ap}
+use native.Mathlib.Omega.{arith}
+use lib.ListN.{length}
+use Rattle.drill_text.specs.Inside.{linesOf}
+use Rattle.codec.specs.laws.Stored.{Left, left-start, left-end, left-room, left-next}
+use Rattle.drill_text.proofs.Texts.{linesFrom, lines-start, lines-next, lines-end}
+use Rattle.drill_text.proofs.text.write_lines.Statement.{statement}
+use Rattle.drill_text.proofs.text.write_lines.Tie as tie
+
+abbrev Inv-loop : tie.InvT-loop
+Inv-loop answers count out₀ at₀ i₀ out at i = (i ≤ count) × Left 0 (linesOf count answers) out₀ at (linesFrom i count answers) out
+
+abbrev μ-loop : tie.MeasureT-loop
+μ-loop answers count out₀ at₀ i₀ out at i = count - i
+
+loop-holds : tie.Need-loop-holds Inv-loop μ-loop
+loop-holds c = let s = c .before .before in (omega arith, rw lines-start (left-start (omega (arith, s .pre .1))))
+
+add-write-line : tie.Need-add-write-line Inv-loop μ-loop
+add-write-line c = omega arith
+
+mul-write-line : tie.Need-mul-write-line Inv-loop μ-loop
+mul-write-line c = omega arith
+
+write-line-requires : tie.Need-write-line-requires Inv-loop μ-loop
+write-line-requires c κs =
+    let w = c .before .before .loop in
+    ((omega arith, omega arith), left-room (w .inv .1) (lines-next (w .i) _ _ (c .before .loop-test .taken)))
+
+add-i : tie.Need-add-i Inv-loop μ-loop
+add-i c = omega arith
+
+loop-less : tie.Need-loop-less Inv-loop μ-loop
+loop-less c = omega arith
+
+loop-again : tie.Need-loop-again Inv-loop μ-loop
+loop-again c =
+    let w = c .before .before .before .before .before in
+    let e = c .before .before .write-line .ensures in
+    (omega arith, left-next (w .loop .inv .1) (lines-next (w .loop .i) _ _ (c .before .before .before .before .loop-test .taken)) _ (e .0) _ (e .1))
+
+same-length : tie.Need-same-length Inv-loop μ-loop
+same-length c = c .before .loop .inv .1 .same
+
+returns : tie.Need-returns Inv-loop μ-loop
+returns c =
+    let a = c .before .before .before .before .args in
+    let l = c .before .loop .inv .1 in
+    let none = lines-end (c .before .loop .i) (a .count) (a .answers .now) (c .loop-test .left) in
+    (omega (arith, l .size, ap length none), left-end l none)
+
+pub write-lines-spec : {M : Type 1} → statement M
+write-lines-spec =
+    tie.close
+    (tie.spec
+    Inv-loop
+    μ-loop
+    loop-holds
+    add-write-line
+    mul-write-line
+    write-line-requires
+    add-i
+    loop-less
+    loop-again
+    same-length
+    returns)

@@ -1,0 +1,43 @@
+-- What the program's inner functions promise each other. No reader has to believe it: proofs/ shows what it has to do with 01.
+use Prim.Native.Nat.{ℕ, zero, suc, _+_, _/_, _%_}
+use mathlib.Core.List.{List, [], _∷_, _++_, map, flatten}
+use lib.ListN.{drop, getD}
+use Rattle.codec.specs.Lists.{select}
+use Rattle.codec.specs.Sets.{participants}
+use Rattle.joint.specs.State.{Run, opened}
+use Rattle.joint.specs.Plan.{transactions}
+use Rattle.joint.specs.Run.{Answer}
+use Rattle.joint.specs.Drill.{line, eventLines, entryLetter, transactionLine}
+
+-- the tens and the ones of a number, as characters
+abbrev pub two : ℕ → List ℕ
+two n = (48 + n / 10 % 10) ∷ (48 + n % 10) ∷ []
+
+-- n answers of four bytes each
+unfoldable pub answersIn : ℕ → List ℕ → List Answer
+answersIn zero bytes = []
+answersIn (suc n) bytes =
+    record { number = getD bytes 0 0; records = getD bytes 1 0; forces = getD bytes 2 0; sends = getD bytes 3 0 } ∷ answersIn n (drop 4 bytes)
+
+abbrev pub linesOf : ℕ → List ℕ → List ℕ
+linesOf n bytes = eventLines 1 (answersIn n bytes)
+
+-- the line of event n, whose answer stands from `at` on
+abbrev pub lineAt : ℕ → List ℕ → ℕ → List ℕ
+lineAt n bytes at =
+    line (n ∷ getD bytes at 0 ∷ getD bytes (at + 1) 0 ∷ getD bytes (at + 2) 0 ∷ getD bytes (at + 3) 0 ∷ [])
+
+-- a letter for each site
+unfoldable pub letters : Run → ℕ → List ℕ
+letters r t = map (entryLetter (r .transaction t)) (0 ∷ participants)
+
+-- the opened transactions, and their lines
+abbrev pub openedIn : Run → List ℕ
+openedIn r = select (opened r) transactions
+
+abbrev pub transactionLines : Run → List ℕ
+transactionLines r = flatten (map (transactionLine r) (openedIn r))
+
+-- the lines of n answers and of a run's opened transactions
+abbrev pub textOf : ℕ → List ℕ → Run → List ℕ
+textOf n bytes r = linesOf n bytes ++ transactionLines r

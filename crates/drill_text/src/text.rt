@@ -1,0 +1,244 @@
+// The lines of a drill, as bytes.
+use joint::run::Run;
+use site::presumption::Outcome;
+ghost use mathlib.Core.Path.{_≡_};
+ghost use mathlib.Core.List.{[], _∷_, _++_};
+ghost use Prim.Native.Nat.{_+_, _*_, _<_, _≤_};
+ghost use lib.ListN.{length};
+ghost use Rattle.codec.specs.Image.{stored};
+ghost use Rattle.joint.specs.Drill as drill;
+ghost use Rattle.joint.specs.Drill.{decimal, ascii, space, entryLetter, transactionLine};
+ghost use Rattle.joint.specs.Stand.{runIn};
+ghost use Rattle.drill_text.specs.Inside.{two, lineAt, linesOf, letters, openedIn, transactionLines};
+
+// How many decimal digits a number has.
+fn digits(n: usize) -> usize
+    requires { ⌜ n < 1000000 ⌝ }
+    ensures { λ r. ⌜ (r ≡ length (decimal 5 n)) × (r ≤ 6) ⌝ }
+{
+    if n < 10 {
+        return 1;
+    }
+    if n < 100 {
+        return 2;
+    }
+    if n < 1000 {
+        return 3;
+    }
+    if n < 10000 {
+        return 4;
+    }
+    if n < 100000 {
+        return 5;
+    }
+    6
+}
+
+fn byte_digits(b: u8) -> usize
+    ensures { λ r. ⌜ (r ≡ length (decimal 5 b)) × (r ≤ 6) ⌝ }
+{
+    digits(b as usize)
+}
+
+fn line_size(number: usize, answers: &[u8], from: usize) -> usize
+    requires { ⌜ (number < 1000000) × (from + 4 ≤ length (now answers)) ⌝ }
+    ensures { λ r. ⌜ (r ≡ length (lineAt number (now (answers .entry)) from)) × (r ≤ 35) ⌝ }
+{
+    digits(number)
+        + byte_digits(answers[from])
+        + byte_digits(answers[from + 1])
+        + byte_digits(answers[from + 2])
+        + byte_digits(answers[from + 3])
+        + 5
+}
+
+// A number's tens and ones.
+fn write_two(n: usize, out: &mut [u8], at: usize)
+    requires { ⌜ at + 2 ≤ length (now out) ⌝ }
+    ensures { λ _. ⌜ now (out .exit) ≡ stored at (two n) (now (out .entry)) ⌝ }
+{
+    out[at] = (48 + n / 10 % 10) as u8;
+    out[at + 1] = (48 + n % 10) as u8;
+}
+
+// Writes a number of one or two digits from `at` on. Each of these functions says where what it wrote ends.
+fn write_short(n: usize, out: &mut [u8], at: usize) -> usize
+    requires { ⌜ (n < 100) × (at + length (decimal 5 n) ≤ length (now out)) ⌝ }
+    ensures { λ r. ⌜ (r ≡ at + length (decimal 5 n)) × (now (out .exit) ≡ stored at (decimal 5 n) (now (out .entry))) ⌝ }
+{
+    if n < 10 {
+        out[at] = (48 + n) as u8;
+        return at + 1;
+    }
+    write_two(n, out, at);
+    at + 2
+}
+
+fn write_number(n: usize, out: &mut [u8], at: usize) -> usize
+    requires { ⌜ (n < 1000000) × (at + length (decimal 5 n) ≤ length (now out)) ⌝ }
+    ensures { λ r. ⌜ (r ≡ at + length (decimal 5 n)) × (now (out .exit) ≡ stored at (decimal 5 n) (now (out .entry))) ⌝ }
+{
+    if n < 100 {
+        return write_short(n, out, at);
+    }
+    let hundreds = n / 100;
+    if hundreds < 100 {
+        let next = write_short(hundreds, out, at);
+        write_two(n, out, next);
+        return next + 2;
+    }
+    let next = write_short(hundreds / 100, out, at);
+    write_two(hundreds, out, next);
+    write_two(n, out, next + 2);
+    next + 4
+}
+
+// A number and what ends it.
+fn write_field(n: usize, end: u8, out: &mut [u8], at: usize) -> usize
+    requires { ⌜ (n < 1000000) × (at + length (decimal 5 n ++ (end ∷ [])) ≤ length (now out)) ⌝ }
+    ensures { λ r. ⌜ (r ≡ at + length (decimal 5 n ++ (end ∷ []))) × (now (out .exit) ≡ stored at (decimal 5 n ++ (end ∷ [])) (now (out .entry))) ⌝ }
+{
+    let last = write_number(n, out, at);
+    out[last] = end;
+    last + 1
+}
+
+// Most answers and counts have one digit.
+fn write_byte(b: u8, end: u8, out: &mut [u8], at: usize) -> usize
+    requires { ⌜ at + length (decimal 5 b ++ (end ∷ [])) ≤ length (now out) ⌝ }
+    ensures { λ r. ⌜ (r ≡ at + length (decimal 5 b ++ (end ∷ []))) × (now (out .exit) ≡ stored at (decimal 5 b ++ (end ∷ [])) (now (out .entry))) ⌝ }
+{
+    if b < 10 {
+        out[at] = 48 + b;
+        out[at + 1] = end;
+        return at + 2;
+    }
+    write_field(b as usize, end, out, at)
+}
+
+// The locals are where a field starts.
+fn write_line(number: usize, answers: &[u8], from: usize, out: &mut [u8], at: usize) -> usize
+    requires { ⌜ ((number < 1000000) × (from + 4 ≤ length (now answers))) × (at + length (lineAt number (now answers) from) ≤ length (now out)) ⌝ }
+    ensures { λ r. ⌜ (r ≡ at + length (lineAt number (now (answers .entry)) from)) × (now (out .exit) ≡ stored at (lineAt number (now (answers .entry)) from) (now (out .entry))) ⌝ }
+{
+    let answer = write_field(number, b' ', out, at);
+    let records = write_byte(answers[from], b' ', out, answer);
+    let forces = write_byte(answers[from + 1], b' ', out, records);
+    let sends = write_byte(answers[from + 2], b' ', out, forces);
+    write_byte(answers[from + 3], b'\n', out, sends)
+}
+
+// The length of the lines of `count` answers, four bytes each.
+pub(crate) fn lines_size(answers: &[u8], count: usize) -> usize
+    requires { ⌜ (count ≤ 10000) × (4 * count ≤ length (now answers)) ⌝ }
+    ensures { λ r. ⌜ r ≡ length (linesOf count (now (answers .entry))) ⌝ }
+{
+    let mut size: usize = 0;
+    let mut i: usize = 0;
+    while i < count {
+        size += line_size(i + 1, answers, 4 * i);
+        i += 1;
+    }
+    size
+}
+
+pub(crate) fn write_lines(answers: &[u8], count: usize, out: &mut [u8]) -> usize
+    requires { ⌜ ((count ≤ 10000) × (4 * count ≤ length (now answers))) × (length (linesOf count (now answers)) ≤ length (now out)) ⌝ }
+    ensures { λ r. ⌜ (r ≡ length (linesOf count (now (answers .entry)))) × (now (out .exit) ≡ stored 0 (linesOf count (now (answers .entry))) (now (out .entry))) ⌝ }
+{
+    let mut at: usize = 0;
+    let mut i: usize = 0;
+    while i < count {
+        at = write_line(i + 1, answers, 4 * i, out, at);
+        i += 1;
+    }
+    at
+}
+
+fn letter(commit: bool, abort: bool) -> u8
+    ensures { λ r. ⌜ r ≡ drill.letter commit abort ⌝ }
+{
+    if commit {
+        if abort {
+            return b'X';
+        }
+        return b'C';
+    }
+    if abort {
+        return b'A';
+    }
+    b'-'
+}
+
+fn entry_letter(run: Run, transaction: u8, site: u8) -> u8
+    ensures { λ r. ⌜ r ≡ entryLetter (runIn run .transaction transaction) site ⌝ }
+{
+    let commit = run.entered(transaction, site, Outcome::Commit);
+    let abort = run.entered(transaction, site, Outcome::Abort);
+    letter(commit, abort)
+}
+
+// A letter for each site.
+fn write_letters(run: Run, transaction: u8, out: &mut [u8], at: usize)
+    requires { ⌜ at + 9 ≤ length (now out) ⌝ }
+    ensures { λ _. ⌜ now (out .exit) ≡ stored at (letters (runIn run) transaction) (now (out .entry)) ⌝ }
+{
+    let mut site: u8 = 0;
+    while site < 9 {
+        out[at + (site as usize)] = entry_letter(run, transaction, site);
+        site += 1;
+    }
+}
+
+fn write_word(out: &mut [u8], at: usize)
+    requires { ⌜ at + 9 ≤ length (now out) ⌝ }
+    ensures { λ _. ⌜ now (out .exit) ≡ stored at (ascii "HANDOVER" ++ (space ∷ [])) (now (out .entry)) ⌝ }
+{
+    let word = *b"HANDOVER ";
+    let mut i: usize = 0;
+    while i < 9 {
+        out[at + i] = word[i];
+        i += 1;
+    }
+}
+
+fn write_transaction(run: Run, transaction: u8, out: &mut [u8], at: usize)
+    requires { ⌜ (transaction < 8) × (at + 21 ≤ length (now out)) ⌝ }
+    ensures { λ _. ⌜ now (out .exit) ≡ stored at (transactionLine (runIn run) transaction) (now (out .entry)) ⌝ }
+{
+    write_word(out, at);
+    out[at + 9] = 48 + transaction;
+    out[at + 10] = b' ';
+    write_letters(run, transaction, out, at + 11);
+    out[at + 20] = b'\n';
+}
+
+pub fn opened_count(run: Run) -> usize
+    ensures { λ r. ⌜ (r ≡ length (openedIn (runIn run))) × (r ≤ 8) ⌝ }
+{
+    let mut count: usize = 0;
+    let mut i: u8 = 0;
+    while i < 8 {
+        if run.members(i) != 0 {
+            count += 1;
+        }
+        i += 1;
+    }
+    count
+}
+
+// The lines of the opened transactions, 21 bytes each.
+pub(crate) fn write_transactions(run: Run, out: &mut [u8])
+    requires { ⌜ 21 * length (openedIn (runIn run)) ≤ length (now out) ⌝ }
+    ensures { λ _. ⌜ now (out .exit) ≡ stored 0 (transactionLines (runIn run)) (now (out .entry)) ⌝ }
+{
+    let mut at: usize = 0;
+    let mut i: u8 = 0;
+    while i < 8 {
+        if run.members(i) != 0 {
+            write_transaction(run, i, out, at);
+            at += 21;
+        }
+        i += 1;
+    }
+}
