@@ -1,7 +1,8 @@
 //! What the lists met, by the reference model, and how often each of it has to be met at least.
 
 use reference::codec::*;
-use reference::joint::{Log, Phase, Plan, Run, Transaction};
+use reference::joint::{Phase, Plan, Run, Transaction};
+use reference::log::Log;
 use reference::step::{CoordinatorPhase, Effect};
 use std::collections::BTreeMap;
 

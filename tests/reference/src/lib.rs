@@ -6,6 +6,7 @@
 pub mod codec;
 pub mod drill;
 pub mod joint;
+pub mod log;
 pub mod monitor;
 pub mod numbers;
 pub mod random;

@@ -4,6 +4,7 @@
 use crate::codec::*;
 use crate::drill::*;
 use crate::joint::*;
+use crate::log::Log;
 use crate::step::*;
 
 /// A reply of a coordinator whose phase was Unknown to a participant in doubt.
