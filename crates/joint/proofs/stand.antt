@@ -15,7 +15,6 @@ pub mod Moves
 pub mod Sites
 pub mod Walks
 pub mod Trims
-pub mod Moving
 pub mod Refused
 pub mod Coded
 pub mod AnswerCounts

@@ -64,15 +64,6 @@ module _ {A B : Type 0} (h : A → B) (g : B → B) (d : A) (before : List A) wh
       front j l false q =
           ap h (getD-set-other now i j v d (eqb-false j i q)) ∙ p .front j (omega (arith, l, eqb-false j i q))
 
-  -- element i stays, where the change leaves it as it is
-  pub pass-leaves : (now : List A) (i : ℕ) → Passed h g d before now i → h (getD now i d) ≡ g (h (getD now i d)) → Passed h g d before now (i + 1)
-  pass-leaves now i p e =
-      record { length-kept = p .length-kept; front = λ j l. front j l (eqb j i) refl; back = λ j l. p .back j (omega (arith, l)) }
-    where
-      front : (j : ℕ) → j < i + 1 → (b : Bool) → eqb j i ≡ b → h (getD now j d) ≡ g (h (getD before j d))
-      front j l true q = rw (eqb-true j i q) (e ∙ ap (λ (x : A). g (h x)) (p .back i (omega arith)))
-      front j l false q = p .front j (omega (arith, l, eqb-false j i q))
-
   -- all have been passed: the change holds at every index, if it leaves the default
   pub pass-ends : (now : List A) (i : ℕ) → Passed h g d before now i → length before ≤ i → h d ≡ g (h d)
       → _≡_ {A = ℕ → B} (λ j. h (getD now j d)) (λ j. g (h (getD before j d)))

@@ -1,6 +1,6 @@
 -- An event by its code: what the ranges say of its numbers, and where power goes.
 use Prim.Native.Nat.{ℕ, _≤_}
-use mathlib.Core.Path.{_≡_, refl, sym, ap, _∙_, subst}
+use mathlib.Core.Path.{_≡_, refl, sym, _∙_}
 use mathlib.Core.Bool.{Bool, true, false, _&&_, _||_, and-eq-true-iff}
 use mathlib.Core.List.{[], _∷_}
 use mathlib.Core.Option.{none}
@@ -9,10 +9,7 @@ use lib.Dec.{eqb}
 use borrow.Author.Tests.{leb-true}
 use Rattle.codec.specs.Lists.{any}
 use Rattle.codec.specs.laws.Tests.{every-at}
-use Rattle.joint.specs.State.{Run}
-use Rattle.joint.specs.Event.{eventOf, ranges, bytesInRange, cutInRange, cutAt, cutOf}
-use Rattle.joint.specs.Stand.{Told}
-use Rattle.joint.specs.Inside.{taken, Roomy}
+use Rattle.joint.specs.Event.{ranges, bytesInRange, cutInRange, cutAt, cutOf}
 use Rattle.joint.proofs.Booleans.{clash}
 
 pub record InRange (code x y z : ℕ) : Type 0 where
@@ -46,18 +43,3 @@ module _ (code x y z cut keep : ℕ) (h : (bytesInRange code x y z && cutInRange
       whole : (a b : Bool) → (a || b) ≡ true → b ≡ false → a ≡ true
       whole true b p q = refl
       whole false b p q = absurd (clash (sym p ∙ q))
-
--- what is to be shown of an event's answer and next run
-abbrev pub Performed : Run → Told → ℕ → ℕ → ℕ → ℕ → ℕ → ℕ → Type 0
-Performed r n code x y z cut keep = Roomy r (eventOf code x y z) → n ≡ taken r (eventOf code x y z) (cutOf code cut keep)
-
--- from a known code
-pub coded : (r : Run) (n : Told) (k code x y z cut keep : ℕ) → code ≡ k → Performed r n k x y z cut keep → Performed r n code x y z cut keep
-coded r n k code x y z cut keep e = subst (λ (i : ℕ). Performed r n i x y z cut keep) (sym e)
-
--- an event that power cannot cut
-pub coded-whole : (r : Run) (n : Told) (k code x y z cut keep : ℕ) → code ≡ k → any (eqb k) (1 ∷ 2 ∷ 3 ∷ 7 ∷ []) ≡ false → eqb k 6 ≡ false
-    → (bytesInRange code x y z && cutInRange code cut keep) ≡ true → (Roomy r (eventOf k x y z) → n ≡ taken r (eventOf k x y z) none) → Performed r n code x y z cut keep
-coded-whole r n k code x y z cut keep e a b h f =
-    coded r n k code x y z cut keep e
-    (λ room. f room ∙ ap (taken r (eventOf k x y z)) (sym (uncut k x y z cut keep (subst (λ (i : ℕ). (bytesInRange i x y z && cutInRange i cut keep) ≡ true) e h) a b)))

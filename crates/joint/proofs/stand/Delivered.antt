@@ -4,26 +4,24 @@ use mathlib.Core.Path.{_≡_, refl, sym, ap, _∙_, subst}
 use mathlib.Core.Bool.{Bool, true, false, cond, not, _&&_, _||_, or-true}
 use mathlib.Core.Logic.{_⊎_, ⊎-elim}
 use mathlib.Core.Option.{Option}
-use lib.ListN.{length, getD}
+use lib.ListN.{getD}
 use lib.Dec.{eqb, leb, ltb, eqb→eq}
 use native.Mathlib.Omega.{arith}
-use borrow.Author.Tests.{not-false, ne-eqb, le-leb, lt-leb, lt-ltb, le-ltb}
+use borrow.Author.Tests.{ne-eqb, le-leb, lt-leb, lt-ltb, le-ltb}
 use Rattle.codec.specs.Lists.{any, first}
 use Rattle.codec.specs.Sets.{member}
 use Rattle.codec.specs.laws.Tests.{below-at, alike, alike-eq}
 use Rattle.site.specs.Step.{messages, prepare, messageKind, receiver, received}
 use Rattle.site.specs.Numbers.{inputOf, kindsReceived, receives}
 use Rattle.joint.specs.State as plain
-use Rattle.joint.specs.State.{takesPart}
 use Rattle.joint.specs.Event.{Event, beginning, timeout, delivery}
-use Rattle.joint.specs.Refusals.{stranger, refusals}
+use Rattle.joint.specs.Refusals.{refusals}
 use Rattle.joint.specs.Plan.{Plan, plan}
 use Rattle.joint.specs.Run.{carryPlan}
-use Rattle.joint.specs.Stand.{transactionIn, runIn, Told, told}
+use Rattle.joint.specs.Stand.{Told, told}
 use Rattle.joint.specs.Inside.{MayReceive, uponInput, FitsPlan, Roomy, taken}
 use Rattle.joint.specs.declared.transactions.Transaction.{Transaction}
 use Rattle.joint.specs.declared.run.Run.{Run}
-use Rattle.joint.proofs.stand.Reads.{transaction-read}
 use Rattle.joint.proofs.stand.Refused.{not-refused}
 
 -- an event that is not refused is the step that its plan is
@@ -122,24 +120,3 @@ to-itself x (suc n) kind l u e = (u, (refl, e))
 pub from-member : (x : plain.Transaction) (p kind : ℕ) → receives 0 kind ≡ true → member p (x .cohort .members) ≡ true → MayReceive x 0 kind p
 unfolding MayReceive
 from-member x p kind e m = rw (e, m) (or-true (leb 16 kind))
-
-member-of : (r : plain.Run) (t p : ℕ) → 1 ≤ p → stranger r t p ≡ false → member p (r .transaction t .cohort .members) ≡ true
-unfolding stranger takesPart
-member-of r t zero l e = absurd (omega (arith, l))
-member-of r t (suc n) l e = not-false (member (suc n) (r .transaction t .cohort .members)) e
-
-pub may-deliver : (r : plain.Run) (t p kind : ℕ) → 1 ≤ p → p ≤ 8 → kind ≤ 6 → stranger r t p ≡ false
-    → MayReceive (r .transaction t) (receiver (getD messages kind prepare) p) kind p
-may-deliver r t p kind l u h e =
-    subst (λ (s : ℕ). MayReceive (r .transaction t) s kind p) (sym (goes-to kind p h)) (by (outward kind) refl)
-  where
-    by : (b : Bool) → outward kind ≡ b → MayReceive (r .transaction t) (cond b p 0) kind p
-    by true q = to-itself _ p kind l u (participant-receives kind h ∙ q)
-    by false q = from-member _ p kind (coordinator-receives kind h ∙ ap not q) (member-of r t p l e)
-
--- the program's test of refusal 7
-pub unsent-read : {b v : Bool} (x : Run) (t : ℕ) (d : Transaction) → length (x .transactions) ≡ 8 → t ≤ 7 → (p kind : ℕ) → kind ≤ 6
-    → b ≡ transactionIn (getD (x .transactions) t d) .sent p kind → not b ≡ v
-    → not (runIn x .transaction t .sent p (messageKind (getD messages kind prepare))) ≡ v
-unsent-read x t d n k p kind h q e =
-    rw (message-of kind h) (sym (ap not (q ∙ ap (λ (y : plain.Transaction). y .sent p kind) (transaction-read x t d n k))) ∙ e)

@@ -14,7 +14,7 @@ use Rattle.codec.specs.laws.Tests.{or-none}
 use Rattle.site.specs.Step.{Effect, append, force, enter, send}
 use Rattle.joint.specs.State.{Site, Transaction, appended, forced}
 use Rattle.joint.specs.Run.{isAppend, isForce, isSend}
-use Rattle.joint.specs.Inside.{siteAfter, transactionAfter, counted, Doing, progressed, Counted, size, Fits}
+use Rattle.joint.specs.Inside.{siteAfter, transactionAfter, counted, Doing, starting, progressed, Counted, size, Fits}
 use Rattle.joint.proofs.Lists.{select-append, among, select-take}
 
 -- ---- effects in two parts
@@ -115,6 +115,9 @@ counted-most f (e ∷ es) = by (f e) (counted-most f es)
 -- as many are counted as can still happen, or fewer
 counted-within : (f : Effect → Bool) (n k : ℕ) (es : List Effect) → k + n ≤ 255 → k + counted f (take n es) + (n - length es) ≤ 255
 counted-within f n k es h = omega (arith, counted-most f (take n es), length-take n es)
+
+pub counted-starts : (a : Site) (x : Transaction) (n : ℕ) → n ≤ 255 → Counted (starting a x n)
+counted-starts a x n h = record { records = omega (arith, h); forces = omega (arith, h); sends = omega (arith, h) }
 
 pub counted-kept : (s t : ℕ) (es : List Effect) (d : Doing) → Counted d → Counted (progressed s t es d)
 unfolding progressed

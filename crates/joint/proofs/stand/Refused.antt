@@ -1,23 +1,19 @@
 -- An event that is refused by 2 to 7, and one that is not.
-use Prim.Native.Nat.{ℕ, zero, suc, _≤_}
-use mathlib.Core.Path.{_≡_, refl, sym, ap, _∙_}
-use mathlib.Core.Bool.{Bool, true, false, cond, not}
+use Prim.Native.Nat.{ℕ, suc}
+use mathlib.Core.Path.{_≡_, refl, ap, _∙_}
+use mathlib.Core.Bool.{Bool, true, false, cond}
 use mathlib.Core.List.{List, [], _∷_}
 use mathlib.Core.Option.{Option, none}
-use lib.ListN.{length, getD}
 use Rattle.codec.specs.Lists.{select, first}
-use Rattle.codec.specs.Sets.{empty}
 use Rattle.joint.specs.State as plain
-use Rattle.joint.specs.State.{opened, takesPart, performAll}
+use Rattle.joint.specs.State.{performAll}
 use Rattle.joint.specs.Event.{Event}
-use Rattle.joint.specs.Refusals.{unopened, stranger, isDown, refusals}
+use Rattle.joint.specs.Refusals.{refusals}
 use Rattle.joint.specs.Plan.{plan, settling}
 use Rattle.joint.specs.Run.{count, answerOf, refuse, carry, carryPlan, carryUnless}
-use Rattle.joint.specs.Stand.{transactionIn, runIn, told, refusalNumber}
-use Rattle.joint.specs.Inside.{partIn, refusedBy, acceptedAs, taken}
-use Rattle.joint.specs.declared.transactions.Transaction.{Transaction}
+use Rattle.joint.specs.Stand.{told, refusalNumber}
+use Rattle.joint.specs.Inside.{refusedBy, acceptedAs, taken}
 use Rattle.joint.specs.declared.run.Run.{Run}
-use Rattle.joint.proofs.stand.Reads.{transaction-read}
 
 module _ (r : plain.Run) where
   -- a refusal leaves the run as it was, and counts nothing
@@ -53,27 +49,3 @@ module _ {b : Bool} (n : ℕ) (rest : List (ℕ × Bool)) where
 pub none-strikes : first [] ≡ 0
 unfolding first
 none-strikes = refl
-
--- ---- the program's tests are those of the refusals
-
-pub down-read : {b v : Bool} (r : plain.Run) (s : ℕ) → b ≡ r .site s .up → not b ≡ v → isDown r s ≡ v
-unfolding isDown
-down-read r s q e = sym (ap not q) ∙ e
-
-module _ (x : Run) (t : ℕ) (d : Transaction) (n : length (x .transactions) ≡ 8) (h : t ≤ 7) where
-  pub opened-read : not (empty (transactionIn (getD (x .transactions) t d) .cohort .members)) ≡ opened (runIn x) t
-  unfolding opened
-  opened-read = ap (λ (y : plain.Transaction). not (empty (y .cohort .members))) (transaction-read x t d n h)
-
-  pub unopened-read : {b v : Bool} → b ≡ not (empty (transactionIn (getD (x .transactions) t d) .cohort .members)) → not b ≡ v → unopened (runIn x) t ≡ v
-  unfolding unopened
-  unopened-read q e = sym (ap not (q ∙ opened-read)) ∙ e
-
-  part-read : (s : ℕ) → partIn (runIn x .transaction t) s ≡ takesPart (runIn x) t s
-  unfolding partIn takesPart
-  part-read zero = refl
-  part-read (suc k) = refl
-
-  pub stranger-read : {b v : Bool} (s : ℕ) → b ≡ partIn (transactionIn (getD (x .transactions) t d)) s → not b ≡ v → stranger (runIn x) t s ≡ v
-  unfolding stranger
-  stranger-read s q e = sym (ap not (q ∙ ap (λ (y : plain.Transaction). partIn y s) (transaction-read x t d n h) ∙ part-read s)) ∙ e

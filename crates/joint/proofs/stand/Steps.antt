@@ -2,18 +2,16 @@
 use Prim.Native.Nat.{ℕ, zero, suc, _+_, _-_, _≤_}
 use mathlib.Core.Path.{_≡_, refl, sym, ap, _∙_, subst}
 use mathlib.Core.Bool.{Bool, true, false, cond, not, _&&_}
-use mathlib.Core.List.{List, [], _∷_, map}
+use mathlib.Core.List.{List, [], _∷_}
 use mathlib.Core.Option.{Option, none, some}
-use lib.ListN.{length, length-append, length-map, getD}
+use lib.ListN.{length, length-append}
 use lib.Dec.{leb}
 use native.Mathlib.Omega.{arith}
 use Rattle.codec.specs.Lists.{select}
 use Rattle.codec.specs.Sets.{participants, member, listed}
-use Rattle.site.specs.Step.{messages, prepare, Effect, force, send, Input, Row, given}
+use Rattle.site.specs.Step.{Effect, Input, Row, given}
 use Rattle.site.specs.Coordinator.{inTurn, ordered}
-use Rattle.site.specs.Numbers.{inputOf, appending, entryOf}
-use Rattle.site.specs.Answers.{fieldsBy, sending, closing, effectsIn}
-use Rattle.site.specs.declared.effects.Effects.{Effects}
+use Rattle.site.specs.Numbers.{inputOf}
 use Rattle.joint.specs.State.{Run, Transaction, withCoordinator, withParticipant}
 use Rattle.joint.specs.Plan.{settling, rowPlan, planned, orNothing, step}
 use Rattle.joint.specs.Run.{carryPlan, isAppend, count}
@@ -49,40 +47,6 @@ pub given-length : (b : Bool) (es : List Effect) → length (given b es) ≤ len
 unfolding given
 given-length true es = omega arith
 given-length false es = omega arith
-
-appending-length : (k : ℕ) (fs : List ℕ) → length (appending k fs) ≤ 1
-unfolding appending
-appending-length zero fs = omega arith
-appending-length (suc k) fs = omega arith
-
-entry-length : (n : ℕ) → length (entryOf n) ≤ 1
-unfolding entryOf
-entry-length zero = omega arith
-entry-length (suc zero) = omega arith
-entry-length (suc (suc zero)) = omega arith
-entry-length (suc (suc (suc n))) = omega arith
-
-closing-length : (k : ℕ) (es : List Effect) → length (closing k es) ≤ length es + 1
-unfolding closing
-closing-length zero es = omega arith
-closing-length (suc k) es = simp length-append (omega arith)
-
-sending-length : (kind first to : ℕ) → length (sending kind first to) ≤ 16
-unfolding sending
-sending-length kind first to =
-    let sends = map (send (getD messages kind prepare)) (ordered first to) in
-    let e : length sends ≡ length (ordered first to) = length-map (ordered first to) _ in
-    omega (arith, given-length (leb kind 6) sends, e, ordered-length first to)
-
-pub effects-length : (e : Effects) → length (effectsIn e) ≤ 20
-unfolding effectsIn
-effects-length e =
-    let all = sending (e .message) (e .owing) (e .to) in
-    let a = appending-length (e .appended) (fieldsBy (e .appended) (e .first) (e .second)) in
-    let f = given-length (e .forced) (force ∷ []) in
-    let n = entry-length (e .entered) in
-    let c = closing-length (e .last) all in
-    simp length-append (omega (arith, a, f, n, c, sending-length (e .message) (e .owing) (e .to)))
 
 -- ---- a step
 

@@ -4,7 +4,7 @@ use Rattle.site.specs.Answers.{effectsIn}
 use Rattle.joint.specs.State as plain
 use Rattle.joint.specs.Stand.{siteIn, transactionIn}
 use Rattle.joint.specs.Inside.{Doing, Counted, Fits, progressIn, progressed, moveIn, movedAs, endedAs}
-use Rattle.joint.proofs.stand.Moving.{counted-starts}
+use Rattle.joint.proofs.stand.Doing.{counted-starts}
 use Rattle.joint.proofs.power.moving.Statement.{statement}
 use Rattle.joint.proofs.power.moving.Tie as tie
 
