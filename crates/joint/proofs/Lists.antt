@@ -1,5 +1,5 @@
 -- Laws of lists: of each element, of those that are taken or selected, and of one that is found.
-use Prim.Native.Nat.{ℕ, zero, suc, _<_}
+use Prim.Native.Nat.{ℕ, zero, suc, _<_, _≤_}
 use mathlib.Core.Path.{_≡_, refl, ap}
 use mathlib.Core.Logic.{_⊎_, inl, inr, ⊎-elim}
 use mathlib.Core.Bool.{Bool, true, false, cond, _||_, or-assoc}
@@ -76,6 +76,15 @@ map-take {B} f (suc n) (x ∷ xs) = ap (λ (l : List B). f x ∷ l) (map-take f 
 cond-append {ℓ} : {A : Type ℓ} (b : Bool) (x : A) (xs ys zs : List A) → zs ≡ xs ++ ys → cond b (x ∷ zs) zs ≡ cond b (x ∷ xs) xs ++ ys
 cond-append true x xs ys zs e = rw e
 cond-append false x xs ys zs e = e
+
+pub select-length : {A : Type 0} (f : A → Bool) (l : List A) → length (select f l) ≤ length l
+unfolding select
+select-length f [] = omega arith
+select-length f (x ∷ l) = by (f x) (select-length f l)
+  where
+    by : (b : Bool) → length (select f l) ≤ length l → length (cond b (x ∷ select f l) (select f l)) ≤ suc (length l)
+    by true h = omega (arith, h)
+    by false h = omega (arith, h)
 
 pub select-append {ℓ} : {A : Type ℓ} (f : A → Bool) (xs ys : List A) → select f (xs ++ ys) ≡ select f xs ++ select f ys
 unfolding select

@@ -1,7 +1,7 @@
 -- Effects as long as power lasts: in parts, one by one, and that they stay in range.
 use Prim.Native.Nat.{ℕ, zero, suc, _+_, _-_, _≤_}
 use mathlib.Core.Path.{_≡_, refl, sym, ap, _∙_}
-use mathlib.Core.Bool.{Bool, true, false, cond, _||_}
+use mathlib.Core.Bool.{Bool, true, false, _||_}
 use mathlib.Core.List.{List, [], _∷_, _++_}
 use lib.ListN.{length, take, length-append, length-take}
 use lib.Seq.{take-nil, take-all}
@@ -15,7 +15,7 @@ use Rattle.site.specs.Step.{Effect, append, force, enter, send}
 use Rattle.joint.specs.State.{Site, Transaction, appended, forced}
 use Rattle.joint.specs.Run.{isAppend, isForce, isSend}
 use Rattle.joint.specs.Inside.{siteAfter, transactionAfter, counted, Doing, starting, progressed, Counted, size, Fits}
-use Rattle.joint.proofs.Lists.{select-append, among, select-take}
+use Rattle.joint.proofs.Lists.{select-length, select-append, among, select-take}
 
 -- ---- effects in two parts
 
@@ -103,18 +103,10 @@ module _ (s t : ℕ) (d : Doing) where
 
 -- ---- no count passes a byte
 
-counted-most : (f : Effect → Bool) (es : List Effect) → counted f es ≤ length es
-unfolding counted select
-counted-most f [] = omega arith
-counted-most f (e ∷ es) = by (f e) (counted-most f es)
-  where
-    by : (b : Bool) → length (select f es) ≤ length es → length (cond b (e ∷ select f es) (select f es)) ≤ suc (length es)
-    by true h = omega arith
-    by false h = omega arith
-
 -- as many are counted as can still happen, or fewer
 counted-within : (f : Effect → Bool) (n k : ℕ) (es : List Effect) → k + n ≤ 255 → k + counted f (take n es) + (n - length es) ≤ 255
-counted-within f n k es h = omega (arith, counted-most f (take n es), length-take n es)
+unfolding counted
+counted-within f n k es h = omega (arith, select-length f (take n es), length-take n es)
 
 pub counted-starts : (a : Site) (x : Transaction) (n : ℕ) → n ≤ 255 → Counted (starting a x n)
 counted-starts a x n h = record { records = omega (arith, h); forces = omega (arith, h); sends = omega (arith, h) }

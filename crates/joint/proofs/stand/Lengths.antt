@@ -2,20 +2,39 @@
 use Prim.Native.Nat.{ℕ, zero, suc, _≤_}
 use mathlib.Core.Path.{_≡_}
 use mathlib.Core.Bool.{Bool, true, false, not, _&&_}
-use mathlib.Core.List.{[], _∷_, map}
+use mathlib.Core.List.{List, [], _∷_, map}
 use mathlib.Core.Option.{Option, none, some}
 use lib.ListN.{length, length-append, length-map}
 use native.Mathlib.Omega.{arith}
-use Rattle.codec.specs.Sets.{empty, listed, without, both}
+use Rattle.codec.specs.Sets.{participants, member, empty, listed, without, both}
 use Rattle.site.specs.Presumption.{Outcome, commit, abort, Presumption, sameOutcome, acks}
-use Rattle.site.specs.Step.{prepare, voteYes, voteNo, tell, ack, Input, begin, timer, received, append, force, send, Row}
+use Rattle.site.specs.Step.{prepare, voteYes, voteNo, tell, ack, Input, begin, timer, received, Effect, append, force, send, given, Row}
 use Rattle.site.specs.Cohort.{Cohort, masksOf, owing}
-use Rattle.site.specs.Coordinator.{Coordinator, initial, collecting, awaitingAcks, inTurn, telling, preparing, onBegin, committing, voted, onYes, aborting, onNo, coordinatorTimer, acked, ackedIf, onAck, coordinatorStep}
+use Rattle.site.specs.Coordinator.{Coordinator, initial, collecting, awaitingAcks, inTurn, ordered, inOrder, tellAll, telling, preparing, onBegin, committing, voted, onYes, aborting, onNo, coordinatorTimer, acked, ackedIf, onAck, coordinatorStep}
 use Rattle.site.specs.Participant.{Participant, working, prepared, decided, voting, promising, onPrepare, acking, finish, acknowledging, ackingIf, onTell, participantTimer, participantStep}
 use Rattle.joint.specs.State.{Transaction, withCoordinator, withParticipant}
 use Rattle.joint.specs.Inside.{moved, stepMove}
-use Rattle.joint.proofs.stand.Steps.{listed-length, given-length}
-use Rattle.joint.proofs.stand.Resumed.{tell-length}
+use Rattle.joint.proofs.Lists.{select-length}
+
+pub listed-length : (m : ℕ) → length (listed m) ≤ 8
+unfolding listed participants
+listed-length m = select-length (λ p. member p m) participants
+
+pub ordered-length : (first to : ℕ) → length (ordered first to) ≤ 16
+unfolding ordered inTurn
+ordered-length first to =
+    let a = select-length (λ p. member p first) (listed to) in
+    let b = select-length (λ p. not (member p first)) (listed to) in
+    simp length-append (omega (arith, a, b, listed-length to))
+
+pub given-length : (b : Bool) (es : List Effect) → length (given b es) ≤ length es
+unfolding given
+given-length true es = omega arith
+given-length false es = omega arith
+
+pub tell-length : (g : Cohort) (o : Outcome) (to : ℕ) → length (tellAll g o to) ≤ 16
+unfolding tellAll inOrder
+tell-length g o to = simp length-map (ordered-length (owing g o) to)
 
 abbrev Short : {P : Type 0} → Option (Row P) → Type 0
 Short none = Unit {0}

@@ -4,34 +4,30 @@ use native.Mathlib.Numerals.{add-one}
 use mathlib.Core.Path.{_≡_, refl, sym, ap, _∙_, subst}
 use mathlib.Core.Bool.{Bool, true, false, cond, not}
 use mathlib.Core.List.{List, [], _∷_, _++_, append-nil}
-use lib.ListN.{length, take, getD, length-append, length-map}
+use lib.ListN.{length, take, getD, length-append}
 use lib.Seq.{take-suc}
 use lib.Dec.{eqb, eqb→eq}
 use native.Mathlib.Omega.{arith}
 use Rattle.codec.specs.Lists.{select}
 use Rattle.codec.specs.Sets.{empty}
 use Rattle.codec.specs.laws.Tests.{below-at}
-use Rattle.site.specs.Presumption.{Outcome, commit, abort, Presumption}
+use Rattle.site.specs.Presumption.{commit, abort, Presumption}
 use Rattle.site.specs.Cohort.{Cohort, owing}
-use Rattle.site.specs.Coordinator.{inOrder, tellAll, restartFrom, coordinatorRestart}
+use Rattle.site.specs.Coordinator.{tellAll, restartFrom, coordinatorRestart}
 use Rattle.site.specs.Participant.{voting, restartWith, participantRestart}
 use Rattle.joint.specs.State.{Run, Site, Act, opened, atSite, started, stopped, down, performAll}
 use Rattle.joint.specs.Plan.{rowPlan, restarting, joined, restartAll, transactions}
 use Rattle.joint.specs.Run.{partly, carry, isAppend, isForce, isSend, count}
 use Rattle.joint.specs.Stand.{told}
 use Rattle.joint.specs.Inside.{Again, restarted, ended, cutFrom}
-use Rattle.joint.proofs.Lists.{select-append}
+use Rattle.joint.proofs.Lists.{select-length, select-append}
 use Rattle.joint.proofs.Updates.{update-same}
 use Rattle.joint.proofs.stand.Placed.{update-twice, run-path, acting-length}
 use Rattle.joint.proofs.stand.Carried.{tally, ended-told}
-use Rattle.joint.proofs.stand.Steps.{select-length, ordered-length, given-length}
+use Rattle.joint.proofs.stand.Lengths.{given-length, tell-length}
 use Rattle.joint.proofs.stand.Restarted.{actsOf, settled, acts-of, settled-of, settled-down, settled-site, upTo}
 
 -- ---- few effects
-
-pub tell-length : (g : Cohort) (o : Outcome) (to : ℕ) → length (tellAll g o to) ≤ 16
-unfolding tellAll inOrder
-tell-length g o to = simp length-map (ordered-length (owing g o) to)
 
 from-length : (g : Cohort) (c i : Bool) → length (restartFrom g c i .effects) ≤ 17
 unfolding restartFrom

@@ -28,7 +28,7 @@ use Rattle.joint.proofs.stand.Placed.{update-own, update-twice, run-pat
 use Rattle.joint.proofs.stand.Sites.{log-counted}
 use Rattle.joint.proofs.stand.Recordless.{restart-none}
 use Rattle.joint.proofs.stand.Carried.{tally}
-use Rattle.joint.proofs.stand.Steps.{select-length}
+use Rattle.joint.proofs.Lists.{select-length}
 use Rattle.joint.proofs.stand.Restarted.{actsOf, upTo, kindsOf, cohort-kept, one-more}
 use Rattle.joint.proofs.stand.Resumed.{opened-next, closed-next, restarted-all}
 

@@ -2,15 +2,12 @@
 use Prim.Native.Nat.{ℕ, zero, suc, _+_, _-_, _≤_}
 use mathlib.Core.Path.{_≡_, refl, sym, ap, _∙_, subst}
 use mathlib.Core.Bool.{Bool, true, false, cond, not, _&&_}
-use mathlib.Core.List.{List, [], _∷_}
 use mathlib.Core.Option.{Option, none, some}
-use lib.ListN.{length, length-append}
+use lib.ListN.{length}
 use lib.Dec.{leb}
 use native.Mathlib.Omega.{arith}
 use Rattle.codec.specs.Lists.{select}
-use Rattle.codec.specs.Sets.{participants, member, listed}
-use Rattle.site.specs.Step.{Effect, Input, Row, given}
-use Rattle.site.specs.Coordinator.{inTurn, ordered}
+use Rattle.site.specs.Step.{Input, Row}
 use Rattle.site.specs.Numbers.{inputOf}
 use Rattle.joint.specs.State.{Run, Transaction, withCoordinator, withParticipant}
 use Rattle.joint.specs.Plan.{settling, rowPlan, planned, orNothing, step}
@@ -20,33 +17,6 @@ use Rattle.joint.specs.Inside.{counted, size, Fits, Moved, moved, MayRec
 use Rattle.joint.proofs.Booleans.{clash}
 use Rattle.joint.proofs.stand.Placed.{acting-counted, coordinator-phase, participant-phase}
 use Rattle.joint.proofs.stand.Carried.{asked-told, message-told}
-
--- ---- a row has few effects
-
-pub select-length : {A : Type 0} (f : A → Bool) (l : List A) → length (select f l) ≤ length l
-unfolding select
-select-length f [] = omega arith
-select-length f (x ∷ l) = go (f x) (select-length f l)
-  where
-    go : (b : Bool) → length (select f l) ≤ length l → length (cond b (x ∷ select f l) (select f l)) ≤ suc (length l)
-    go true h = omega (arith, h)
-    go false h = omega (arith, h)
-
-pub listed-length : (m : ℕ) → length (listed m) ≤ 8
-unfolding listed participants
-listed-length m = select-length (λ p. member p m) participants
-
-pub ordered-length : (first to : ℕ) → length (ordered first to) ≤ 16
-unfolding ordered inTurn
-ordered-length first to =
-    let a = select-length (λ p. member p first) (listed to) in
-    let b = select-length (λ p. not (member p first)) (listed to) in
-    simp length-append (omega (arith, a, b, listed-length to))
-
-pub given-length : (b : Bool) (es : List Effect) → length (given b es) ≤ length es
-unfolding given
-given-length true es = omega arith
-given-length false es = omega arith
 
 -- ---- a step
 
