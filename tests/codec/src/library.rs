@@ -1,52 +1,13 @@
 //! The two functions of libcodec.a, each call compared with the reference model's codec.
 
 use crate::codec::{read_image, write_image, Message};
-use std::ffi::c_void;
+use crate::fenced::{stops, Fenced};
 use std::sync::atomic::{AtomicUsize, Ordering::Relaxed};
 
 #[link(name = "codec", kind = "static")]
 extern "C" {
     fn dpr_message_parts(number: u16, parts: *mut u8) -> u8;
     fn dpr_image_copy(image: *const u8, image_len: usize, buffer: *mut u8, buffer_len: usize, offset: usize) -> u8;
-}
-
-// Linux's, from the C library that every program here is linked with
-extern "C" {
-    fn mmap(at: *mut c_void, length: usize, access: i32, flags: i32, file: i32, offset: i64) -> *mut c_void;
-    fn mprotect(at: *mut c_void, length: usize, access: i32) -> i32;
-    fn signal(number: i32, handler: extern "C" fn(i32)) -> usize;
-}
-const NO_ACCESS: i32 = 0;
-const READ_AND_WRITE: i32 = 3;
-const PRIVATE_ANONYMOUS: i32 = 0x22;
-const SIGSEGV: i32 = 11;
-
-const PAGE: usize = 4096;
-const SPACE: usize = 32 * PAGE;
-
-/// Memory between two pages without access: reading one byte beside an image stops the program.
-struct Fenced(*mut u8);
-
-impl Fenced {
-    fn new() -> Fenced {
-        unsafe {
-            let all = mmap(std::ptr::null_mut(), SPACE + 2 * PAGE, NO_ACCESS, PRIVATE_ANONYMOUS, -1, 0) as *mut u8;
-            assert!(all as isize != -1, "no memory");
-            let inner = all.add(PAGE);
-            assert_eq!(mprotect(inner as *mut c_void, SPACE, READ_AND_WRITE), 0);
-            Fenced(inner)
-        }
-    }
-
-    /// The bytes, with the fence right behind them, or right before them.
-    fn place(&mut self, bytes: &[u8], before: bool) -> *const u8 {
-        assert!(bytes.len() <= SPACE);
-        unsafe {
-            let at = if before { self.0 } else { self.0.add(SPACE - bytes.len()) };
-            std::ptr::copy_nonoverlapping(bytes.as_ptr(), at, bytes.len());
-            at
-        }
-    }
 }
 
 /// The call under way: image, its length, length of the buffer, offset; or 0, 0, 0 and a message number.
@@ -128,7 +89,7 @@ pub struct Trial {
 
 impl Trial {
     pub fn new() -> Trial {
-        unsafe { signal(SIGSEGV, outside) };
+        stops(outside);
         let mut random = crate::random::Random(1);
         Trial {
             part: "",
@@ -167,7 +128,7 @@ impl Trial {
     pub fn copy(&mut self, image: &[u8], reading: &Reading, buffer_len: usize, offset: usize) {
         assert!(buffer_len <= MOST);
         self.fill();
-        let at = self.image.place(image, self.cases % 2 == 0);
+        let at = self.image.put(image, self.cases % 2 == 0);
         calling([at as usize, image.len(), buffer_len, offset]);
         let got = unsafe { dpr_image_copy(at, image.len(), self.got.as_mut_ptr().add(GUARD), buffer_len, offset) };
         let buffer = &mut self.expected[GUARD..GUARD + buffer_len];

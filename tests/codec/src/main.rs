@@ -5,6 +5,9 @@
 #[allow(dead_code)]
 #[path = "../../reference/src/codec.rs"]
 mod codec;
+#[allow(dead_code)]
+#[path = "../../fenced.rs"]
+mod fenced;
 mod images;
 mod library;
 mod random;

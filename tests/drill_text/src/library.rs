@@ -1,7 +1,7 @@
 //! The function of libdrill_text.a, each call compared with the drill of the reference model.
 
+use crate::fenced::{stops, Fenced, READ, READ_AND_WRITE, SPACE};
 use reference::drill::{drill, drill_events};
-use std::ffi::c_void;
 use std::ops::Range;
 use std::sync::atomic::{AtomicUsize, Ordering::Relaxed};
 use std::time::Instant;
@@ -9,54 +9,6 @@ use std::time::Instant;
 #[link(name = "drill_text", kind = "static")]
 extern "C" {
     fn dpr_drill(events: *const u8, len: usize, text: *mut u8, text_len: usize) -> usize;
-}
-
-// Linux's, from the C library that every program here is linked with
-extern "C" {
-    fn mmap(at: *mut c_void, length: usize, access: i32, flags: i32, file: i32, offset: i64) -> *mut c_void;
-    fn mprotect(at: *mut c_void, length: usize, access: i32) -> i32;
-    fn signal(number: i32, handler: extern "C" fn(i32)) -> usize;
-}
-const NO_ACCESS: i32 = 0;
-const READ: i32 = 1;
-const READ_AND_WRITE: i32 = 3;
-const PRIVATE_ANONYMOUS: i32 = 0x22;
-/// SIGILL, SIGTRAP, SIGABRT, SIGBUS, SIGFPE, SIGSEGV.
-const STOPS: [i32; 6] = [4, 5, 6, 7, 8, 11];
-
-const PAGE: usize = 4096;
-pub const SPACE: usize = 64 * PAGE;
-
-/// Memory between two pages without access: a byte read or written beside it stops the program.
-struct Fenced(*mut u8);
-
-impl Fenced {
-    fn new() -> Fenced {
-        unsafe {
-            let all = mmap(std::ptr::null_mut(), SPACE + 2 * PAGE, NO_ACCESS, PRIVATE_ANONYMOUS, -1, 0) as *mut u8;
-            assert!(all as isize != -1, "no memory");
-            let fenced = Fenced(all.add(PAGE));
-            fenced.allow(READ_AND_WRITE);
-            fenced
-        }
-    }
-
-    fn allow(&self, access: i32) {
-        assert_eq!(unsafe { mprotect(self.0 as *mut c_void, SPACE, access) }, 0);
-    }
-
-    fn bytes(&mut self) -> &mut [u8] {
-        unsafe { std::slice::from_raw_parts_mut(self.0, SPACE) }
-    }
-
-    /// Where so many bytes lie: right behind the first fence, or right before the second.
-    fn place(length: usize, first: bool) -> Range<usize> {
-        if first {
-            0..length
-        } else {
-            SPACE - length..SPACE
-        }
-    }
 }
 
 /// The call under way: events, their length, length of the text's buffer.
@@ -98,9 +50,7 @@ pub struct Library {
 
 impl Library {
     pub fn new() -> Library {
-        STOPS.iter().for_each(|&number| unsafe {
-            signal(number, stopped);
-        });
+        stops(stopped);
         let mut random = reference::random::Rng::new(1);
         let noise = (0..SPACE).map(|_| random.byte()).collect();
         Library { events: Fenced::new(), text: Fenced::new(), noise, calls: 0 }
@@ -110,13 +60,12 @@ impl Library {
     /// Ends the program where a byte beside the buffer was written. The events cannot be written.
     fn call(&mut self, input: &[u8], room: usize) -> (usize, Range<usize>) {
         self.calls += 1;
-        let from = Fenced::place(input.len(), self.calls % 2 == 0);
         let to = Fenced::place(room, self.calls % 3 == 0);
         self.events.allow(READ_AND_WRITE);
-        self.events.bytes()[from.clone()].copy_from_slice(input);
+        let events = self.events.put(input, self.calls % 2 == 0);
         self.events.allow(READ);
         self.text.bytes().copy_from_slice(&self.noise);
-        let (events, text) = unsafe { (self.events.0.add(from.start), self.text.0.add(to.start)) };
+        let text = self.text.bytes()[to.clone()].as_mut_ptr();
         CALL.iter().zip([events as usize, input.len(), room]).for_each(|(field, value)| field.store(value, Relaxed));
         let got = unsafe { dpr_drill(events, input.len(), text, room) };
         CALL[0].store(0, Relaxed);

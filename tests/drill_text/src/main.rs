@@ -4,12 +4,15 @@
 
 mod coverage;
 mod directed;
+#[path = "../../fenced.rs"]
+mod fenced;
 mod library;
 mod lists;
 
 use coverage::Coverage;
 use directed::{full_logs, late_votes, long_restarts, many_unforced};
-use library::{fail, text_of, Library, SPACE};
+use fenced::SPACE;
+use library::{fail, text_of, Library};
 use lists::{list, Style, STYLES};
 use reference::drill::{drill, watched_drill};
 use reference::monitor;
