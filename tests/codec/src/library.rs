@@ -19,9 +19,9 @@ fn calling(arguments: [usize; 4]) {
     }
 }
 
-extern "C" fn outside(_: i32) {
+extern "C" fn stopped(number: i32) {
     let [at, length, buffer_len, last] = [0, 1, 2, 3].map(|i| CALL[i].load(Relaxed));
-    eprintln!("FAILED: the call reads or writes outside the memory that it was given");
+    eprintln!("FAILED: the call ends the program (signal {number})");
     if at == 0 {
         eprintln!("{}", number_given(last));
     } else {
@@ -89,7 +89,7 @@ pub struct Trial {
 
 impl Trial {
     pub fn new() -> Trial {
-        stops(outside);
+        stops(stopped);
         let mut random = crate::random::Random(1);
         Trial {
             part: "",
