@@ -31,7 +31,7 @@ extern "C" fn lean_drill(events: *const u8, len: usize, text: *mut u8, text_len:
 
 const EVENTS: usize = 10_000;
 const LISTS: usize = 4;
-/// Room for every text.
+/// Room for every text, as include/dpr.h names it and the drill program lends it. With less the lines are measured first.
 const ROOM: usize = 220_168;
 const MIXES: [&str; 4] = ["protocol", "crashes", "wild", "steady"];
 
