@@ -193,7 +193,7 @@ pub(crate) fn change(site: Site, before: Transaction, up: bool, asked: Asked) ->
 
 impl Run {
     // Whether the coordinator and the members are up.
-    pub fn all_up(self, members: u8) -> bool
+    pub(crate) fn all_up(self, members: u8) -> bool
         ensures { λ r. ⌜ r ≡ not (any (isDown (runIn self)) (0 ∷ listed members)) ⌝ }
     {
         if !self.up(0) {
