@@ -9,7 +9,7 @@ use lib.Dec.{eqb}
 use lib.ListN.{length, getD, set, replicate, getD-replicate, length-set}
 use lib.Seq.{getD-set-same, getD-set-other}
 use Rattle.codec.specs.Lists.{select, any, same}
-use Rattle.codec.specs.Records.{LogRecord, sequences, ofTransaction, inSequence}
+use Rattle.codec.specs.Records.{LogRecord, recordKindAt, sequences, ofTransaction, inSequence}
 use Rattle.codec.specs.Answers.{recordIn, noRecord}
 use Rattle.codec.specs.Inside.{mayFollow}
 use Rattle.codec.specs.declared.record.Record.{Record}
@@ -18,14 +18,14 @@ use Rattle.codec.proofs.Sequence.{kinds, legal, lastOr, none, by-newest
 abbrev own : ℕ → List LogRecord → List LogRecord
 own t log = select (ofTransaction t) log
 
-pub record Kept (newest : List Record) (done : List LogRecord) : Type 0 where
+pub record Kept (s : ℕ) (newest : List Record) (done : List LogRecord) : Type 0 where
   pub size : length newest ≡ 8
   pub holds : (t : ℕ) → t < 8 → recordIn (getD newest t noRecord) ≡ lastOr none (own t done)
-  pub ordered : (t : ℕ) → legal (kinds (own t done)) ≡ true
+  pub ordered : (t : ℕ) → legal s (kinds (own t done)) ≡ true
 
-pub kept-none : Kept (replicate 8 noRecord) []
+pub kept-none : (s : ℕ) → Kept s (replicate 8 noRecord) []
 unfolding select any same sequences
-kept-none = record { size = refl; holds = λ t h. ap recordIn (getD-replicate 8 t noRecord noRecord h); ordered = λ t. refl }
+kept-none s = record { size = refl; holds = λ t h. ap recordIn (getD-replicate 8 t noRecord noRecord h); ordered = λ t. refl }
 
 -- ---- one record more
 
@@ -47,11 +47,11 @@ module _ (x : LogRecord) where
   kinds-snoc [] = refl
   kinds-snoc (y ∷ l) = ap (y .kind ∷_) (kinds-snoc l)
 
-module _ (newest : List Record) (done : List LogRecord) (kept : Kept newest done) (x : Record) (low : x .transaction < 8) where
-  pub in-sequence : x .kind ≤ 7 → inSequence done (recordIn x) ≡ mayFollow (recordIn (getD newest (x .transaction) noRecord)) (recordIn x)
+module _ (s : ℕ) (newest : List Record) (done : List LogRecord) (kept : Kept s newest done) (x : Record) (low : x .transaction < 8) where
+  pub in-sequence : recordKindAt s (x .kind) ≡ true → inSequence s done (recordIn x) ≡ mayFollow (recordIn (getD newest (x .transaction) noRecord)) (recordIn x)
   unfolding inSequence recordIn
   in-sequence h =
-      by-newest (recordIn x) h (own (x .transaction) done) (kept .ordered (x .transaction))
+      by-newest s (recordIn x) h (own (x .transaction) done) (kept .ordered (x .transaction))
       ∙ ap (λ (y : LogRecord). mayFollow y (recordIn x)) (sym (kept .holds (x .transaction) low))
 
   more : (t : ℕ) → own t (done ++ (recordIn x ∷ [])) ≡ own t done ++ cond (eqb (x .transaction) t) (recordIn x ∷ []) []
@@ -64,17 +64,17 @@ module _ (newest : List Record) (done : List LogRecord) (kept : Kept newest done
   more-other : (t : ℕ) → (x .transaction ≡ t → ⊥) → own t (done ++ (recordIn x ∷ [])) ≡ own t done
   more-other t n = more t ∙ rw (ne-eqb (x .transaction) t n, append-nil)
 
-  module _ (follows : inSequence done (recordIn x) ≡ true) where
+  module _ (follows : inSequence s done (recordIn x) ≡ true) where
     holds-own : recordIn (getD (set newest (x .transaction) x) (x .transaction) noRecord) ≡ lastOr none (own (x .transaction) (done ++ (recordIn x ∷ [])))
     holds-own = rw (getD-set-same newest (x .transaction) x noRecord (omega (arith, kept .size)), more-own, last-snoc)
 
-    ordered-own : legal (kinds (own (x .transaction) (done ++ (recordIn x ∷ [])))) ≡ true
+    ordered-own : legal s (kinds (own (x .transaction) (done ++ (recordIn x ∷ [])))) ≡ true
     unfolding inSequence any recordIn
     ordered-own =
-        rw (more-own, kinds-snoc (recordIn x), and-eq-true-iff (any (same (kinds (own (x .transaction) done) ++ (x .kind ∷ []))) sequences) _ .0 follows .0)
+        rw (more-own, kinds-snoc (recordIn x), and-eq-true-iff (any (same (kinds (own (x .transaction) done) ++ (x .kind ∷ []))) (sequences s)) _ .0 follows .0)
         (or-true (same (kinds (own (x .transaction) done) ++ (x .kind ∷ [])) []))
 
-    pub kept-next : Kept (set newest (x .transaction) x) (done ++ (recordIn x ∷ []))
+    pub kept-next : Kept s (set newest (x .transaction) x) (done ++ (recordIn x ∷ []))
     kept-next = record {
       size = rw length-set (kept .size);
       holds = λ t h. holds-at t h (eqb (x .transaction) t) refl;
@@ -87,6 +87,6 @@ module _ (newest : List Record) (done : List LogRecord) (kept : Kept newest done
         holds-at t h false e =
             rw (getD-set-other newest (x .transaction) t x noRecord (λ p. eqb-false (x .transaction) t e (sym p)), more-other t (eqb-false (x .transaction) t e)) (kept .holds t h)
 
-        ordered-at : (t : ℕ) (b : Bool) → eqb (x .transaction) t ≡ b → legal (kinds (own t (done ++ (recordIn x ∷ [])))) ≡ true
+        ordered-at : (t : ℕ) (b : Bool) → eqb (x .transaction) t ≡ b → legal s (kinds (own t (done ++ (recordIn x ∷ [])))) ≡ true
         ordered-at t true e = rw (← eqb-true (x .transaction) t e) ordered-own
         ordered-at t false e = rw (more-other t (eqb-false (x .transaction) t e)) (kept .ordered t)

@@ -20,18 +20,16 @@ use Rattle.codec.specs.declared.record.RecordAnswer.the-variants.{Accept
 use denote.Enum.Declared.{tagOf}
 use types.Run.{OneOf}
 use Rattle.codec.proofs.record.RecordAnswer.{the-type}
-use Rattle.codec.specs.laws.Tests.{lt-or-le}
-use Rattle.codec.specs.laws.Fields.{no-kind-high}
 use Rattle.codec.proofs.Kept.{Kept, kept-none, kept-next, in-sequence}
 
 -- the first i records have passed, and the newest of each transaction is kept
 pub record Passed (s : ℕ) (records : List (List ℕ)) (newest : List Record) (i : ℕ) : Type 0 where
   pub upto : i ≤ length records
-  pub kept : Kept newest (take i (map recordOf records))
+  pub kept : Kept s newest (take i (map recordOf records))
   pub left : first (recordRefusals s [] records) ≡ first (recordRefusals s (take i (map recordOf records)) (drop i records))
 
 pub passed-none : (s : ℕ) (records : List (List ℕ)) → Passed s records (replicate 8 noRecord) 0
-passed-none s records = record { upto = omega arith; kept = kept-none; left = refl }
+passed-none s records = record { upto = omega arith; kept = kept-none s; left = refl }
 
 pub passed-all : (s : ℕ) (records : List (List ℕ)) (newest : List Record) (i : ℕ) → length records ≤ i → Passed s records newest i
     → first (recordRefusals s [] records) ≡ 0
@@ -41,7 +39,7 @@ passed-all s records newest i h p = rw (p .left, drop-of-length-le records {i = 
 -- ---- one record
 
 -- a record of a site has a transaction and a kind in range
-in-range : (s : ℕ) (bytes : List ℕ) → isRecord s bytes ≡ true → (recordOf bytes .transaction < 8) × (recordOf bytes .kind ≤ 7)
+in-range : (s : ℕ) (bytes : List ℕ) → isRecord s bytes ≡ true → (recordOf bytes .transaction < 8) × (recordKindAt s (recordOf bytes .kind) ≡ true)
 unfolding isRecord every
 in-range s bytes e =
     let x = recordOf bytes in
@@ -49,7 +47,7 @@ in-range s bytes e =
     let size = and-eq-true-iff (eqb (length bytes) _) _ .0 (kind .1) in
     let transaction = and-eq-true-iff (leb (x .transaction) 7) _ .0 (size .1) in (
       omega (arith, leb-true (x .transaction) 7 (transaction .0)),
-      ⊎-elim (λ h. absurd (false≢true (sym (no-kind-high s (x .kind) h) ∙ kind .0))) (λ h. h) (lt-or-le 7 (x .kind)),
+      kind .0,
     )
 
 -- an answer with another tag than the first was not accepted
@@ -80,16 +78,16 @@ module _ (s : ℕ) (records : List (List ℕ)) (newest : List Record) (i : ℕ) 
     unfolding recordIn
     transaction-low e = rw (ap (λ (y : LogRecord). y .transaction) (read e)) (in-range s here e .0)
 
-    kind-low : isRecord s here ≡ true → x .kind ≤ 7
+    kind-here : isRecord s here ≡ true → recordKindAt s (x .kind) ≡ true
     unfolding recordIn
-    kind-low e = rw (ap (λ (y : LogRecord). y .kind) (read e)) (in-range s here e .1)
+    kind-here e = rw (ap (λ (y : LogRecord). y .kind) (read e)) (in-range s here e .1)
 
-    rule : isRecord s here ≡ true → inSequence done (recordOf here) ≡ follows
-    rule e = rw (← read e) (in-sequence newest done (p .kept) x (transaction-low e) (kind-low e))
+    rule : isRecord s here ≡ true → inSequence s done (recordOf here) ≡ follows
+    rule e = rw (← read e) (in-sequence s newest done (p .kept) x (transaction-low e) (kind-here e))
 
     -- the tests on this record decide, and the others follow
     split : first (recordRefusals s [] records)
-        ≡ cond (not (isRecord s here)) 23 (cond (not (inSequence done (recordOf here))) 24 (first (recordRefusals s (done ++ (recordOf here ∷ [])) (drop (suc i) records))))
+        ≡ cond (not (isRecord s here)) 23 (cond (not (inSequence s done (recordOf here))) 24 (first (recordRefusals s (done ++ (recordOf here ∷ [])) (drop (suc i) records))))
     unfolding recordRefusals recordTests first
     split = p .left ∙ rw (drop-cons records i [] more)
 
@@ -104,7 +102,7 @@ module _ (s : ℕ) (records : List (List ℕ)) (newest : List Record) (i : ℕ) 
         behind true rest n = absurd (n refl)
 
         by : (b : Bool) → isRecord s here ≡ b → (recordNumber (answerTo b follows x) ≡ 0 → ⊥)
-            → cond (not b) 23 (cond (not (inSequence done (recordOf here))) 24 (first (recordRefusals s (done ++ (recordOf here ∷ [])) (drop (suc i) records))))
+            → cond (not b) 23 (cond (not (inSequence s done (recordOf here))) 24 (first (recordRefusals s (done ++ (recordOf here ∷ [])) (drop (suc i) records))))
             ≡ recordNumber (answerTo b follows x)
         by false e n = refl
         by true e n = rw (rule e) (behind follows _ n)
@@ -116,10 +114,10 @@ module _ (s : ℕ) (records : List (List ℕ)) (newest : List Record) (i : ℕ) 
 
     next-x : isRecord s here ≡ true → follows ≡ true → Passed s records (set newest (x .transaction) x) (i + 1)
     next-x e f =
-        let seq : inSequence done (recordOf here) ≡ true = rule e ∙ f in
+        let seq : inSequence s done (recordOf here) ≡ true = rule e ∙ f in
         record {
           upto = omega arith;
-          kept = rw (done-next, ← read e) (kept-next newest done (p .kept) x (transaction-low e) (rw (← read e) at seq));
+          kept = rw (done-next, ← read e) (kept-next s newest done (p .kept) x (transaction-low e) (rw (← read e) at seq));
           left = split ∙ rw (e, seq, done-next, add-one);
         }
 

@@ -2,15 +2,16 @@
 use mathlib.Core.Path.{_≡_, refl, sym, subst}
 use mathlib.Core.Bool.{Bool, true, false, not, _&&_, _||_, and-true}
 use mathlib.Core.List.{List, [], _∷_, _++_, map}
-use Prim.Native.Nat.{ℕ, _/_, _%_, _^_, _≤_}
+use Prim.Native.Nat.{ℕ, zero, suc, _/_, _%_, _^_, _≤_}
 use native.Mathlib.Omega.{arith}
 use borrow.Author.Tests.{le-leb}
 use lib.Dec.{T, eqb, leb, leb→le}
 use lib.ListN.{getD}
 use Rattle.codec.specs.Lists.{any, all, every, same}
-use Rattle.codec.specs.Records.{LogRecord, sequences, agrees}
+use Rattle.codec.specs.Records.{LogRecord, recordKindAt, sequences, agrees}
 use Rattle.codec.specs.Answers.{recordIn, noRecord}
 use Rattle.codec.specs.Inside.{nextKinds, mayFollow}
+use Rattle.codec.specs.laws.Fields.{kind-low}
 use Rattle.codec.specs.laws.Tests.{alike, alike-eq, below, below-at, and-left, and-right, of-true, same-list}
 
 -- ---- kinds
@@ -18,8 +19,8 @@ use Rattle.codec.specs.laws.Tests.{alike, alike-eq, below, below-at, and
 abbrev pub kinds : List LogRecord → List ℕ
 kinds = map (λ x. x .kind)
 
-abbrev pub legal : List ℕ → Bool
-legal ks = any (same ks) ([] ∷ sequences)
+abbrev pub legal : ℕ → List ℕ → Bool
+legal s ks = any (same ks) ([] ∷ sequences s)
 
 -- what holds of each of some lists holds of one that is among them
 among : (f : List ℕ → Bool) (qs : List (List ℕ)) (ks : List ℕ) → T (all f qs) → any (same ks) qs ≡ true → T (f ks)
@@ -50,18 +51,19 @@ next j k = eqb (getD nextKinds j 0 / 2 ^ k % 2) 1
 abbrev unbound : ℕ → ℕ → Bool
 unbound j k = not (eqb j 1 && eqb k 2) && not (eqb j 2 && eqb k 3)
 
--- kind k behind some kinds: it makes a sequence just if the table has it behind the last of them, and then only that one asks
-abbrev byLast : List ℕ → ℕ → Bool
-byLast ks k =
-    alike (any (same (ks ++ (k ∷ []))) sequences) (next (lastOr 0 ks) k)
+-- a site's kind k behind some kinds: it makes a sequence just if the table has it behind the last of them, and then only that one asks
+abbrev byLast : ℕ → List ℕ → ℕ → Bool
+byLast s ks k =
+    alike (any (same (ks ++ (k ∷ []))) (sequences s)) (next (lastOr 0 ks) k)
     && (not (next (lastOr 0 ks) k) || all (λ j. unbound j k) (front (0 ∷ ks)))
 
-abbrev known : List ℕ → Bool
-known ks = leb (lastOr 0 ks) 7 && below 8 (byLast ks)
+abbrev known : ℕ → List ℕ → Bool
+known s ks = leb (lastOr 0 ks) 7 && below 8 (λ k. not (recordKindAt s k) || byLast s ks k)
 
-sequences-known : (ks : List ℕ) → legal ks ≡ true → T (known ks)
-unfolding any all same sequences nextKinds
-sequences-known ks e = among known ([] ∷ sequences) ks tt e
+sequences-known : (s : ℕ) (ks : List ℕ) → legal s ks ≡ true → T (known s ks)
+unfolding any all same recordKindAt sequences nextKinds
+sequences-known zero ks e = among (known 0) ([] ∷ sequences 0) ks tt e
+sequences-known (suc n) ks e = among (known (suc n)) ([] ∷ sequences (suc n)) ks tt e
 
 -- ---- records
 
@@ -94,20 +96,24 @@ pub may-next : (y x : LogRecord) → y .kind ≤ 7 → x .kind ≤ 7 → mayFoll
 unfolding mayFollow every
 may-next y x h g = rw (le-leb (y .kind) 7 h, le-leb (x .kind) 7 g, and-true (agrees y x))
 
-module _ (x : LogRecord) (low : x .kind ≤ 7) (own : List LogRecord) (ok : legal (kinds own) ≡ true) where
+module _ (s : ℕ) (x : LogRecord) (kind : recordKindAt s (x .kind) ≡ true) (own : List LogRecord) (ok : legal s (kinds own) ≡ true) where
   abbrev made : Bool
-  made = any (same (kinds own ++ (x .kind ∷ []))) sequences
+  made = any (same (kinds own ++ (x .kind ∷ []))) (sequences s)
 
   abbrev tabled : Bool
   tabled = next (lastOr 0 (kinds own)) (x .kind)
 
   last-low : lastOr none own .kind ≤ 7
   unfolding recordIn
-  last-low = rw last-kind (leb→le _ _ (and-left (leb (lastOr 0 (kinds own)) 7) _ (sequences-known (kinds own) ok)))
+  last-low = rw last-kind (leb→le _ _ (and-left (leb (lastOr 0 (kinds own)) 7) _ (sequences-known s (kinds own) ok)))
 
-  by-last : T (byLast (kinds own) (x .kind))
+  low : x .kind ≤ 7
+  low = kind-low s (x .kind) kind
+
+  by-last : T (byLast s (kinds own) (x .kind))
   by-last =
-      below-at 8 (byLast (kinds own)) (and-right (leb (lastOr 0 (kinds own)) 7) _ (sequences-known (kinds own) ok)) (x .kind) (omega arith)
+      rw kind
+      at (below-at 8 (λ k. not (recordKindAt s k) || byLast s (kinds own) k) (and-right (leb (lastOr 0 (kinds own)) 7) _ (sequences-known s (kinds own) ok)) (x .kind) (omega (arith, low)))
 
   table : made ≡ tabled
   table = alike-eq made tabled (and-left (alike made tabled) _ by-last)

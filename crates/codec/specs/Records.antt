@@ -73,22 +73,10 @@ isRecord s bytes =
 -- ---- refusal 24: the sequence per transaction
 
 -- the kinds of the records that a site may have of one transaction, in log order
-unfoldable pub sequences : List (List ℕ)
-sequences =
-    (1 ∷ [])
-    ∷ (1 ∷ 2 ∷ [])
-    ∷ (1 ∷ 2 ∷ 3 ∷ [])
-    ∷ (2 ∷ [])
-    ∷ (2 ∷ 3 ∷ [])
-    ∷ (3 ∷ [])
-    ∷ (1 ∷ 4 ∷ [])
-    ∷ (4 ∷ [])
-    ∷ (5 ∷ [])
-    ∷ (5 ∷ 6 ∷ [])
-    ∷ (5 ∷ 7 ∷ [])
-    ∷ (6 ∷ [])
-    ∷ (7 ∷ [])
-    ∷ []
+unfoldable pub sequences : ℕ → List (List ℕ)
+sequences zero =
+    (1 ∷ []) ∷ (1 ∷ 2 ∷ []) ∷ (1 ∷ 2 ∷ 3 ∷ []) ∷ (2 ∷ []) ∷ (2 ∷ 3 ∷ []) ∷ (3 ∷ []) ∷ (1 ∷ 4 ∷ []) ∷ (4 ∷ []) ∷ []
+sequences (suc n) = (5 ∷ []) ∷ (5 ∷ 6 ∷ []) ∷ (5 ∷ 7 ∷ []) ∷ (6 ∷ []) ∷ (7 ∷ []) ∷ []
 
 -- an earlier record x and a later one y of a transaction: equal masks in 1 and 2, and a PrA member before 3
 unfoldable pub agrees : LogRecord → LogRecord → Bool
@@ -99,17 +87,17 @@ agrees x y =
 unfoldable pub ofTransaction : ℕ → LogRecord → Bool
 ofTransaction t x = eqb (x .transaction) t
 
--- x may stand behind the records before it
-unfoldable pub inSequence : List LogRecord → LogRecord → Bool
-inSequence before x =
+-- x may stand behind the records before it at site s
+unfoldable pub inSequence : ℕ → List LogRecord → LogRecord → Bool
+inSequence s before x =
     let own = select (ofTransaction (x .transaction)) before in
-    any (same (map (λ y. y .kind) own ++ (x .kind ∷ []))) sequences && all (λ y. agrees y x) own
+    any (same (map (λ y. y .kind) own ++ (x .kind ∷ []))) (sequences s) && all (λ y. agrees y x) own
 
 -- ---- 23 before 24 at each record in turn
 
 -- one record, behind the records before it
 unfoldable pub recordTests : ℕ → List LogRecord → List ℕ → List (ℕ × Bool)
-recordTests s before bytes = (23, not (isRecord s bytes)) ∷ (24, not (inSequence before (recordOf bytes))) ∷ []
+recordTests s before bytes = (23, not (isRecord s bytes)) ∷ (24, not (inSequence s before (recordOf bytes))) ∷ []
 
 unfoldable pub recordRefusals : ℕ → List LogRecord → List (List ℕ) → List (ℕ × Bool)
 recordRefusals s before [] = []

@@ -69,6 +69,9 @@ unfolding recordKindAt
 no-kind-high zero k h = rw (lt-leb k 4 (omega arith)) (and-false (leb 1 k))
 no-kind-high (suc s) k h = rw (lt-leb k 7 h) (and-false (leb 5 k))
 
+pub kind-low : (s k : ℕ) → recordKindAt s k ≡ true → k ≤ 7
+kind-low s k e = ⊎-elim (λ h. absurd (false≢true (sym (no-kind-high s k h) ∙ e))) (λ h. h) (lt-or-le 7 k)
+
 -- ---- the tests on a record
 
 -- a kind has a length of at least 2

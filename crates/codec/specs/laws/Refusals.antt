@@ -33,7 +33,7 @@ record-passed : (s : ℕ) (before : List LogRecord) (bytes : List ℕ) (cs : Lis
 unfolding recordTests first
 record-passed s before bytes cs e =
     let kept = passed 22 (not (isRecord s bytes)) _ e in
-    (not-false (isRecord s bytes) (kept .0), passed 23 (not (inSequence before (recordOf bytes))) _ (kept .1) .1)
+    (not-false (isRecord s bytes) (kept .0), passed 23 (not (inSequence s before (recordOf bytes))) _ (kept .1) .1)
 
 -- records that no refusal strikes are the bytes of their log
 pub records-bytes : (s : ℕ) (before : List LogRecord) (records : List (List ℕ)) → first (recordRefusals s before records) ≡ 0
@@ -67,7 +67,7 @@ unfolding first recordRefusals recordTests
 records-or s before [] cs = refl
 records-or s before (bytes ∷ records) cs =
     or-else (not (isRecord s bytes)) 22 _ _
-    (or-else (not (inSequence before (recordOf bytes))) 23 _ _ (records-or s (before ++ (recordOf bytes ∷ [])) records cs))
+    (or-else (not (inSequence s before (recordOf bytes))) 23 _ _ (records-or s (before ++ (recordOf bytes ∷ [])) records cs))
 
 neither : (n m : ℕ) → orElse n m ≡ 0 → (n ≡ 0) × (m ≡ 0)
 neither zero m e = (refl, e)

@@ -25,7 +25,7 @@ use Rattle.joint.proofs.safety.Holds.{commit-awaits}
 
 -- kind k may stand behind the kinds ks of its transaction at site s; i: record 1 is written at begin, a: acks are owed for a commit
 abbrev pub mayStand : ℕ → Bool → Bool → List ℕ → ℕ → Bool
-mayStand s i a ks k = recordKindAt s k && ((not (eqb k 1) || i) && ((not (eqb k 3) || a) && any (same (ks ++ (k ∷ []))) sequences))
+mayStand s i a ks k = recordKindAt s k && ((not (eqb k 1) || i) && ((not (eqb k 3) || a) && any (same (ks ++ (k ∷ []))) (sequences s)))
 
 -- each of the kinds js may stand behind ks and those before it
 abbrev pub orderly : ℕ → Bool → Bool → List ℕ → List ℕ → Bool
@@ -123,9 +123,9 @@ module _ (g : Cohort) (t s : ℕ) where
   all-agree k a (j ∷ ks) = rw (records-agree j k a, all-agree k a ks)
 
   record-follows : (before : List LogRecord) (ks : List ℕ) (k : ℕ) → recordsOf t before ≡ map (recordFor g t s) ks → T (not (eqb k 3) || awaitsCommit g)
-      → T (any (same (ks ++ (k ∷ []))) sequences) → inSequence before (recordFor g t s k) ≡ true
+      → T (any (same (ks ++ (k ∷ []))) (sequences s)) → inSequence s before (recordFor g t s k) ≡ true
   unfolding inSequence
-  record-follows before ks k e a b = rw (e, kinds-of ks, all-agree k a ks, true-of (any (same (ks ++ (k ∷ []))) sequences) b)
+  record-follows before ks k e a b = rw (e, kinds-of ks, all-agree k a ks, true-of (any (same (ks ++ (k ∷ []))) (sequences s)) b)
 
 -- ---- logs
 
@@ -144,7 +144,7 @@ module _ (g : ℕ → Cohort) (s : ℕ) where
 
   record Head (x : LogRecord) (before log : List LogRecord) : Type 0 where
     fits : isRecord s (bytesOf x) ≡ true
-    follows : inSequence before x ≡ true
+    follows : inSequence s before x ≡ true
     rest : Follows (x .transaction) (before ++ (x ∷ [])) log
 
   head-of : (x : LogRecord) (before log : List LogRecord) → Follows (x .transaction) before (x ∷ log) → Head x before log
@@ -178,7 +178,7 @@ module _ (g : ℕ → Cohort) (s : ℕ) where
           let last = and-right (not (eqb k 1) || i) _ others in
           record {
             fits = subst (λ (y : LogRecord). isRecord s (bytesOf y) ≡ true) (sym here) (record-is (g u) u (r .0) (r .1) s k kind first);
-            follows = subst (λ (y : LogRecord). inSequence before y ≡ true) (sym here) (record-follows (g u) u s before (f .earlier) k (f .is-earlier) (and-left (not (eqb k 3) || a) _ last) (and-right (not (eqb k 3) || a) _ last));
+            follows = subst (λ (y : LogRecord). inSequence s before y ≡ true) (sym here) (record-follows (g u) u s before (f .earlier) k (f .is-earlier) (and-left (not (eqb k 3) || a) _ last) (and-right (not (eqb k 3) || a) _ last));
             rest =
                 record {
                   earlier = f .earlier ++ (k ∷ []);
