@@ -1,12 +1,13 @@
 /* dpr.h: log images, message numbers, one site's step and the drill of the handover engine, for C and C++ firmware.
  *
- * Link libcodec.a for dpr_image_copy and dpr_message_parts, libsite.a for dpr_site_step, and libdrill_text.a for dpr_drill;
- * none needs another. `rt staticlib codec`, `rt staticlib site` and `rt staticlib drill_text` write them to target/staticlib.
+ * Link libcodec.a for dpr_image_check, dpr_image_copy and dpr_message_parts, libsite.a for dpr_site_step, and
+ * libdrill_text.a for dpr_drill; none needs another. `rt staticlib codec`, `rt staticlib site` and
+ * `rt staticlib drill_text` write them to target/staticlib.
  * They are compiled for x86-64, and need nothing of the C library but, at most, memcpy, memmove, memset, memcmp and bcmp.
  *
  * dpr_image_copy and dpr_message_parts return a number: DPR_ACCEPTED, or the number of a refusal. A refusal leaves the
- * caller's memory as it was. dpr_site_step returns eight bytes in one number; the lowest of them is such an answer.
- * dpr_drill returns the length of its text, whose lines hold such answers.
+ * caller's memory as it was. dpr_image_check returns two bytes in one number, dpr_site_step eight; the lowest of them is
+ * such an answer. dpr_drill returns the length of its text, whose lines hold such answers.
  * Every value of every number, length and byte is answered; there is no error beside these numbers.
  * No call allocates, keeps state from one call to the next, waits or blocks. Calls may run at the same time, also from an
  * interrupt, as long as no memory that one of them writes is in use by another.
@@ -30,12 +31,15 @@ extern "C" {
 
 #define DPR_ACCEPTED 0
 
-/* Refusals of dpr_image_copy. An image with several faults gets the number that comes first in this order: 20, 21, 22;
- * then record by record, each with 23 before 24; then 25. */
+/* Refusals of dpr_image_check and dpr_image_copy. An image with several faults gets the number that comes first in this
+ * order: 20, 21, 22; then record by record, each with 23, 27, 28, 24; then, in dpr_image_copy alone, 25. */
 #define DPR_REFUSED_OPENING 20  /* under 6 bytes, or the first four are not 44 50 52 4C (hexadecimal) */
 #define DPR_REFUSED_SITE 21     /* site above 8, or more records than that site can have */
 #define DPR_REFUSED_TABLE 22    /* pair table short, with a wrong offset, or not ending at the end of the image */
-#define DPR_REFUSED_RECORD 23   /* a record's kind is not one of that site's, or its length or a field is wrong */
+#define DPR_REFUSED_RECORD 23   /* a record's kind is not one of that site's, or its length is not its kind's */
+#define DPR_REFUSED_HANDOVER 27 /* a record's handover is above 7 */
+#define DPR_REFUSED_FIELD 28    /* a record's members are 0, its presume_commit is no part of them or, in a record
+                                 * DPR_RECORD_INIT, 0, or its presumption is above 1 */
 #define DPR_REFUSED_SEQUENCE 24 /* a record cannot follow the earlier ones of its handover */
 #define DPR_REFUSED_BUFFER 25   /* the buffer is too short for the image at that offset */
 
@@ -55,12 +59,25 @@ extern "C" {
 /* Message numbers are 0 to DPR_MESSAGES - 1. */
 #define DPR_MESSAGES 448
 
+/* The two bytes of the number that dpr_image_check returns. */
+#define DPR_CHECK_ANSWER(check) ((uint8_t)(check))       /* DPR_ACCEPTED or the number of a refusal */
+#define DPR_CHECK_INDEX(check) ((uint8_t)((check) >> 8)) /* the first bad record, or how many there are */
+
+/* Reads the log image in the `image_len` bytes at `image`, and tells which record is broken, and how.
+ *
+ * DPR_ACCEPTED: the image is sound, and the index is how many records it has.
+ * 20 to 22: refused before any record is looked at; the index is 0.
+ * 23, 27, 28 or 24: the record with that index, counted from 0, is refused by that number; all records before it are
+ * sound. On 24 it is the later one of the two that do not fit.
+ * Look at the answer first: the index is 0 too where the first record is bad, and where there is none. */
+uint16_t dpr_image_check(const uint8_t *image, size_t image_len);
+
 /* Reads the log image in the `image_len` bytes at `image`, and writes its log as an image again from byte `offset` of
  * the `buffer_len` bytes at `buffer`.
  *
  * DPR_ACCEPTED: the image is sound. The bytes written are those of the image, `image_len` of them; the bytes of the
  * buffer before and after them are as they were.
- * 20 to 25: refused, and the whole buffer is as it was. A sound image gets only 25, and gets it exactly where
+ * 20 to 25, 27, 28: refused, and the whole buffer is as it was. A sound image gets only 25, and gets it exactly where
  * `buffer_len - offset` is under `image_len`; an offset beyond the end of the buffer, of any value, is one of these. */
 uint8_t dpr_image_copy(const uint8_t *image, size_t image_len, uint8_t *buffer, size_t buffer_len, size_t offset);
 

@@ -14,25 +14,29 @@ enum Record {
 use Record::*;
 
 impl Record {
-    /// A record of the site, or none: 23.
-    fn parse(site: u8, bytes: &[u8]) -> Option<Record> {
-        let record = match (site, bytes) {
-            (0, &[1, transaction, members, presume_commit])
-                if presume_commit != 0 && presume_commit & !members == 0 =>
-            {
-                Init { transaction, members, presume_commit }
+    /// A record of the site by itself, or 23, 27, 28.
+    fn parse(site: u8, bytes: &[u8]) -> Result<Record, u8> {
+        let (record, sound) = match (site, bytes) {
+            (0, &[1, transaction, members, presume_commit]) => {
+                let sound = presume_commit != 0 && presume_commit & !members == 0;
+                (Init { transaction, members, presume_commit }, sound)
             }
-            (0, &[2, transaction, members, presume_commit]) if members != 0 && presume_commit & !members == 0 => {
-                Commit { transaction, members, presume_commit }
+            (0, &[2, transaction, members, presume_commit]) => {
+                let sound = members != 0 && presume_commit & !members == 0;
+                (Commit { transaction, members, presume_commit }, sound)
             }
-            (0, &[3, transaction]) => CommitEnd { transaction },
-            (0, &[4, transaction]) => AbortEnd { transaction },
-            (1.., &[5, transaction, presumption @ 0..=1]) => Prepared { transaction, presumption },
-            (1.., &[6, transaction]) => Committed { transaction },
-            (1.., &[7, transaction]) => Aborted { transaction },
-            _ => return None,
+            (0, &[3, transaction]) => (CommitEnd { transaction }, true),
+            (0, &[4, transaction]) => (AbortEnd { transaction }, true),
+            (1.., &[5, transaction, presumption]) => (Prepared { transaction, presumption }, presumption < 2),
+            (1.., &[6, transaction]) => (Committed { transaction }, true),
+            (1.., &[7, transaction]) => (Aborted { transaction }, true),
+            _ => return Err(23),
         };
-        (bytes[1] < 8).then_some(record)
+        match bytes[1] {
+            8.. => Err(27),
+            _ if !sound => Err(28),
+            _ => Ok(record),
+        }
     }
 
     /// May it come after the newest record of its transaction?
@@ -81,32 +85,32 @@ fn word(low: u8, high: u8) -> usize {
     u16::from_le_bytes([low, high]) as usize
 }
 
-/// The log of an image, or 20 to 24.
-pub fn read(image: &[u8]) -> Result<Log, u8> {
-    let &[b'D', b'P', b'R', b'L', site, count, ref rest @ ..] = image else { return Err(20) };
+/// The log of an image, or the number that refuses it and the index of the bad record.
+pub fn read(image: &[u8]) -> Result<Log, (u8, usize)> {
+    let &[b'D', b'P', b'R', b'L', site, count, ref rest @ ..] = image else { return Err((20, 0)) };
     let count = count as usize;
     if site > 8 || count > if site == 0 { 24 } else { 16 } {
-        return Err(21);
+        return Err((21, 0));
     }
-    let (table, mut body) = rest.split_at_checked(4 * count).ok_or(22)?;
+    let (table, mut body) = rest.split_at_checked(4 * count).ok_or((22, 0))?;
     let mut end = 6 + 4 * count;
     for pair in table.chunks_exact(4) {
         if word(pair[0], pair[1]) != end {
-            return Err(22);
+            return Err((22, 0));
         }
         end += word(pair[2], pair[3]);
     }
     if end != image.len() {
-        return Err(22);
+        return Err((22, 0));
     }
     let mut log = Log { site, count, length: image.len(), records: [CommitEnd { transaction: 0 }; 24] };
     let mut newest = [None; 8];
-    for (pair, place) in table.chunks_exact(4).zip(&mut log.records) {
+    for (index, (pair, place)) in table.chunks_exact(4).zip(&mut log.records).enumerate() {
         let (bytes, rest) = body.split_at(word(pair[2], pair[3]));
-        let record = Record::parse(site, bytes).ok_or(23)?;
+        let record = Record::parse(site, bytes).map_err(|number| (number, index))?;
         let newest = &mut newest[bytes[1] as usize];
         if !record.may_follow(*newest) {
-            return Err(24);
+            return Err((24, index));
         }
         *newest = Some(record);
         *place = record;
@@ -133,5 +137,17 @@ pub fn write(log: &Log, buffer: &mut [u8], offset: usize) -> Result<(), u8> {
 }
 
 pub fn image_copy(image: &[u8], buffer: &mut [u8], offset: usize) -> u8 {
-    read(image).and_then(|log| write(&log, buffer, offset)).err().unwrap_or(0)
+    match read(image) {
+        Ok(log) => write(&log, buffer, offset).err().unwrap_or(0),
+        Err((number, _)) => number,
+    }
+}
+
+/// Number and index in one, the number lower: 0 and the count where the image is accepted.
+pub fn image_check(image: &[u8]) -> u16 {
+    let (number, index) = match read(image) {
+        Ok(log) => (0, log.count),
+        Err(refusal) => refusal,
+    };
+    u16::from_le_bytes([number, index as u8])
 }

@@ -17,10 +17,25 @@ use std::slice::{from_raw_parts, from_raw_parts_mut};
 #[link(name = "codec", kind = "static")]
 extern "C" {
     fn dpr_message_parts(number: u16, parts: *mut [u8; 3]) -> u8;
+    fn dpr_image_check(image: *const u8, image_len: usize) -> u16;
     fn dpr_image_copy(image: *const u8, image_len: usize, buffer: *mut u8, buffer_len: usize, offset: usize) -> u8;
 }
 
+type ImageCheck = unsafe extern "C" fn(*const u8, usize) -> u16;
 type ImageCopy = unsafe extern "C" fn(*const u8, usize, *mut u8, usize, usize) -> u8;
+
+#[no_mangle]
+#[inline(never)]
+unsafe extern "C" fn lean_image_check(image: *const u8, length: usize) -> u16 {
+    lean::image_check(from_raw_parts(image, length))
+}
+
+#[no_mangle]
+#[inline(never)]
+unsafe extern "C" fn reference_image_check(image: *const u8, length: usize) -> u16 {
+    let (number, index) = codec::check_image(from_raw_parts(image, length));
+    u16::from_le_bytes([number, index as u8])
+}
 
 #[no_mangle]
 #[inline(never)]
@@ -45,7 +60,7 @@ unsafe extern "C" fn reference_image_copy(
 ) -> u8 {
     let (site, log) = match codec::read_image(from_raw_parts(image, length)) {
         Ok(read) => read,
-        Err(number) => return number,
+        Err(refusal) => return refusal.number,
     };
     let records: Vec<Vec<u8>> = log.iter().map(|record| record.bytes()).collect();
     codec::write_image(site as u64, &records, from_raw_parts_mut(buffer, room), offset as u64).err().unwrap_or(0)
@@ -63,6 +78,11 @@ unsafe extern "C" fn reference_message_parts(number: u16, parts: *mut [u8; 3]) -
     }
 }
 
+/// Number and index of an image.
+fn checked(check: ImageCheck, image: &[u8]) -> [u8; 2] {
+    unsafe { check(image.as_ptr(), image.len()) }.to_le_bytes()
+}
+
 /// Answer and buffer of a copy to a buffer of so many bytes.
 fn copied(copy: ImageCopy, image: &[u8], room: usize, offset: usize) -> (u8, Vec<u8>) {
     let mut buffer = vec![0xEE; room];
@@ -70,13 +90,15 @@ fn copied(copy: ImageCopy, image: &[u8], room: usize, offset: usize) -> (u8, Vec
     (answer, buffer)
 }
 
-/// The lean codec against the reference model's: accepted images, their prefixes and their single-byte changes.
+/// The lean codec against the reference model's: accepted images, their prefixes, their single-byte changes, and bad
+/// records in their places.
 fn check() {
     let mut compared = 0;
     let mut compare = |image: &[u8], room: usize, offset: usize| {
         let (lean, reference) =
             (copied(lean_image_copy, image, room, offset), copied(reference_image_copy, image, room, offset));
         assert_eq!(lean, reference, "image {image:02X?}, buffer of {room} bytes, offset {offset}");
+        assert_eq!(checked(lean_image_check, image), checked(reference_image_check, image), "image {image:02X?}");
         compared += 1;
     };
     for image in images::accepted(&mut random::Random(7)) {
@@ -92,14 +114,27 @@ fn check() {
                 compare(&changed, 200, 9);
             }
         }
+        let records = images::records_of(&image);
+        for (_, bad) in images::bad_records(image[4]) {
+            for place in 0..records.len() {
+                let mut changed = records.clone();
+                changed[place] = bad.clone();
+                compare(&images::exact(image[4], &changed), 200, 9);
+            }
+        }
     }
-    println!("the two codecs in plain Rust agree on {compared} copies");
+    println!("the two codecs in plain Rust agree on {compared} checks and copies");
 }
 
 fn measure(calls: usize) {
     // the largest: 24 records at the coordinator
     let image = images::accepted(&mut random::Random(7)).into_iter().max_by_key(Vec::len).unwrap();
     assert_eq!((image[4], image[5], image.len()), (0, 24, 182));
+    for check in [dpr_image_check as ImageCheck, lean_image_check, reference_image_check] {
+        for _ in 0..calls {
+            assert_eq!(black_box(checked(check, black_box(&image))), [0, 24]);
+        }
+    }
     let mut wanted = vec![0xEE; 200];
     wanted[9..9 + image.len()].copy_from_slice(&image);
     for copy in [dpr_image_copy as ImageCopy, lean_image_copy, reference_image_copy] {

@@ -7,10 +7,10 @@ use native.Mathlib.Omega.{arith}
 use lib.ListN.{length, getD, set, take, length-map, length-take}
 use lib.Seq.{getD-take}
 use Rattle.codec.specs.Lists.{first}
-use Rattle.codec.specs.Records.{LogRecord, bytesOf, recordOf, isRecord, recordRefusals}
+use Rattle.codec.specs.Records.{LogRecord, bytesOf, recordOf, kindAndLength, recordRefusals}
 use Rattle.codec.specs.Image.{overLimit, logRefusals}
 use Rattle.codec.specs.Answers.{recordIn, noRecord, recordNumber}
-use Rattle.codec.specs.Inside.{bytesIn, mayFollow, answerTo}
+use Rattle.codec.specs.Inside.{bytesIn, answerOn}
 use Rattle.codec.specs.declared.record.Record.{Record}
 use Rattle.codec.specs.declared.record.RecordAnswer.{RecordAnswer}
 use Rattle.codec.specs.declared.record.RecordAnswer.the-variants.{Accepted}
@@ -30,7 +30,7 @@ refused-record s log e = rw e
 
 -- the answer on a record of a site, behind the newest of its transaction
 abbrev pub answerFor : ℕ → List Record → Record → RecordAnswer
-answerFor s newest x = answerTo (isRecord s (bytesOf (recordIn x))) (mayFollow (recordIn (getD newest (x .transaction) noRecord)) (recordIn x)) x
+answerFor s newest x = answerOn s (bytesOf (recordIn x)) (recordIn (getD newest (x .transaction) noRecord)) x
 
 module _ (s count : ℕ) (records newest : List Record) (i : ℕ) (p : Passed s (bytesIn count records) newest i) (more : i < count) (few : count ≤ length records) where
   abbrev x : Record
@@ -44,16 +44,14 @@ module _ (s count : ℕ) (records newest : List Record) (i : ℕ) (p : Passed s 
   there : i < length (bytesIn count records)
   there = rw (records-length count records few) more
 
-  record-is : isRecord s (getD (bytesIn count records) i []) ≡ true → recordIn x ≡ recordOf (getD (bytesIn count records) i [])
+  record-is : kindAndLength s (getD (bytesIn count records) i []) ≡ true → recordIn x ≡ recordOf (getD (bytesIn count records) i [])
   unfolding recordOf bytesOf
   record-is e = rw here-is
 
   pub log-stopped : (recordNumber (answerFor s newest x) ≡ 0 → ⊥)
       → recordNumber (answerFor s newest x) ≡ first (recordRefusals s [] (bytesIn count records))
-  unfolding recordOf bytesOf
-  log-stopped = rw here-is at (stopped s (bytesIn count records) newest i p there x record-is)
+  log-stopped n = rw here-is at (stopped s (bytesIn count records) newest i p there x record-is) n .0
 
   pub log-next : (r : Record) → answerFor s newest x ≡ Accepted r
       → (r .transaction < 8) × Passed s (bytesIn count records) (set newest (r .transaction) r) (i + 1)
-  unfolding recordOf bytesOf
   log-next = rw here-is at (passed-next s (bytesIn count records) newest i p there x record-is)

@@ -1,39 +1,38 @@
 -- What the reader's answer tells the copier. Assumes nothing.
-use mathlib.Core.Path.{_≡_, refl, ap}
-use mathlib.Core.List.{List}
-use Prim.Native.Nat.{ℕ, zero, suc}
+use mathlib.Core.Path.{_≡_, refl, ap, sym, _∙_}
+use mathlib.Core.List.{List, map}
+use Prim.Native.Nat.{ℕ}
 use native.Mathlib.Omega.{arith}
 use Rattle.codec.specs.Lists.{first}
-use Rattle.codec.specs.Records.{LogRecord}
-use Rattle.codec.specs.Image.{accepted, imageRefusals, readUnless, readImage, logRefusals, writeImage, copyReading, copyImage}
+use Rattle.codec.specs.Records.{recordOf}
+use Rattle.codec.specs.Image.{Reading, accepted, refused, siteIn, recordsIn, readImage, logRefusals, writeImage, copyReading, copyImage}
 use Rattle.codec.specs.Answers.{Values, logIn, values, imageValues, written}
 use Rattle.codec.specs.declared.reader.ImageAnswer.{ImageAnswer}
+use Rattle.codec.specs.laws.Readings.{values-number, accepted-by-zero}
 use Rattle.codec.specs.laws.RoundTrip.{readable-writable}
 
 module _ (bytes : List ℕ) (r : ImageAnswer) (e : imageValues r ≡ values (readImage bytes)) (at : ℕ) (buffer : List ℕ) where
   pub copy-refused : (r .answer ≡ 0 → ⊥) → copyImage bytes at buffer ≡ written (r .answer) buffer
-  unfolding copyImage copyReading readImage readUnless imageValues values
-  copy-refused h = by (first (imageRefusals bytes)) (ap (λ (v : Values). v .answer) e)
+  unfolding copyImage copyReading imageValues values
+  copy-refused h = by (readImage bytes) (ap (λ (v : Values). v .answer) e)
     where
-      by : (n : ℕ) → r .answer ≡ values (readUnless n bytes) .answer → copyReading (readUnless n bytes) at buffer ≡ written (r .answer) buffer
-      by zero a = absurd (h a)
-      by (suc n) a = rw a
+      by : (v : Reading) → r .answer ≡ values v .answer → copyReading v at buffer ≡ written (r .answer) buffer
+      by (accepted s log) a = absurd (h a)
+      by (refused n i) a = rw a
 
-  pub copy-accepted : r .answer ≡ 0 → copyImage bytes at buffer ≡ writeImage (r .log .site) (logIn (r .log)) at buffer
-  unfolding copyImage copyReading readImage readUnless imageValues values
-  copy-accepted h = by (first (imageRefusals bytes)) e
-    where
-      by : (n : ℕ) → imageValues r ≡ values (readUnless n bytes) → copyReading (readUnless n bytes) at buffer ≡ writeImage (r .log .site) (logIn (r .log)) at buffer
-      by zero e = rw (ap (λ (v : Values). v .log) e, ap (λ (v : Values). v .site) e)
-      by (suc n) e = absurd (omega (arith, ap (λ (v : Values). v .answer) e))
+  module _ (h : r .answer ≡ 0) where
+    sound : readImage bytes ≡ accepted (siteIn bytes) (map recordOf (recordsIn bytes))
+    unfolding imageValues
+    sound = accepted-by-zero bytes (sym (values-number (readImage bytes)) ∙ sym (ap (λ (v : Values). v .answer) e) ∙ h)
 
-  -- a log that was read is not refused
-  pub read-passed : r .answer ≡ 0 → first (logRefusals (r .log .site) (logIn (r .log))) ≡ 0
-  unfolding readImage readUnless imageValues values
-  read-passed h = by (first (imageRefusals bytes)) e (readable-writable bytes)
-    where
-      by : (n : ℕ) → imageValues r ≡ values (readUnless n bytes)
-          → ((s : ℕ) (log : List LogRecord) → readUnless n bytes ≡ accepted s log → first (logRefusals s log) ≡ 0)
-          → first (logRefusals (r .log .site) (logIn (r .log))) ≡ 0
-      by zero e passed = rw (ap (λ (v : Values). v .log) e, ap (λ (v : Values). v .site) e) (passed _ _ refl)
-      by (suc n) e passed = absurd (omega (arith, ap (λ (v : Values). v .answer) e))
+    same-log : (r .log .site ≡ siteIn bytes) × (logIn (r .log) ≡ map recordOf (recordsIn bytes))
+    unfolding imageValues values
+    same-log = let v = rw sound at e in (ap (λ (v : Values). v .site) v, ap (λ (v : Values). v .log) v)
+
+    pub copy-accepted : copyImage bytes at buffer ≡ writeImage (r .log .site) (logIn (r .log)) at buffer
+    unfolding copyImage copyReading
+    copy-accepted = rw (sound, same-log .1, same-log .0)
+
+    -- a log that was read is not refused
+    pub read-passed : first (logRefusals (r .log .site) (logIn (r .log))) ≡ 0
+    read-passed = rw (same-log .1, same-log .0) (readable-writable bytes _ _ sound)

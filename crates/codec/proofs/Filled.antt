@@ -5,15 +5,15 @@ use mathlib.Core.List.{List, [], map}
 use Prim.Native.Nat.{ℕ, zero, suc, _+_, _*_, _<_, _≤_}
 use native.Mathlib.Numerals.{add-one}
 use native.Mathlib.Omega.{arith}
-use borrow.Author.Tests.{leb-true}
+use borrow.Author.Tests.{leb-true, not-false}
 use lib.Dec.{leb}
 use lib.ListN.{length, getD, set, take, drop, replicate, length-set, length-map}
 use lib.Seq.{getD-drop, take-suc-set, take-all}
 use Rattle.codec.specs.Lists.{first}
-use Rattle.codec.specs.Records.{recordOf, isRecord, recordRefusals}
-use Rattle.codec.specs.Image.{headLength, siteIn, countIn, pairsIn, recordsIn, exact, tableExact, refused, readUnless}
+use Rattle.codec.specs.Records.{recordOf, kindAndLength, recordRefusals, firstBad}
+use Rattle.codec.specs.Image.{headLength, siteIn, countIn, pairsIn, recordsIn, exact, tableExact, refused, recordsUnless, readRecords}
 use Rattle.codec.specs.Answers.{recordIn, noRecord, recordNumber, values}
-use Rattle.codec.specs.Inside.{wordAt, Within, recordFrom, mayFollow, answerTo, Readable}
+use Rattle.codec.specs.Inside.{wordAt, Within, recordFrom, answerOn, Readable}
 use Rattle.codec.specs.declared.record.Record.{Record}
 use Rattle.codec.specs.declared.record.RecordAnswer.{RecordAnswer}
 use Rattle.codec.specs.declared.record.RecordAnswer.the-variants.{Accepted}
@@ -35,7 +35,7 @@ readable-exact bytes r = and-eq-true-iff (leb (headLength (countIn bytes)) (leng
 abbrev pub answerAt : List ℕ → List Record → ℕ → ℕ → RecordAnswer
 answerAt bytes newest at size =
     let part = take size (drop at bytes) in
-    answerTo (isRecord (siteIn bytes) part) (mayFollow (recordIn (getD newest (recordFrom part .transaction) noRecord)) (recordOf part)) (recordFrom part)
+    answerOn (siteIn bytes) part (recordIn (getD newest (recordFrom part .transaction) noRecord)) (recordFrom part)
 
 -- the first i records have passed and stand in the log, and the next one starts at `at`
 pub record Filled (bytes : List ℕ) (records newest : List Record) (at i : ℕ) : Type 0 where
@@ -89,17 +89,18 @@ module _ (bytes : List ℕ) (readable : Readable bytes) (records newest : List R
   abbrev answer : RecordAnswer
   answer = answerAt bytes newest at size
 
-  read-is : isRecord (siteIn bytes) (getD (recordsIn bytes) i []) ≡ true → recordIn x ≡ recordOf (getD (recordsIn bytes) i [])
+  read-is : kindAndLength (siteIn bytes) (getD (recordsIn bytes) i []) ≡ true → recordIn x ≡ recordOf (getD (recordsIn bytes) i [])
   read-is = rw here-is (from-bytes (siteIn bytes) part)
 
-  pub image-stopped : (recordNumber answer ≡ 0 → ⊥) → recordNumber answer ≡ first (recordRefusals (siteIn bytes) [] (recordsIn bytes))
+  pub image-stopped : (recordNumber answer ≡ 0 → ⊥)
+      → (recordNumber answer ≡ first (recordRefusals (siteIn bytes) [] (recordsIn bytes))) × (firstBad (siteIn bytes) [] (recordsIn bytes) ≡ i)
   image-stopped = rw here-is at (stopped (siteIn bytes) (recordsIn bytes) newest i (f .passed) there x read-is)
 
   pub filled-next : (r : Record) → answer ≡ Accepted r → (r .transaction < 8) × Filled bytes (set records i r) (set newest (r .transaction) r) (at + size) (i + 1)
   filled-next r e =
-      let t = taken (isRecord (siteIn bytes) part) _ x r e in
+      let t = taken _ _ _ _ x r e in
       let next = rw here-is at (passed-next (siteIn bytes) (recordsIn bytes) newest i (f .passed) there x read-is) in
-      let now : recordIn r ≡ recordOf (getD (recordsIn bytes) i []) = ap recordIn (sym (t .2)) ∙ rw here-is (from-bytes (siteIn bytes) part (t .0)) in (
+      let now : recordIn r ≡ recordOf (getD (recordsIn bytes) i []) = ap recordIn (sym (t .1)) ∙ rw here-is (from-bytes (siteIn bytes) part (not-false _ (t .0))) in (
         next r e .0,
         record {
           size = rw length-set (f .size);
@@ -113,15 +114,16 @@ module _ (bytes : List ℕ) (readable : Readable bytes) (records newest : List R
 
 -- ---- the answer
 
-pub read-refused : (n : ℕ) (bytes : List ℕ) → (n ≡ 0 → ⊥) → readUnless n bytes ≡ refused n
-unfolding readUnless
-read-refused zero bytes h = absurd (h refl)
-read-refused (suc n) bytes h = refl
+-- records that a number refuses are read up to the first bad one
+pub records-refused : (bytes : List ℕ) (n i : ℕ) → (n ≡ 0 → ⊥) → n ≡ first (recordRefusals (siteIn bytes) [] (recordsIn bytes))
+    → firstBad (siteIn bytes) [] (recordsIn bytes) ≡ i → refused n i ≡ readRecords bytes
+unfolding readRecords recordsUnless
+records-refused bytes zero i h e f = absurd (h refl)
+records-refused bytes (suc n) i h e f = rw (← e, f)
 
 pub filled-all : (bytes : List ℕ) → Readable bytes → (records newest : List Record) (at i : ℕ) → Filled bytes records newest at i → countIn bytes ≤ i
-    → record { answer = 0; site = siteIn bytes; count = countIn bytes; log = take (countIn bytes) (map recordIn records) }
-    ≡ values (readUnless (first (recordRefusals (siteIn bytes) [] (recordsIn bytes))) bytes)
-unfolding readUnless values
+    → record { answer = 0; index = countIn bytes; site = siteIn bytes; count = countIn bytes; log = take (countIn bytes) (map recordIn records) } ≡ values (readRecords bytes)
+unfolding readRecords recordsUnless values
 filled-all bytes readable records newest at i f h =
     let whole = readable-whole bytes readable in
     let size : length (recordsIn bytes) ≡ countIn bytes = records-length bytes whole in

@@ -11,8 +11,7 @@ use lib.Dec.{eqb, ltb}
 use lib.ListN.{length, getD, take, drop, length-take, drop-of-length-le}
 use Rattle.codec.specs.laws.Tests.{or-none}
 use Rattle.codec.specs.Lists.{first, same}
-use Rattle.codec.specs.Records.{recordRefusals}
-use Rattle.codec.specs.Image.{magic, siteIn, countIn, recordsIn, most, overLimit, tableExact, imageRefusals, refused, readUnless, readImage}
+use Rattle.codec.specs.Image.{magic, siteIn, countIn, most, overLimit, tableExact, headRefusals, refused, readRecords, readUnless, readImage}
 
 -- ---- the opening, compared byte by byte
 
@@ -71,23 +70,23 @@ module _ (bytes : List ℕ) where
   pub opens-long : not (ltb (length bytes) 6 || not (same (take 4 bytes) magic)) ≡ true → 6 ≤ length bytes
   opens-long e = ltb-false (length bytes) 6 (or-none (ltb (length bytes) 6) (not (same (take 4 bytes) magic)) (not-true _ e) .0)
 
-  pub not-opened : not (ltb (length bytes) 6 || not (same (take 4 bytes) magic)) ≡ false → readImage bytes ≡ refused 20
-  unfolding readImage imageRefusals first readUnless
+  pub not-opened : not (ltb (length bytes) 6 || not (same (take 4 bytes) magic)) ≡ false → readImage bytes ≡ refused 20 0
+  unfolding readImage headRefusals first readUnless
   not-opened e = rw (not-false (ltb (length bytes) 6 || not (same (take 4 bytes) magic)) e)
 
   module _ (opened : not (ltb (length bytes) 6 || not (same (take 4 bytes) magic)) ≡ true) where
     opening : (ltb (length bytes) 6 || not (same (take 4 bytes) magic)) ≡ false
     opening = not-true (ltb (length bytes) 6 || not (same (take 4 bytes) magic)) opened
 
-    pub over : overLimit (siteIn bytes) (countIn bytes) ≡ true → readImage bytes ≡ refused 21
-    unfolding readImage imageRefusals first readUnless
+    pub over : overLimit (siteIn bytes) (countIn bytes) ≡ true → readImage bytes ≡ refused 21 0
+    unfolding readImage headRefusals first readUnless
     over e = rw (opening, e)
 
     module _ (within : overLimit (siteIn bytes) (countIn bytes) ≡ false) where
-      pub not-exact : tableExact bytes ≡ false → readImage bytes ≡ refused 22
-      unfolding readImage imageRefusals first readUnless
+      pub not-exact : tableExact bytes ≡ false → readImage bytes ≡ refused 22 0
+      unfolding readImage headRefusals first readUnless
       not-exact e = rw (opening, within, e)
 
-      pub by-records : tableExact bytes ≡ true → readImage bytes ≡ readUnless (first (recordRefusals (siteIn bytes) [] (recordsIn bytes))) bytes
-      unfolding readImage imageRefusals first
+      pub by-records : tableExact bytes ≡ true → readImage bytes ≡ readRecords bytes
+      unfolding readImage headRefusals first readUnless
       by-records e = rw (opening, within, e)

@@ -7,7 +7,7 @@ use Rattle.codec.specs.Image.{Reading, accepted, refused, Written}
 use Rattle.codec.specs.Messages as messages
 use Rattle.codec.specs.declared.record.Record.{Record}
 use Rattle.codec.specs.declared.record.RecordAnswer.{RecordAnswer}
-use Rattle.codec.specs.declared.record.RecordAnswer.the-variants.{Accepted, Wrong, OutOfSequence}
+use Rattle.codec.specs.declared.record.RecordAnswer.the-variants.{Accepted, WrongKind, WrongTransaction, WrongField, OutOfSequence}
 use Rattle.codec.specs.declared.log.Log.{Log}
 use Rattle.codec.specs.declared.reader.ImageAnswer.{ImageAnswer}
 use Rattle.codec.specs.declared.message.Parts.{Parts}
@@ -35,27 +35,30 @@ logIn l = take (l .count) (map recordIn (l .records)) ++ replicate (l .count - 2
 abbrev pub noLog : ℕ → Log
 noLog s = record { site = s; count = 0; records = replicate 24 noRecord }
 
--- the answer on one record: accepted, 23 or 24
+-- the answer on one record: accepted, 23, 27, 28 or 24
 abbrev pub recordNumber : RecordAnswer → ℕ
 recordNumber (Accepted x) = 0
-recordNumber Wrong = 23
+recordNumber WrongKind = 23
+recordNumber WrongTransaction = 27
+recordNumber WrongField = 28
 recordNumber OutOfSequence = 24
 
 -- ---- images
 
--- the answer on an image in numbers: 0, site, count and records; or the refusal and nothing
+-- the answer on an image in numbers: 0, index, site, count and records; or the refusal, the index and nothing
 pub record Values : Type 0 where
   pub answer : ℕ
+  pub index : ℕ
   pub site : ℕ
   pub count : ℕ
   pub log : List LogRecord
 
 unfoldable pub values : Reading → Values
-values (accepted s log) = record { answer = 0; site = s; count = length log; log = log }
-values (refused n) = record { answer = n; site = 0; count = 0; log = [] }
+values (accepted s log) = record { answer = 0; index = length log; site = s; count = length log; log = log }
+values (refused n i) = record { answer = n; index = i; site = 0; count = 0; log = [] }
 
 unfoldable pub imageValues : ImageAnswer → Values
-imageValues r = record { answer = r .answer; site = r .log .site; count = r .log .count; log = logIn (r .log) }
+imageValues r = record { answer = r .answer; index = r .index; site = r .log .site; count = r .log .count; log = logIn (r .log) }
 
 -- a call's number, and what the lent buffer holds then
 abbrev pub written : ℕ → List ℕ → Written

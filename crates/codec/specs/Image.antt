@@ -5,7 +5,7 @@ use mathlib.Core.List.{List, [], _∷_, _++_, map, flatten}
 use lib.ListN.{length, getD, take, drop}
 use lib.Dec.{eqb, leb, ltb}
 use Rattle.codec.specs.Lists.{same, first}
-use Rattle.codec.specs.Records.{LogRecord, bytesOf, recordOf, recordRefusals}
+use Rattle.codec.specs.Records.{LogRecord, bytesOf, recordOf, recordRefusals, firstBad}
 
 -- ---- layout
 
@@ -72,33 +72,52 @@ exact at (p ∷ ps) end = eqb (p .0) at && exact (at + p .1) ps end
 unfoldable pub tableExact : List ℕ → Bool
 tableExact bytes = leb (headLength (countIn bytes)) (length bytes) && exact (headLength (countIn bytes)) (pairsIn bytes) (length bytes)
 
-unfoldable pub imageRefusals : List ℕ → List (ℕ × Bool)
-imageRefusals bytes =
+-- 20 to 22 come before the records
+unfoldable pub headRefusals : List ℕ → List (ℕ × Bool)
+headRefusals bytes =
     (20, ltb (length bytes) 6 || not (same (take 4 bytes) magic))
     ∷ (21, overLimit (siteIn bytes) (countIn bytes))
     ∷ (22, not (tableExact bytes))
-    ∷ recordRefusals (siteIn bytes) [] (recordsIn bytes)
+    ∷ []
 
--- an image's site and records, or the number that refuses it
+-- an image's site and records; or the number that refuses it, and the index of the first bad record
 pub data Reading : Type 0 where
   accepted : ℕ → List LogRecord → Reading
-  refused : ℕ → Reading
+  refused : ℕ → ℕ → Reading
 
 -- its number: 0, or the refusal
 unfoldable pub readingNumber : Reading → ℕ
 readingNumber (accepted s log) = 0
-readingNumber (refused n) = n
+readingNumber (refused n i) = n
 
+-- its index: on an accepted image the count
+unfoldable pub readingIndex : Reading → ℕ
+readingIndex (accepted s log) = length log
+readingIndex (refused n i) = i
+
+-- the records: 23, 27, 28 or 24, or none
+unfoldable pub recordsUnless : ℕ → List ℕ → Reading
+recordsUnless zero bytes = accepted (siteIn bytes) (map recordOf (recordsIn bytes))
+recordsUnless (suc n) bytes = refused (suc n) (firstBad (siteIn bytes) [] (recordsIn bytes))
+
+unfoldable pub readRecords : List ℕ → Reading
+readRecords bytes = recordsUnless (first (recordRefusals (siteIn bytes) [] (recordsIn bytes))) bytes
+
+-- on 20 to 22 the index is 0
 unfoldable pub readUnless : ℕ → List ℕ → Reading
-readUnless zero bytes = accepted (siteIn bytes) (map recordOf (recordsIn bytes))
-readUnless (suc n) bytes = refused (suc n)
+readUnless zero bytes = readRecords bytes
+readUnless (suc n) bytes = refused (suc n) 0
 
 unfoldable pub readImage : List ℕ → Reading
-readImage bytes = readUnless (first (imageRefusals bytes)) bytes
+readImage bytes = readUnless (first (headRefusals bytes)) bytes
+
+-- number and index in one number of 16 bits, the number in the low byte
+unfoldable pub checkImage : List ℕ → ℕ
+checkImage bytes = readingNumber (readImage bytes) + 256 * readingIndex (readImage bytes)
 
 -- ---- writing
 
--- a log that no accepted image holds is refused by 21, 23 or 24, before 25
+-- a log that no accepted image holds is refused by 21, or by 23, 27, 28 or 24 at each record in turn, before 25
 unfoldable pub logRefusals : ℕ → List LogRecord → List (ℕ × Bool)
 logRefusals s log = (21, overLimit s (length log)) ∷ recordRefusals s [] (map bytesOf log)
 
@@ -125,7 +144,7 @@ writeImage s log at buffer = writeUnless (first (writeRefusals s log at buffer))
 
 unfoldable pub copyReading : Reading → ℕ → List ℕ → Written
 copyReading (accepted s log) at buffer = writeImage s log at buffer
-copyReading (refused n) at buffer = record { answer = n; buffer = buffer }
+copyReading (refused n i) at buffer = record { answer = n; buffer = buffer }
 
 unfoldable pub copyImage : List ℕ → ℕ → List ℕ → Written
 copyImage bytes at buffer = copyReading (readImage bytes) at buffer

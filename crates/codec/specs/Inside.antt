@@ -1,17 +1,17 @@
 -- What the program's inner functions promise each other. No reader has to believe it: proofs/ shows what it has to do with 01.
 use Prim.Native.Nat.{ℕ, _+_, _*_, _/_, _%_, _^_, _≤_}
 use mathlib.Core.Path.{_≡_}
-use mathlib.Core.Bool.{Bool, true, false}
+use mathlib.Core.Bool.{Bool, true, false, not}
 use mathlib.Core.List.{List, [], _∷_, map}
 use lib.ListN.{length, take, getD}
-use lib.Dec.{eqb, leb}
+use lib.Dec.{eqb, leb, ltb}
 use Rattle.codec.specs.Lists.{every}
-use Rattle.codec.specs.Records.{LogRecord, bytesOf, agrees}
+use Rattle.codec.specs.Records.{LogRecord, bytesOf, recordOf, kindAndLength, fieldsInRange, agrees}
 use Rattle.codec.specs.Image.{countIn, tableExact}
 use Rattle.codec.specs.Answers.{recordIn}
 use Rattle.codec.specs.declared.record.Record.{Record}
 use Rattle.codec.specs.declared.record.RecordAnswer.{RecordAnswer}
-use Rattle.codec.specs.declared.record.RecordAnswer.the-variants.{Accepted, Wrong, OutOfSequence}
+use Rattle.codec.specs.declared.record.RecordAnswer.the-variants.{Accepted, WrongKind, WrongTransaction, WrongField, OutOfSequence}
 
 -- ---- one record
 
@@ -28,11 +28,18 @@ unfoldable pub mayFollow : LogRecord → LogRecord → Bool
 mayFollow y x =
     every (leb (y .kind) 7 ∷ leb (x .kind) 7 ∷ eqb (getD nextKinds (y .kind) 0 / 2 ^ (x .kind) % 2) 1 ∷ agrees y x ∷ [])
 
--- by whether it is a record of the site, and may follow
-unfoldable pub answerTo : Bool → Bool → Record → RecordAnswer
-answerTo false b x = Wrong
-answerTo true false x = OutOfSequence
-answerTo true true x = Accepted x
+-- by the tests 23, 27, 28 and 24
+unfoldable pub answerTo : Bool → Bool → Bool → Bool → Record → RecordAnswer
+answerTo true b c d x = WrongKind
+answerTo false true c d x = WrongTransaction
+answerTo false false true d x = WrongField
+answerTo false false false true x = OutOfSequence
+answerTo false false false false x = Accepted x
+
+-- bytes of a record x at site s, behind y, the newest record of its transaction
+abbrev pub answerOn : ℕ → List ℕ → LogRecord → Record → RecordAnswer
+answerOn s bytes y x =
+    answerTo (not (kindAndLength s bytes)) (ltb 7 (recordOf bytes .transaction)) (not (fieldsInRange (recordOf bytes))) (not (mayFollow y (recordOf bytes))) x
 
 -- the first `count` of an array's records, as bytes
 abbrev pub bytesIn : ℕ → List Record → List (List ℕ)

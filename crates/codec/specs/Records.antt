@@ -4,8 +4,8 @@ use Prim.Native.Nat.{ℕ, zero, suc}
 use mathlib.Core.Bool.{Bool, true, false, not, _&&_, _||_}
 use mathlib.Core.List.{List, [], _∷_, _++_, map}
 use lib.ListN.{length, getD, drop}
-use lib.Dec.{eqb, leb}
-use Rattle.codec.specs.Lists.{select, any, all, every, same}
+use lib.Dec.{eqb, leb, ltb}
+use Rattle.codec.specs.Lists.{select, any, all, every, same, first}
 use Rattle.codec.specs.Sets.{empty, minus, part}
 
 pub record LogRecord : Type 0 where
@@ -38,11 +38,15 @@ presumeCommitIn x = getD (x .fields) 1 0
 unfoldable pub awaitsAcks : LogRecord → Bool
 awaitsAcks x = not (empty (minus (membersIn x) (presumeCommitIn x)))
 
--- ---- refusal 23: a record's kind not one of that site's, wrong length or field
+-- ---- refusals 23, 27 and 28: one record by itself
 
 unfoldable pub recordKindAt : ℕ → ℕ → Bool
 recordKindAt zero kind = leb 1 kind && leb kind 4
 recordKindAt (suc n) kind = leb 5 kind && leb kind 7
+
+-- bytes whose kind is one of site s, and whose length is that kind's
+unfoldable pub kindAndLength : ℕ → List ℕ → Bool
+kindAndLength s bytes = recordKindAt s (recordOf bytes .kind) && eqb (length bytes) (lengthOf (recordOf bytes .kind))
 
 -- members not 0, PC a part of members
 unfoldable pub masksInRange : LogRecord → Bool
@@ -63,12 +67,6 @@ fieldsInRange x =
     ∷ [])
     (x .kind)
     false
-
--- bytes that are a record of site s
-unfoldable pub isRecord : ℕ → List ℕ → Bool
-isRecord s bytes =
-    let x = recordOf bytes in
-    every (recordKindAt s (x .kind) ∷ eqb (length bytes) (lengthOf (x .kind)) ∷ leb (x .transaction) 7 ∷ fieldsInRange x ∷ [])
 
 -- ---- refusal 24: the sequence per transaction
 
@@ -93,12 +91,27 @@ inSequence s before x =
     let own = select (ofTransaction (x .transaction)) before in
     any (same (map (λ y. y .kind) own ++ (x .kind ∷ []))) (sequences s) && all (λ y. agrees y x) own
 
--- ---- 23 before 24 at each record in turn
+-- ---- 23, 27, 28 and 24 at each record in turn
 
--- one record, behind the records before it
+-- one record, behind the records before it: 23 kind or length, 27 transaction above 7, 28 a mask or presumption, 24 sequence
 unfoldable pub recordTests : ℕ → List LogRecord → List ℕ → List (ℕ × Bool)
-recordTests s before bytes = (23, not (isRecord s bytes)) ∷ (24, not (inSequence s before (recordOf bytes))) ∷ []
+recordTests s before bytes =
+    (23, not (kindAndLength s bytes))
+    ∷ (27, ltb 7 (recordOf bytes .transaction))
+    ∷ (28, not (fieldsInRange (recordOf bytes)))
+    ∷ (24, not (inSequence s before (recordOf bytes)))
+    ∷ []
 
 unfoldable pub recordRefusals : ℕ → List LogRecord → List (List ℕ) → List (ℕ × Bool)
 recordRefusals s before [] = []
 recordRefusals s before (bytes ∷ rest) = recordTests s before bytes ++ recordRefusals s (before ++ (recordOf bytes ∷ [])) rest
+
+-- one record further, unless a number refuses it
+unfoldable pub furtherUnless : ℕ → ℕ → ℕ
+furtherUnless zero i = suc i
+furtherUnless (suc n) i = 0
+
+-- the index, from 0, of the first bad record; where none is bad, how many there are
+unfoldable pub firstBad : ℕ → List LogRecord → List (List ℕ) → ℕ
+firstBad s before [] = 0
+firstBad s before (bytes ∷ rest) = furtherUnless (first (recordTests s before bytes)) (firstBad s (before ++ (recordOf bytes ∷ [])) rest)

@@ -4,6 +4,7 @@ pub mod Masks
 pub mod Members
 pub mod Fields
 pub mod Refusals
+pub mod Readings
 pub mod Tables
 pub mod Pairs
 pub mod RoundTrip

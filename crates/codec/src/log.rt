@@ -53,7 +53,7 @@ impl Log {
         Log::PARTICIPANT_MOST < count
     }
 
-    // The number that refuses to write the log, 21, 23 or 24; or 0.
+    // The number that refuses to write the log, 21, 23, 27, 28 or 24; or 0.
     pub fn refusal(self) -> u8
         ensures { λ r. ⌜ r ≡ first (logRefusals (self .site) (logIn self)) ⌝ }
     {

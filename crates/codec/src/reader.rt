@@ -5,28 +5,28 @@ use crate::record::Record;
 use crate::record::RecordAnswer;
 ghost use mathlib.Core.Path.{_≡_};
 ghost use Prim.Native.Nat.{_+_, _*_, _≤_, _<_};
-ghost use mathlib.Core.List.{[]};
 ghost use mathlib.Core.Bool.{not, _||_};
 ghost use lib.Dec.{ltb};
 ghost use lib.ListN.{length, take};
-ghost use Rattle.codec.specs.Lists.{first, same};
-ghost use Rattle.codec.specs.Records.{recordRefusals};
-ghost use Rattle.codec.specs.Image.{magic, siteIn, recordsIn, refused, readUnless, readImage, tableExact};
+ghost use Rattle.codec.specs.Lists.{same};
+ghost use Rattle.codec.specs.Image.{magic, refused, readRecords, readImage, checkImage, tableExact};
 ghost use Rattle.codec.specs.Answers.{values, imageValues};
 ghost use Rattle.codec.specs.Inside.{wordAt, Readable, Within};
 
-// 0 and the log, or the number that refuses and no log.
+// 0, the count and the log; or the number that refuses, the index from 0 of the first bad record, and no log.
 pub struct ImageAnswer {
     pub answer: u8,
+    pub index: u8,
     pub log: Log,
 }
 
 impl ImageAnswer {
-    fn refused(answer: u8) -> ImageAnswer
-        ensures { λ r. ⌜ imageValues r ≡ values (refused answer) ⌝ }
+    fn refused(answer: u8, index: u8) -> ImageAnswer
+        ensures { λ r. ⌜ imageValues r ≡ values (refused answer index) ⌝ }
     {
         ImageAnswer {
             answer,
+            index,
             log: Log::new(0),
         }
     }
@@ -90,7 +90,7 @@ fn end_of(bytes: &[u8], at: usize, i: usize) -> usize
 // The records behind an exact table. The first that fails ends the reading.
 fn read_records(bytes: &[u8]) -> ImageAnswer
     requires { ⌜ Readable (now bytes) ⌝ }
-    ensures { λ r. ⌜ imageValues r ≡ values (readUnless (first (recordRefusals (siteIn (now (bytes .entry))) [] (recordsIn (now (bytes .entry))))) (now (bytes .entry))) ⌝ }
+    ensures { λ r. ⌜ imageValues r ≡ values (readRecords (now (bytes .entry))) ⌝ }
 {
     let site = bytes[4];
     let count = bytes[5] as usize;
@@ -102,15 +102,17 @@ fn read_records(bytes: &[u8]) -> ImageAnswer
         let end = end_of(bytes, at, i);
         let answer = Record::read(&bytes[at..end], site, newest);
         let RecordAnswer::Accepted(record) = answer else {
-            return ImageAnswer::refused(answer.number());
+            return ImageAnswer::refused(answer.number(), i as u8);
         };
         newest = newest.with(record);
         records[i] = record;
         at = end;
         i += 1;
     }
+    let index = count as u8;
     ImageAnswer {
         answer: 0,
+        index,
         log: Log {
             site,
             count,
@@ -119,20 +121,29 @@ fn read_records(bytes: &[u8]) -> ImageAnswer
     }
 }
 
-// The log that an image holds, or the number that refuses it, 20 to 24.
+// The log that an image holds; or the number that refuses it, 20 to 24, 27 or 28, and the index of the first bad record.
 pub fn read_image(bytes: &[u8]) -> ImageAnswer
     ensures { λ r. ⌜ imageValues r ≡ values (readImage (now (bytes .entry))) ⌝ }
 {
     if !opens(bytes) {
-        return ImageAnswer::refused(20);
+        return ImageAnswer::refused(20, 0);
     }
     let site = bytes[4];
     let count = bytes[5] as usize;
     if Log::over_limit(site, count) {
-        return ImageAnswer::refused(21);
+        return ImageAnswer::refused(21, 0);
     }
     if !table_exact(bytes) {
-        return ImageAnswer::refused(22);
+        return ImageAnswer::refused(22, 0);
     }
     read_records(bytes)
+}
+
+// For C (include/dpr.h): number and index of an image's reading, the number in the low byte.
+#[no_mangle]
+pub extern "C" fn dpr_image_check(image: &[u8]) -> u16
+    ensures { λ r. ⌜ r ≡ checkImage (now (image .entry)) ⌝ }
+{
+    let read = read_image(image);
+    (read.answer as u16) + 256 * (read.index as u16)
 }

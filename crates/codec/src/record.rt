@@ -1,11 +1,11 @@
-// One log record: its fields, its length, and the tests on it (refusals 23 and 24).
+// One log record: its fields, its length, and the tests on it (refusals 23, 27, 28 and 24).
 use crate::sets::minus;
 use crate::sets::part;
 ghost use mathlib.Core.Path.{_≡_};
 ghost use lib.ListN.{length, getD, set, replicate};
-ghost use Rattle.codec.specs.Records.{bytesOf, lengthOf, recordKindAt, fieldsInRange, isRecord, recordOf};
+ghost use Rattle.codec.specs.Records.{bytesOf, lengthOf, recordKindAt, fieldsInRange};
 ghost use Rattle.codec.specs.Answers.{recordIn, noRecord, recordNumber};
-ghost use Rattle.codec.specs.Inside.{recordFrom, mayFollow, answerTo};
+ghost use Rattle.codec.specs.Inside.{recordFrom, mayFollow, answerOn};
 
 // The fields behind the transaction are members and PC in a record 1 or 2, and the presumption in a record 5.
 pub struct Record {
@@ -54,10 +54,12 @@ impl Newest {
     }
 }
 
-// What reading one record gives: the record; 23; or 24.
+// What reading one record gives: the record; 23, kind or length; 27; 28, a mask or presumption; or 24.
 pub enum RecordAnswer {
     Accepted(Record),
-    Wrong,
+    WrongKind,
+    WrongTransaction,
+    WrongField,
     OutOfSequence,
 }
 
@@ -77,7 +79,9 @@ impl RecordAnswer {
     {
         match self {
             RecordAnswer::Accepted(_) => 0,
-            RecordAnswer::Wrong => 23,
+            RecordAnswer::WrongKind => 23,
+            RecordAnswer::WrongTransaction => 27,
+            RecordAnswer::WrongField => 28,
             RecordAnswer::OutOfSequence => 24,
         }
     }
@@ -148,12 +152,12 @@ impl Record {
 
     // The bytes as a record of a site, behind the newest record of each transaction.
     pub fn read(bytes: &[u8], site: u8, newest: Newest) -> RecordAnswer
-        ensures { λ r. ⌜ r ≡ answerTo (isRecord site (now (bytes .entry))) (mayFollow (recordIn (getD (newest .of) (recordFrom (now (bytes .entry)) .transaction) noRecord)) (recordOf (now (bytes .entry)))) (recordFrom (now (bytes .entry))) ⌝ }
+        ensures { λ r. ⌜ r ≡ answerOn site (now (bytes .entry)) (recordIn (getD (newest .of) (recordFrom (now (bytes .entry)) .transaction) noRecord)) (recordFrom (now (bytes .entry))) ⌝ }
     {
         let record = Record::from_bytes(bytes);
         let kind = record.kind;
         if bytes.len() != Record::length_of(kind) {
-            return RecordAnswer::Wrong;
+            return RecordAnswer::WrongKind;
         }
         record.judged(site, newest.behind(record))
     }
@@ -206,20 +210,20 @@ impl Record {
             & (!((before == Record::COMMIT) & (kind == Record::COMMIT_END)) | awaits)
     }
 
-    // The record as one of a site, behind the newest one of its transaction: 23 before 24.
+    // The record as one of a site, behind the newest one of its transaction: 23, 27, 28 and 24 in this order.
     pub fn judged(self, site: u8, newest: Record) -> RecordAnswer
-        ensures { λ r. ⌜ r ≡ answerTo (isRecord site (bytesOf (recordIn self))) (mayFollow (recordIn newest) (recordIn self)) self ⌝ }
+        ensures { λ r. ⌜ r ≡ answerOn site (bytesOf (recordIn self)) (recordIn newest) self ⌝ }
     {
         let kind = self.kind;
         let transaction = self.transaction;
         if !Record::kind_at(site, kind) {
-            return RecordAnswer::Wrong;
+            return RecordAnswer::WrongKind;
         }
         if Record::LAST_TRANSACTION < transaction {
-            return RecordAnswer::Wrong;
+            return RecordAnswer::WrongTransaction;
         }
         if !self.fields_in_range() {
-            return RecordAnswer::Wrong;
+            return RecordAnswer::WrongField;
         }
         if !self.follows(newest) {
             return RecordAnswer::OutOfSequence;

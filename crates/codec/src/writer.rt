@@ -131,7 +131,7 @@ fn place(log: Log, buffer: &mut [u8], at: usize) -> u8
     0
 }
 
-// Writes the log's image from `at` on: 0, or 21, 23, 24, 25 and the buffer as it was.
+// Writes the log's image from `at` on: 0, or 21, 23, 27, 28, 24, 25 and the buffer as it was.
 pub fn write_image(log: Log, buffer: &mut [u8], at: usize) -> u8
     ensures { λ r. ⌜ written r (now (buffer .exit)) ≡ writeImage (log .site) (logIn log) at (now (buffer .entry)) ⌝ }
 {
@@ -142,7 +142,7 @@ pub fn write_image(log: Log, buffer: &mut [u8], at: usize) -> u8
     place(log, buffer, at)
 }
 
-// For C (include/dpr.h): reads an image and writes its log again from `offset` on: 0, or 20 to 25 and `buffer` as it was.
+// For C (include/dpr.h): reads an image and writes its log again from `offset` on: 0, or 20 to 25, 27, 28 and `buffer` as it was.
 // No log that the reader gives is refused, so it is not checked again.
 #[no_mangle]
 pub extern "C" fn dpr_image_copy(image: &[u8], buffer: &mut [u8], offset: usize) -> u8

@@ -1,37 +1,38 @@
-// The examples of document 01's refusal table for images, buffers and message numbers, and K10's image, run and proved.
+// The examples of document 01's refusal table for images, buffers and message numbers with the numbers of 02's Job 1, and K10's image,
+// run and proved.
 use codec::log::Log;
 use codec::message::dpr_message_parts;
-use codec::reader::read_image;
+use codec::reader::dpr_image_check;
 use codec::record::Record;
 use codec::writer::dpr_image_copy;
 use codec::writer::write_image;
-ghost use mathlib.Core.Path.{_≡_};
-ghost use Rattle.codec.specs.Image.{readingNumber, readImage};
 
-// The number that refuses an image, or 0.
-fn number(image: &[u8]) -> u8
-    ensures { λ r. ⌜ r ≡ readingNumber (readImage (now (image .entry))) ⌝ }
-{
-    let answer = read_image(image);
-    answer.answer
+// The index stands in the high byte; on 20 to 22 it is 0.
+fn heads() {
+    // 20: under 6 bytes.
+    check::expect(dpr_image_check(b"\x44\x50\x52") == 20);
+    // 21: site 9.
+    check::expect(dpr_image_check(b"\x44\x50\x52\x4C\x09\x00") == 21);
+    // 22: first offset 0B, one record.
+    check::expect(dpr_image_check(b"\x44\x50\x52\x4C\x01\x01\x0B\x00\x03\x00\x05\x00\x01") == 22);
+    // K10's image: accepted, and one record.
+    check::expect(dpr_image_check(b"\x44\x50\x52\x4C\x01\x01\x0A\x00\x03\x00\x05\x00\x01") == 256);
 }
 
-fn images() {
-    // 20: under 6 bytes.
-    check::expect(number(b"\x44\x50\x52") == 20);
-    // 21: site 9.
-    check::expect(number(b"\x44\x50\x52\x4C\x09\x00") == 21);
-    // 22: first offset 0B, one record.
-    check::expect(number(b"\x44\x50\x52\x4C\x01\x01\x0B\x00\x03\x00\x05\x00\x01") == 22);
-    // 23: 05 00 02.
-    check::expect(number(b"\x44\x50\x52\x4C\x01\x01\x0A\x00\x03\x00\x05\x00\x02") == 23);
-    // 24: 05 00 00 05 00 00.
+fn records() {
+    // 23: a record 06 of three bytes, 06 00 00.
+    check::expect(dpr_image_check(b"\x44\x50\x52\x4C\x01\x01\x0A\x00\x03\x00\x06\x00\x00") == 23);
+    // 27 before 28: 05 08 02.
+    check::expect(dpr_image_check(b"\x44\x50\x52\x4C\x01\x01\x0A\x00\x03\x00\x05\x08\x02") == 27);
+    // 28: 05 00 02, which was 23 in document 01.
+    check::expect(dpr_image_check(b"\x44\x50\x52\x4C\x01\x01\x0A\x00\x03\x00\x05\x00\x02") == 28);
+    // 24 at the second record: 05 00 00 05 00 00.
     check::expect(
-        number(b"\x44\x50\x52\x4C\x01\x02\x0E\x00\x03\x00\x11\x00\x03\x00\x05\x00\x00\x05\x00\x00")
-            == 24,
+        dpr_image_check(
+            b"\x44\x50\x52\x4C\x01\x02\x0E\x00\x03\x00\x11\x00\x03\x00\x05\x00\x00\x05\x00\x00",
+        )
+            == 256 + 24,
     );
-    // K10's image.
-    check::expect(number(b"\x44\x50\x52\x4C\x01\x01\x0A\x00\x03\x00\x05\x00\x01") == 0);
 }
 
 fn buffers() {
@@ -59,7 +60,17 @@ fn logs() {
     let mut buffer = [0xEEu8; 40];
     // 21: site 9.
     check::expect(write_image(Log::new(9), &mut buffer, 0) == 21);
-    // 23: 05 00 02.
+    // 27 before 28: 05 08 02.
+    let mut eight = Log::new(1);
+    eight.records[0] = Record {
+        kind: Record::PREPARED,
+        transaction: 8,
+        first: 2,
+        second: 0,
+    };
+    eight.count = 1;
+    check::expect(write_image(eight, &mut buffer, 0) == 27);
+    // 28: 05 00 02.
     let mut one = Log::new(1);
     one.records[0] = Record {
         kind: Record::PREPARED,
@@ -68,7 +79,7 @@ fn logs() {
         second: 0,
     };
     one.count = 1;
-    check::expect(write_image(one, &mut buffer, 0) == 23);
+    check::expect(write_image(one, &mut buffer, 0) == 28);
     // 24: 05 00 00 05 00 00.
     let mut two = Log::new(1);
     two.records[0] = Record {
@@ -96,7 +107,8 @@ fn messages() {
 }
 
 fn main() {
-    images();
+    heads();
+    records();
     buffers();
     logs();
     messages();

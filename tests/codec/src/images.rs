@@ -144,6 +144,31 @@ pub fn exact(site: u8, records: &[Vec<u8>]) -> Vec<u8> {
     out
 }
 
+/// The records of an accepted image.
+pub fn records_of(image: &[u8]) -> Vec<Vec<u8>> {
+    let table = image[6..].chunks(4).take(image[5] as usize);
+    table.map(|pair| image[pair[0] as usize..][..pair[2] as usize].to_vec()).collect()
+}
+
+/// Records that no log of that site may hold, and the number that refuses each by itself: 23 for kind or length, 27 for
+/// the transaction, 28 for a mask or the presumption. Some have a fault of a later number too.
+pub fn bad_records(site: u8) -> Vec<(u8, Vec<u8>)> {
+    let by_number: [(u8, &[&[u8]]); 3] = if site == 0 {
+        [
+            (23, &[&[], &[1], &[0, 0], &[5, 0, 1], &[6, 0], &[255, 255], &[1, 0, 3], &[2, 8, 0, 0, 0], &[4, 0, 0]]),
+            (27, &[&[1, 8, 3, 1], &[1, 8, 3, 0], &[2, 255, 0, 0], &[2, 9, 1, 2], &[3, 8], &[4, 128]]),
+            (28, &[&[1, 0, 0, 0], &[1, 7, 3, 0], &[1, 4, 1, 2], &[2, 7, 0, 0], &[2, 0, 1, 3], &[2, 1, 0, 4]]),
+        ]
+    } else {
+        [
+            (23, &[&[], &[6], &[0, 0], &[1, 0, 3, 1], &[4, 0], &[8, 8], &[5, 0], &[6, 8, 0], &[5, 8, 2, 0]]),
+            (27, &[&[5, 8, 0], &[5, 8, 2], &[5, 255, 1], &[6, 8], &[7, 128]]),
+            (28, &[&[5, 0, 2], &[5, 7, 255]]),
+        ]
+    };
+    by_number.iter().flat_map(|(number, records)| records.iter().map(|record| (*number, record.to_vec()))).collect()
+}
+
 /// Bytes of the length given, or a little less: nothing but random, or right up to some place; or an accepted image.
 pub fn random_image(random: &mut Random, length: usize) -> Vec<u8> {
     let mut bytes: Vec<u8> = (0..length).map(|_| random.byte()).collect();

@@ -1,17 +1,20 @@
-//! The two functions of libcodec.a, each call compared with the reference model's codec.
+//! The three functions of libcodec.a, each call compared with the reference model's codec.
 
-use crate::codec::{read_image, write_image, Message};
+use crate::codec::{read_image, write_image, Message, Refusal};
 use crate::fenced::{stops, Fenced};
 use std::sync::atomic::{AtomicUsize, Ordering::Relaxed};
 
 #[link(name = "codec", kind = "static")]
 extern "C" {
     fn dpr_message_parts(number: u16, parts: *mut u8) -> u8;
+    fn dpr_image_check(image: *const u8, image_len: usize) -> u16;
     fn dpr_image_copy(image: *const u8, image_len: usize, buffer: *mut u8, buffer_len: usize, offset: usize) -> u8;
 }
 
-/// The call under way: image, its length, length of the buffer, offset; or 0, 0, 0 and a message number.
+/// The call under way: image, its length, length of the buffer or `NO_BUFFER`, offset; or 0, 0, 0 and a message number.
 static CALL: [AtomicUsize; 4] = [AtomicUsize::new(0), AtomicUsize::new(0), AtomicUsize::new(0), AtomicUsize::new(0)];
+
+const NO_BUFFER: usize = usize::MAX;
 
 fn calling(arguments: [usize; 4]) {
     for (field, value) in CALL.iter().zip(arguments) {
@@ -40,29 +43,34 @@ fn number_given(number: usize) -> String {
 }
 
 fn image_given(image: &[u8], buffer_len: usize, offset: usize) -> String {
-    format!(
-        "  image of {} bytes: {}\n  buffer of {buffer_len} bytes, offset {offset} ({offset:#X})",
-        image.len(),
-        hex(image)
-    )
+    let image = format!("  image of {} bytes: {}", image.len(), hex(image));
+    if buffer_len == NO_BUFFER {
+        return image;
+    }
+    format!("{image}\n  buffer of {buffer_len} bytes, offset {offset} ({offset:#X})")
 }
 
-/// What the reference model reads in an image: the number of a refusal, or site and records.
-pub struct Reading(Result<(u8, Vec<Vec<u8>>), u8>);
+/// What the reference model reads in an image: site and records, or its refusal.
+/// `Trial::check` alone gives one, so that each image tried is checked.
+pub struct Reading(Result<(u8, Vec<Vec<u8>>), Refusal>);
 
 impl Reading {
-    pub fn of(image: &[u8]) -> Reading {
+    fn of(image: &[u8]) -> Reading {
         Reading(read_image(image).map(|(site, log)| (site, log.iter().map(|record| record.bytes()).collect())))
     }
 
-    pub fn answer(&self) -> u8 {
-        *self.0.as_ref().err().unwrap_or(&0)
+    /// Number and index.
+    pub fn answer(&self) -> (u8, usize) {
+        match &self.0 {
+            Err(refusal) => (refusal.number, refusal.index),
+            Ok((_, records)) => (0, records.len()),
+        }
     }
 
     /// The answer of a copy to the buffer, which then holds what the reference model writes.
     fn write(&self, buffer: &mut [u8], offset: usize) -> u8 {
         match &self.0 {
-            Err(number) => *number,
+            Err(refusal) => refusal.number,
             Ok((site, records)) => write_image(*site as u64, records, buffer, offset as u64).err().unwrap_or(0),
         }
     }
@@ -78,8 +86,10 @@ const MEMORY: usize = GUARD + MOST + GUARD;
 pub struct Trial {
     pub part: &'static str,
     pub cases: usize,
-    /// How often each answer came in this part.
+    /// How often each answer of a copy or of message parts came in this part.
     pub answers: [usize; 256],
+    /// How often each number came of a check, with index 0 and with one above.
+    pub checks: [[usize; 2]; 256],
     image: Fenced,
     /// What lies in the memory before a call, another stretch of it each time.
     noise: [u8; MEMORY + 256],
@@ -95,6 +105,7 @@ impl Trial {
             part: "",
             cases: 0,
             answers: [0; 256],
+            checks: [[0; 2]; 256],
             image: Fenced::new(),
             noise: [0; MEMORY + 256].map(|_| random.byte()),
             got: [0; MEMORY],
@@ -115,13 +126,45 @@ impl Trial {
         if expected == got && self.expected == self.got {
             return;
         }
-        eprintln!("FAILED in '{}', case {}\n{}", self.part, self.cases, given());
-        eprintln!("  expected {expected}, got {got}");
+        let mut what = format!("expected {expected}, got {got}");
         if let Some(i) = (0..MEMORY).find(|&i| self.expected[i] != self.got[i]) {
-            let place = i as isize - GUARD as isize;
-            eprintln!("  byte {place} of the lent memory: expected {:02X}, got {:02X}", self.expected[i], self.got[i]);
+            let (place, expected, got) = (i as isize - GUARD as isize, self.expected[i], self.got[i]);
+            what += &format!("\n  byte {place} of the lent memory: expected {expected:02X}, got {got:02X}");
         }
+        self.fail(&given(), &what);
+    }
+
+    fn fail(&self, given: &str, what: &str) -> ! {
+        eprintln!("FAILED in '{}', case {}\n{given}\n  {what}", self.part, self.cases);
         std::process::exit(1);
+    }
+
+    /// Ends the program where a call has changed the image itself.
+    fn unchanged(&self, image: &[u8], at: *const u8, given: impl Fn() -> String) {
+        let after = unsafe { std::slice::from_raw_parts(at, image.len()) };
+        if after != image {
+            self.fail(&given(), &format!("the image itself was changed to {}", hex(after)));
+        }
+    }
+
+    /// Two calls of dpr_image_check, with a fence before the image and with one behind it; and what the reference model
+    /// reads in that image.
+    pub fn check(&mut self, image: &[u8]) -> Reading {
+        let reading = Reading::of(image);
+        let (number, index) = reading.answer();
+        for first in [true, false] {
+            self.cases += 1;
+            let at = self.image.put(image, first);
+            calling([at as usize, image.len(), NO_BUFFER, 0]);
+            let [got, got_index] = unsafe { dpr_image_check(at, image.len()) }.to_le_bytes();
+            let given = || image_given(image, NO_BUFFER, 0);
+            if (got, got_index as usize) != (number, index) {
+                self.fail(&given(), &format!("expected {number}, index {index}, got {got}, index {got_index}"));
+            }
+            self.unchanged(image, at, given);
+            self.checks[number as usize][(index > 0) as usize] += 1;
+        }
+        reading
     }
 
     /// One call of dpr_image_copy; `reading` is the reference model's of that image.
@@ -136,17 +179,9 @@ impl Trial {
         if expected == 0 {
             assert_eq!(buffer[offset..offset + image.len()], *image, "an accepted image is written as it was read");
         }
-        self.compare(expected, got, || image_given(image, buffer_len, offset));
-        let after = unsafe { std::slice::from_raw_parts(at, image.len()) };
-        if after != image {
-            eprintln!(
-                "FAILED in '{}': the image itself was changed\n{}",
-                self.part,
-                image_given(image, buffer_len, offset)
-            );
-            eprintln!("  after the call: {}", hex(after));
-            std::process::exit(1);
-        }
+        let given = || image_given(image, buffer_len, offset);
+        self.compare(expected, got, given);
+        self.unchanged(image, at, given);
     }
 
     /// One call of dpr_message_parts.

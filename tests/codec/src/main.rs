@@ -1,4 +1,4 @@
-//! Calls the two C functions of libcodec.a and compares each answer, and all the memory lent, with the reference model.
+//! Calls the three C functions of libcodec.a and compares each answer, and all memory lent, with the reference model.
 //! The first difference ends the program with what was given, what was expected and what came.
 //! Words on the command line name the parts to run; without any, all are run.
 
@@ -12,8 +12,8 @@ mod images;
 mod library;
 mod random;
 
-use images::{accepted, exact, random_image};
-use library::{Reading, Trial};
+use images::{accepted, bad_records, exact, random_image, records_of};
+use library::Trial;
 use random::Random;
 use std::collections::BTreeSet;
 
@@ -34,14 +34,17 @@ fn vectors(trial: &mut Trial, _: &mut Random) {
         match words[1] {
             "read" => {
                 let image = bytes(&words[2..], 16);
-                trial.copy(&image, &Reading::of(&image), image.len(), 0);
+                let reading = trial.check(&image);
+                assert_eq!(reading.answer(), (answer, right[1].parse().unwrap()), "vectors: the line '{line}'");
+                trial.copy(&image, &reading, image.len(), 0);
             }
             "write" => {
                 let numbers = bytes(&words[2..5], 10);
                 let records: Vec<Vec<u8>> =
                     words[5..].iter().map(|r| bytes(&r.split(',').collect::<Vec<_>>(), 10)).collect();
                 let image = exact(numbers[0], &records);
-                trial.copy(&image, &Reading::of(&image), numbers[1] as usize, numbers[2] as usize);
+                let reading = trial.check(&image);
+                trial.copy(&image, &reading, numbers[1] as usize, numbers[2] as usize);
             }
             "number" => trial.message(words[2].parse().unwrap()),
             "events" => continue,
@@ -51,7 +54,7 @@ fn vectors(trial: &mut Trial, _: &mut Random) {
     }
 }
 
-/// K10, and the same bytes with faults of more than one number: the least of them, record by record.
+/// K10, the same bytes with faults of more than one number, and logs of several records: answer and index by hand.
 fn examples(trial: &mut Trial, _: &mut Random) {
     let k10 = bytes(&"44 50 52 4C 01 01 0A 00 03 00 05 00 01".split(' ').collect::<Vec<_>>(), 16);
     let changed = |changes: &[(usize, u8)]| {
@@ -59,21 +62,39 @@ fn examples(trial: &mut Trial, _: &mut Random) {
         changes.iter().for_each(|&(i, value)| image[i] = value);
         image
     };
+    let log = |site: u8, records: &[&[u8]]| exact(site, &records.iter().map(|r| r.to_vec()).collect::<Vec<_>>());
     let cases = [
-        (0, changed(&[])),
-        (20, changed(&[(3, 0), (4, 9), (6, 0), (12, 2)])),
-        (21, changed(&[(4, 9), (6, 0), (12, 2)])),
-        (21, changed(&[(5, 17), (12, 2)])),
-        (22, changed(&[(6, 0), (12, 2)])),
-        (23, changed(&[(12, 2)])),
-        // a record with both faults; 24 in an earlier record; 23 in an earlier one
-        (23, exact(1, &[vec![5, 0, 0], vec![5, 0, 2]])),
-        (24, exact(1, &[vec![5, 0, 0], vec![5, 0, 0], vec![5, 0, 2]])),
-        (23, exact(1, &[vec![5, 0, 2], vec![5, 0, 0], vec![5, 0, 0]])),
-        (24, exact(0, &[vec![4, 0], vec![3, 1], vec![3, 1], vec![9, 9]])),
+        ((0, 1), changed(&[])),
+        ((20, 0), changed(&[(3, 0), (4, 9), (6, 0), (10, 4), (11, 8), (12, 2)])),
+        ((21, 0), changed(&[(4, 9), (6, 0), (10, 4), (11, 8), (12, 2)])),
+        ((21, 0), changed(&[(5, 17), (12, 2)])),
+        ((22, 0), changed(&[(6, 0), (10, 4), (11, 8), (12, 2)])),
+        ((23, 0), changed(&[(10, 4), (11, 8), (12, 2)])),
+        ((27, 0), changed(&[(11, 8), (12, 2)])),
+        ((28, 0), changed(&[(12, 2)])),
+        // a record with faults of two numbers
+        ((23, 1), log(1, &[&[7, 7], &[6, 8, 0]])),
+        ((23, 1), log(1, &[&[5, 0, 0], &[5, 0, 2, 0]])),
+        ((23, 1), log(0, &[&[4, 0], &[4, 0, 0]])),
+        ((27, 1), log(0, &[&[4, 0], &[1, 8, 3, 0]])),
+        ((28, 1), log(1, &[&[5, 0, 0], &[5, 0, 2]])),
+        ((28, 1), log(0, &[&[1, 0, 3, 1], &[1, 0, 3, 0]])),
+        ((28, 1), log(0, &[&[1, 0, 3, 1], &[2, 0, 3, 5]])),
+        // the rules between two records
+        ((24, 1), log(0, &[&[1, 0, 3, 1], &[2, 0, 7, 1]])),
+        ((24, 1), log(0, &[&[1, 0, 3, 1], &[2, 0, 3, 0]])),
+        ((24, 2), log(0, &[&[1, 0, 3, 3], &[2, 0, 3, 3], &[3, 0]])),
+        ((24, 3), log(0, &[&[4, 0], &[3, 1], &[4, 2], &[3, 1]])),
+        // faults of two records: the first of them, of whatever number
+        ((24, 1), log(1, &[&[5, 0, 0], &[5, 0, 0], &[5, 0, 2]])),
+        ((24, 2), log(0, &[&[4, 0], &[3, 1], &[3, 1], &[9, 9]])),
+        ((28, 0), log(1, &[&[5, 0, 2], &[5, 1, 0], &[5, 1, 0]])),
+        ((28, 1), log(1, &[&[6, 0], &[5, 1, 2], &[6, 8]])),
+        ((28, 1), log(1, &[&[6, 0], &[5, 1, 2], &[4, 0]])),
+        ((27, 1), log(0, &[&[4, 0], &[4, 8], &[5, 0, 0]])),
     ];
     for (answer, image) in cases {
-        let reading = Reading::of(&image);
+        let reading = trial.check(&image);
         assert_eq!(reading.answer(), answer, "the reference model on an example");
         for (length, offset) in [(image.len(), 0), (200, 100), (5, 0), (0, 0), (13, 14), (13, usize::MAX)] {
             trial.copy(&image, &reading, length, offset);
@@ -81,14 +102,26 @@ fn examples(trial: &mut Trial, _: &mut Random) {
     }
 }
 
-/// A buffer with room and one without, each at some offset.
-fn two_buffers(trial: &mut Trial, random: &mut Random, image: &[u8]) {
-    let reading = Reading::of(image);
+/// A buffer with room and one without, each at some offset. Gives number and index.
+fn two_buffers(trial: &mut Trial, random: &mut Random, image: &[u8]) -> (u8, usize) {
+    let reading = trial.check(image);
     let offset = random.below(9);
     trial.copy(image, &reading, (offset + image.len() + random.below(9)).min(256), offset);
     let length = (offset + random.below(image.len().max(1))).min(256);
     let offset = if random.once_in(8) { usize::MAX - random.below(300) } else { offset };
     trial.copy(image, &reading, length, offset);
+    reading.answer()
+}
+
+/// Each number that an image may get was met in this part, and each that names a record with an index above 0 too.
+fn all_met(trial: &Trial) {
+    for number in [0, 20, 21, 22, 23, 24, 25, 27, 28] {
+        assert!(trial.answers[number] > 0, "no image got the answer {number}");
+        assert!(number == 25 || trial.checks[number] != [0, 0], "no check of an image got the number {number}");
+    }
+    for number in [0, 23, 24, 27, 28] {
+        assert!(trial.checks[number][1] > 0, "no check of an image got the number {number} with an index above 0");
+    }
 }
 
 fn prefixes(trial: &mut Trial, random: &mut Random) {
@@ -109,6 +142,29 @@ fn changes(trial: &mut Trial, random: &mut Random) {
                 let mut changed = image.clone();
                 changed[i] = value;
                 two_buffers(trial, random, &changed);
+            }
+        }
+    }
+    all_met(trial);
+}
+
+/// In each place of an accepted image, before the record there and instead of it: a record that is refused by itself,
+/// and a second copy of an earlier one. The number is known, and the place is the index.
+fn bad_places(trial: &mut Trial, random: &mut Random) {
+    for image in accepted(&mut Random(7)) {
+        let (site, records) = (image[4], records_of(&image));
+        let most = if site == 0 { 24 } else { 16 };
+        for place in 0..=records.len() {
+            let earlier = records[..place].iter().map(|record| (24, record.clone()));
+            for (number, bad) in bad_records(site).into_iter().chain(earlier) {
+                for taken in 0..=1 {
+                    let rest = records.get(place + taken..).unwrap_or(&[]);
+                    let changed = [&records[..place], &[bad.clone()], rest].concat();
+                    if changed.len() <= most {
+                        let answer = two_buffers(trial, random, &exact(site, &changed));
+                        assert_eq!(answer, (number, place), "the reference model on {changed:?}");
+                    }
+                }
             }
         }
     }
@@ -163,9 +219,9 @@ fn rows(trial: &mut Trial, random: &mut Random, site: u8, records: &[&[u8]], mos
     }
 }
 
-/// Short logs of two transactions, legal and not, with other masks for one of them, and a record that no log may hold.
+/// Short logs of two transactions, legal and not, with other masks for one of them, and records that no log may hold.
 fn sequences(trial: &mut Trial, random: &mut Random) {
-    let coordinator: [&[u8]; 12] = [
+    let coordinator: [&[u8]; 14] = [
         &[1, 0, 3, 1],
         &[2, 0, 3, 1],
         &[1, 0, 3, 3],
@@ -177,11 +233,14 @@ fn sequences(trial: &mut Trial, random: &mut Random) {
         &[2, 7, 3, 1],
         &[3, 7],
         &[4, 7],
+        &[5, 0],
         &[3, 8],
+        &[2, 0, 3, 4],
     ];
     rows(trial, random, 0, &coordinator, 4, &mut vec![]);
-    let participant: [&[u8]; 8] = [&[5, 0, 0], &[5, 0, 1], &[6, 0], &[7, 0], &[5, 7, 1], &[6, 7], &[7, 7], &[6, 8]];
-    rows(trial, random, 5, &participant, 4, &mut vec![]);
+    let participant: [&[u8]; 7] = [&[5, 0, 0], &[5, 0, 1], &[6, 0], &[7, 0], &[5, 7, 1], &[6, 7], &[7, 7]];
+    let bad: [&[u8]; 3] = [&[4, 0], &[6, 8], &[5, 0, 2]];
+    rows(trial, random, 5, &[&participant[..], &bad].concat(), 4, &mut vec![]);
 }
 
 /// Every count at every site, over so many records.
@@ -209,7 +268,7 @@ fn long_images(trial: &mut Trial, random: &mut Random) {
         two_buffers(trial, random, &image[..13]);
         two_buffers(trial, random, &exact(1, &[vec![7, 2], record, vec![6, 3]]));
     }
-    let reading = Reading::of(&k10);
+    let reading = trial.check(&k10);
     for high in 8..64 {
         for low in 0..4 {
             trial.copy(&k10, &reading, 16, (1 << high) + low);
@@ -220,7 +279,7 @@ fn long_images(trial: &mut Trial, random: &mut Random) {
 /// Every buffer up to 8 bytes more than needed, at every offset up to beyond its end, and at offsets that would wrap round.
 fn buffers(trial: &mut Trial, _: &mut Random) {
     for image in accepted(&mut Random(7)) {
-        let reading = Reading::of(&image);
+        let reading = trial.check(&image);
         for length in 0..=image.len() + 8 {
             for offset in 0..=length + 3 {
                 trial.copy(&image, &reading, length, offset);
@@ -242,9 +301,7 @@ fn random_bytes(trial: &mut Trial, random: &mut Random) {
             two_buffers(trial, random, &image);
         }
     }
-    for answer in [0, 20, 21, 22, 23, 24, 25] {
-        assert!(trial.answers[answer] > 0, "no random image got the answer {answer}");
-    }
+    all_met(trial);
 }
 
 /// All numbers, twice, so that bytes left as they were are told from bytes written.
@@ -254,14 +311,21 @@ fn messages(trial: &mut Trial, _: &mut Random) {
     }
 }
 
+/// Each answer that came, and how often.
+fn counted(answers: &[usize; 256]) -> String {
+    let met = answers.iter().enumerate().filter(|(_, times)| **times > 0);
+    met.map(|(answer, times)| format!("{answer}: {times}")).collect::<Vec<_>>().join(", ")
+}
+
 fn main() {
-    let parts: [(&'static str, fn(&mut Trial, &mut Random)); 12] = [
+    let parts: [(&'static str, fn(&mut Trial, &mut Random)); 13] = [
         ("vectors", vectors),
         ("examples", examples),
         ("message numbers", messages),
         ("buffers and offsets", buffers),
         ("prefixes of accepted images", prefixes),
         ("single-byte changes of accepted images", changes),
+        ("a bad record in each place", bad_places),
         ("borders of records", borders),
         ("images of one record", single_records),
         ("sequences of records", sequences),
@@ -271,7 +335,7 @@ fn main() {
     ];
     let images = accepted(&mut Random(7));
     assert!(images.iter().collect::<BTreeSet<_>>().len() >= 50);
-    assert!(images.iter().all(|image| Reading::of(image).answer() == 0));
+    assert!(images.iter().all(|image| codec::check_image(image) == (0, image[5] as usize)));
     assert_eq!(images.iter().filter(|image| image[4] == 0).map(Vec::len).max(), Some(182));
     assert_eq!(images.iter().filter(|image| image[4] != 0).map(Vec::len).max(), Some(110));
     println!("{} accepted images, {} bytes", images.len(), images.iter().map(Vec::len).sum::<usize>());
@@ -283,10 +347,13 @@ fn main() {
         let before = trial.cases;
         trial.part = name;
         trial.answers = [0; 256];
+        trial.checks = [[0; 2]; 256];
         part(&mut trial, &mut random);
-        let answers: Vec<String> =
-            trial.answers.iter().enumerate().filter(|(_, n)| **n > 0).map(|(a, n)| format!("{a}: {n}")).collect();
-        println!("{name}: {} cases (answers {})", trial.cases - before, answers.join(", "));
+        println!("{name}: {} cases (answers {})", trial.cases - before, counted(&trial.answers));
+        if trial.checks != [[0; 2]; 256] {
+            let [all, above] = [trial.checks.map(|[zero, above]| zero + above), trial.checks.map(|[_, above]| above)];
+            println!("  checks {}; with an index above 0 {}", counted(&all), counted(&above));
+        }
     }
     println!("{} cases, ok", trial.cases);
 }

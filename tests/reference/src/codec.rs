@@ -118,7 +118,8 @@ impl LogRecord {
         }
     }
 
-    /// 23: kind not one of that site's, wrong length or field.
+    /// A record judged by itself. 23: kind not one of that site's, or length not the kind's; then 27: transaction
+    /// above 7; then 28: mask or presumption.
     pub fn parse(site: u8, bytes: &[u8]) -> Result<LogRecord, u8> {
         let Some(&kind) = bytes.first() else { return Err(23) };
         let of_site = if site == COORDINATOR { 1..=4 } else { 5..=7 };
@@ -127,36 +128,33 @@ impl LogRecord {
         }
         let transaction = bytes[1];
         if transaction >= TRANSACTIONS {
-            return Err(23);
+            return Err(27);
         }
         let record = match kind {
-            1 | 2 => {
-                let (members, presume_commit) = (bytes[2], bytes[3]);
-                if members == 0 || !is_part(presume_commit, members) {
-                    return Err(23);
-                }
-                if kind == 1 {
-                    if presume_commit == 0 {
-                        return Err(23);
-                    }
-                    LogRecord::Init { transaction, members, presume_commit }
-                } else {
-                    LogRecord::Commit { transaction, members, presume_commit }
-                }
-            }
+            1 => LogRecord::Init { transaction, members: bytes[2], presume_commit: bytes[3] },
+            2 => LogRecord::Commit { transaction, members: bytes[2], presume_commit: bytes[3] },
             3 => LogRecord::CommitEnd { transaction },
             4 => LogRecord::AbortEnd { transaction },
-            5 => {
-                let presumption = bytes[2];
-                if presumption > 1 {
-                    return Err(23);
-                }
-                LogRecord::Prepared { transaction, presumption }
-            }
+            5 => LogRecord::Prepared { transaction, presumption: bytes[2] },
             6 => LogRecord::Committed { transaction },
             _ => LogRecord::Aborted { transaction },
         };
-        Ok(record)
+        if record.has_legal_fields() {
+            Ok(record)
+        } else {
+            Err(28)
+        }
+    }
+
+    /// Masks and presumption; the transaction apart.
+    fn has_legal_fields(&self) -> bool {
+        let legal = |members: Mask, presume_commit: Mask| members != 0 && is_part(presume_commit, members);
+        match *self {
+            LogRecord::Init { members, presume_commit, .. } => legal(members, presume_commit) && presume_commit != 0,
+            LogRecord::Commit { members, presume_commit, .. } => legal(members, presume_commit),
+            LogRecord::Prepared { presumption, .. } => presumption <= 1,
+            _ => true,
+        }
     }
 }
 
@@ -198,23 +196,30 @@ fn check_site_and_count(site: u64, count: usize) -> Result<u8, u8> {
     Ok(site as u8)
 }
 
-/// 23 before 24 at each record in turn.
-fn check_records(site: u8, raw: &[&[u8]]) -> Result<Vec<LogRecord>, u8> {
+/// A number that refuses an image, and the index from 0 of the record that fails, 0 before the first is looked at.
+#[derive(Clone, Copy, PartialEq, Eq, Debug)]
+pub struct Refusal {
+    pub number: u8,
+    pub index: usize,
+}
+
+/// At each record in turn 23, 27 or 28, then 24: the first one that fails decides.
+fn check_records(site: u8, raw: &[&[u8]]) -> Result<Vec<LogRecord>, Refusal> {
     let mut log: Vec<LogRecord> = Vec::new();
-    for bytes in raw {
-        let record = LogRecord::parse(site, bytes)?;
+    for (index, bytes) in raw.iter().enumerate() {
+        let record = LogRecord::parse(site, bytes).map_err(|number| Refusal { number, index })?;
         log.push(record);
         let of_one: Vec<LogRecord> =
             log.iter().copied().filter(|r| r.transaction() == record.transaction()).collect();
         if !legal_sequence(&of_one) {
-            return Err(24);
+            return Err(Refusal { number: 24, index });
         }
     }
     Ok(log)
 }
 
-/// Site and log of an image, or 20 to 24.
-pub fn read_image(image: &[u8]) -> Result<(u8, Vec<LogRecord>), u8> {
+/// Site of an image and the bytes of each record, or 20 to 22.
+fn split_image(image: &[u8]) -> Result<(u8, Vec<&[u8]>), u8> {
     if image.len() < 6 || image[..4] != OPENING {
         return Err(20);
     }
@@ -239,8 +244,21 @@ pub fn read_image(image: &[u8]) -> Result<(u8, Vec<LogRecord>), u8> {
     if expected != image.len() {
         return Err(22);
     }
-    let raw: Vec<&[u8]> = places.iter().map(|&(from, to)| &image[from..to]).collect();
+    Ok((site, places.iter().map(|&(from, to)| &image[from..to]).collect()))
+}
+
+/// Site and log of an image, or its refusal: 20 to 24, 27, 28.
+pub fn read_image(image: &[u8]) -> Result<(u8, Vec<LogRecord>), Refusal> {
+    let (site, raw) = split_image(image).map_err(|number| Refusal { number, index: 0 })?;
     Ok((site, check_records(site, &raw)?))
+}
+
+/// Number and index of reading an image: 0 and the count where it is accepted.
+pub fn check_image(image: &[u8]) -> (u8, usize) {
+    match read_image(image) {
+        Ok((_, log)) => (0, log.len()),
+        Err(Refusal { number, index }) => (number, index),
+    }
 }
 
 /// The image of a legal log.
@@ -263,11 +281,11 @@ pub fn image(site: u8, log: &[LogRecord]) -> Vec<u8> {
 }
 
 /// Writes the image of a log, records given as bytes, at the offset of the lent buffer.
-/// Answers the image's length, or 21, 23, 24, 25; a refusal leaves the buffer alone.
+/// Answers the image's length, or 21, 23, 27, 28, 24, 25, without an index; a refusal leaves the buffer alone.
 pub fn write_image(site: u64, records: &[Vec<u8>], buffer: &mut [u8], offset: u64) -> Result<usize, u8> {
     let site = check_site_and_count(site, records.len())?;
     let raw: Vec<&[u8]> = records.iter().map(|r| r.as_slice()).collect();
-    let log = check_records(site, &raw)?;
+    let log = check_records(site, &raw).map_err(|refusal| refusal.number)?;
     let bytes = image(site, &log);
     let room = (buffer.len() as u64).checked_sub(offset).ok_or(25u8)?;
     if room < bytes.len() as u64 {
@@ -299,9 +317,9 @@ mod tests {
     fn a_length_cannot_wrap() {
         // 14 + FFFF + .. would come round to the end in 16 bits.
         let mut bytes = vec![0x44, 0x50, 0x52, 0x4C, 1, 2, 14, 0, 0xFF, 0xFF, 13, 0, 4, 0, 5, 0, 1];
-        assert_eq!(read_image(&bytes), Err(22));
+        assert_eq!(check_image(&bytes), (22, 0));
         bytes[10] = 17;
-        assert_eq!(read_image(&bytes), Err(22));
+        assert_eq!(check_image(&bytes), (22, 0));
     }
 
     #[test]
@@ -309,5 +327,50 @@ mod tests {
         let log = vec![vec![9, 9]; 17];
         assert_eq!(write_image(1, &log, &mut [0; 200], 0), Err(21));
         assert_eq!(write_image(0, &log, &mut [0; 200], 0), Err(23));
+    }
+
+    #[test]
+    fn each_fault_of_a_record_has_its_number() {
+        let faults: [(u8, u8, &[u8]); 18] = [
+            (23, 0, &[]),
+            (23, 0, &[5, 0, 1]),
+            (23, 1, &[4, 0]),
+            (23, 8, &[8, 8]),
+            (23, 0, &[1, 8, 0]),
+            (23, 1, &[6, 8, 0]),
+            (23, 1, &[5, 8, 2, 0]),
+            (27, 0, &[1, 8, 3, 0]),
+            (27, 0, &[2, 255, 0, 0]),
+            (27, 0, &[3, 8]),
+            (27, 1, &[5, 8, 2]),
+            (27, 8, &[7, 128]),
+            (28, 0, &[1, 7, 0, 0]),
+            (28, 0, &[1, 7, 3, 0]),
+            (28, 0, &[1, 7, 3, 4]),
+            (28, 0, &[2, 0, 0, 0]),
+            (28, 0, &[2, 0, 1, 2]),
+            (28, 1, &[5, 0, 2]),
+        ];
+        for (number, site, bytes) in faults {
+            assert_eq!(LogRecord::parse(site, bytes), Err(number), "{bytes:?} at site {site}");
+            assert_eq!(write_image(site as u64, &[bytes.to_vec()], &mut [], 0), Err(number));
+        }
+        assert!(LogRecord::parse(0, &[2, 7, 3, 0]).is_ok());
+    }
+
+    #[test]
+    fn the_first_record_that_fails_is_told() {
+        let mut log: Vec<LogRecord> = (0..8).map(|transaction| LogRecord::Committed { transaction }).collect();
+        assert_eq!(check_image(&image(1, &log)), (0, 8));
+        log[6] = LogRecord::Committed { transaction: 9 };
+        assert_eq!(check_image(&image(1, &log)), (27, 6));
+        log[4] = LogRecord::Prepared { transaction: 4, presumption: 2 };
+        assert_eq!(check_image(&image(1, &log)), (28, 4));
+        // the later one of the two that do not fit
+        log[3] = LogRecord::Aborted { transaction: 1 };
+        assert_eq!(check_image(&image(1, &log)), (24, 3));
+        log[0] = LogRecord::AbortEnd { transaction: 0 };
+        assert_eq!(check_image(&image(1, &log)), (23, 0));
+        assert_eq!(check_image(&image(9, &log)), (21, 0));
     }
 }

@@ -1,4 +1,4 @@
-//! Reference model of document 01 for tests, with the readings that docs/DECISIONS.md chooses.
+//! Reference model of document 01 and Job 1 of document 02 for tests, with the readings that docs/DECISIONS.md chooses.
 //! It was written from the text and from no Rattle file, so that the two can be compared.
 //! 01's words in the field's names: hub = coordinator, box = participant,
 //! handover = transaction, PC = presume_commit.

@@ -51,11 +51,12 @@ fn answer_dump(line: &str) -> Option<String> {
     Some(run.dump().join("|"))
 }
 
+/// `number index`, and on 0, where the index is the count, also `site count rec rec ..`
 fn answer_read(line: &str) -> Option<String> {
     Some(match read_image(&hex(line)?) {
-        Err(number) => number.to_string(),
+        Err(Refusal { number, index }) => format!("{number} {index}"),
         Ok((site, log)) => {
-            let mut out = format!("0 {} {}", site, log.len());
+            let mut out = format!("0 {} {} {}", log.len(), site, log.len());
             for record in log {
                 out += " ";
                 out += &decimals(&record.bytes());

@@ -96,6 +96,19 @@ fn image_of_raw(site: u8, records: &[Vec<u8>]) -> Vec<u8> {
     out
 }
 
+/// A fault in one record by itself: kind, length, transaction, mask or presumption.
+fn spoil(rng: &mut Rng, record: &mut Vec<u8>) {
+    match (rng.below(6), record.as_mut_slice()) {
+        (0, [kind, ..]) => *kind = rng.pick(&[0, 3, 6, 8, 255]),
+        (1, _) => record.resize(rng.below(6), 0),
+        (3.., [1 | 2, _, members, _]) if rng.percent(30) => *members = 0,
+        (3.., [1 | 2, _, members, presume_commit]) => *presume_commit = if rng.percent(50) { 0 } else { !*members },
+        (3.., [5, _, presumption]) => *presumption = 2 + rng.below(254) as u8,
+        (_, [_, transaction, ..]) => *transaction = 8 + rng.below(248) as u8,
+        _ => {}
+    }
+}
+
 pub fn random_image(rng: &mut Rng) -> Vec<u8> {
     let site = rng.below(9) as u8;
     let legal = |rng: &mut Rng| {
@@ -103,7 +116,19 @@ pub fn random_image(rng: &mut Rng) -> Vec<u8> {
         image(site, &log)
     };
     match rng.below(100) {
-        0..=39 => legal(rng),
+        0..=24 => legal(rng),
+        25..=39 => {
+            // A legal log with one record spoilt, or one twice, or two.
+            let mut records: Vec<Vec<u8>> = legal_log(rng, site).iter().map(|r| r.bytes()).collect();
+            let mut at = rng.below(records.len().max(1));
+            for _ in 0..1 + rng.below(2) {
+                if let Some(record) = records.get_mut(at) {
+                    spoil(rng, record);
+                }
+                at += rng.below(2);
+            }
+            image_of_raw(site, &records)
+        }
         40..=59 => {
             let mut bytes = legal(rng);
             let at = rng.below(bytes.len());

@@ -6,13 +6,13 @@ use mathlib.Core.Logic.{⊎-elim}
 use Prim.Native.Nat.{ℕ, zero, suc, _+_, _-_, _<_, _≤_}
 use native.Mathlib.Omega.{arith}
 use borrow.Author.Tests.{le-leb, lt-leb, eq-eqb, ne-eqb, eqb-true}
-use lib.Dec.{T, eqb, leb, leb→le, eqb·suc-zero}
+use lib.Dec.{T, eqb, leb, ltb, leb→le, eqb·suc-zero}
 use lib.ListN.{length, getD, take, List·getD-eq-default}
 use Rattle.codec.specs.Lists.{every}
-use Rattle.codec.specs.Records.{LogRecord, bytesOf, recordOf, lengths, lengthOf, membersIn, presumeCommitIn, recordKindAt, masksInRange, fieldsInRange, isRecord}
+use Rattle.codec.specs.Records.{LogRecord, bytesOf, recordOf, lengths, lengthOf, membersIn, presumeCommitIn, recordKindAt, kindAndLength, masksInRange, fieldsInRange}
 use Rattle.codec.specs.Sets.{empty, part}
-use Rattle.codec.specs.Answers.{recordIn, noRecord}
-use Rattle.codec.specs.Inside.{recordFrom, mayFollow, answerTo}
+use Rattle.codec.specs.Answers.{recordIn}
+use Rattle.codec.specs.Inside.{recordFrom, mayFollow, answerTo, answerOn}
 use Rattle.codec.specs.declared.record.Record.{Record}
 use Rattle.codec.specs.laws.Tests.{below, below-at, of-true, lt-or-le}
 
@@ -87,17 +87,24 @@ kind-length s k e = ⊎-elim by-low (λ h. absurd (rw (no-kind-high s k h) at (o
     by-low h = ⊎-elim (λ z. absurd (rw (no-kind-low s k z) at (of-true e))) (λ g. long k g h) (lt-or-le k 1)
 
 module _ (s : ℕ) (x : Record) where
-  -- the length is that of the kind, so three tests are left
-  pub is-record : isRecord s (bytesOf (recordIn x)) ≡ every (recordKindAt s (x .kind) ∷ leb (x .transaction) 7 ∷ fieldsInRange (recordIn x) ∷ [])
-  unfolding isRecord recordOf bytesOf every recordIn
-  is-record = by (recordKindAt s (x .kind)) refl
+  -- the length is that of the kind
+  own-length : kindAndLength s (bytesOf (recordIn x)) ≡ recordKindAt s (x .kind)
+  unfolding kindAndLength recordOf bytesOf recordIn
+  own-length = by (recordKindAt s (x .kind)) refl
     where
-      by : (b : Bool) → recordKindAt s (x .kind) ≡ b → isRecord s (bytesOf (recordIn x)) ≡ every (recordKindAt s (x .kind) ∷ leb (x .transaction) 7 ∷ fieldsInRange (recordIn x) ∷ [])
+      by : (b : Bool) → recordKindAt s (x .kind) ≡ b → kindAndLength s (bytesOf (recordIn x)) ≡ recordKindAt s (x .kind)
       by false e = rw e
       by true e =
           let two : 2 ≤ lengthOf (x .kind) = kind-length s (x .kind) e in
           let size : length (bytesOf (recordIn x)) ≡ lengthOf (x .kind) = omega (arith, bytes-length x) in
           rw (e, eq-eqb _ _ size)
+
+  -- so its kind, its transaction, its fields and the record before it decide
+  pub judged-by : (y : LogRecord)
+      → answerOn s (bytesOf (recordIn x)) y x
+      ≡ answerTo (not (recordKindAt s (x .kind))) (ltb 7 (x .transaction)) (not (fieldsInRange (recordIn x))) (not (mayFollow y (recordIn x))) x
+  unfolding recordOf bytesOf recordIn
+  judged-by y = rw own-length
 
 -- the other kinds have no fields
 fieldless : (a b c : Bool) (k : ℕ) → 1 ≤ k → k < 8 → (k ≡ 1 → ⊥) → (k ≡ 2 → ⊥) → (k ≡ 5 → ⊥)
@@ -128,27 +135,6 @@ module _ (x : Record) where
   unfolding fieldsInRange recordIn
   fields-high h = past _ _ _ (x .kind) h
 
-no-record : (s : ℕ) (bytes : List ℕ) → getD bytes 0 0 ≡ 0 → isRecord s bytes ≡ false
-unfolding isRecord recordOf every
-no-record s bytes e = rw (e, no-kind-low s 0 (omega arith))
-
-module _ (s : ℕ) (x : Record) where
-  pub wrong-kind : recordKindAt s (x .kind) ≡ false → isRecord s (bytesOf (recordIn x)) ≡ false
-  unfolding every
-  wrong-kind e = rw (is-record s x, e)
-
-  pub wrong-transaction : 7 < x .transaction → isRecord s (bytesOf (recordIn x)) ≡ false
-  unfolding every
-  wrong-transaction h = rw (is-record s x, lt-leb (x .transaction) 7 h) (and-false (recordKindAt s (x .kind)))
-
-  pub wrong-fields : fieldsInRange (recordIn x) ≡ false → isRecord s (bytesOf (recordIn x)) ≡ false
-  unfolding every
-  wrong-fields e = rw (is-record s x, e, and-false (leb (x .transaction) 7)) (and-false (recordKindAt s (x .kind)))
-
-  pub right-record : recordKindAt s (x .kind) ≡ true → x .transaction ≤ 7 → fieldsInRange (recordIn x) ≡ true → isRecord s (bytesOf (recordIn x)) ≡ true
-  unfolding every
-  right-record e h f = rw (is-record s x, e, le-leb (x .transaction) 7 h, f)
-
 module _ (x : Record) (h : x .first < 256) where
   masks : every (leb 1 (x .first) ∷ leb (x .first) 255 ∷ part (x .second) (x .first) ∷ []) ≡ (leb 1 (x .first) && part (x .second) (x .first))
   unfolding every
@@ -166,8 +152,8 @@ pub fields-prepared : (x : Record) → x .kind ≡ 5 → fieldsInRange (recordIn
 unfolding fieldsInRange recordIn lengthOf lengths
 fields-prepared x e = rw e
 
-pub wrong-length : (s : ℕ) (bytes : List ℕ) → (length bytes ≡ lengthOf (getD bytes 0 0) → ⊥) → isRecord s bytes ≡ false
-unfolding isRecord recordOf every
+pub wrong-length : (s : ℕ) (bytes : List ℕ) → (length bytes ≡ lengthOf (getD bytes 0 0) → ⊥) → kindAndLength s bytes ≡ false
+unfolding kindAndLength recordOf
 wrong-length s bytes h = rw (ne-eqb (length bytes) (lengthOf (getD bytes 0 0)) h) (and-false (recordKindAt s (getD bytes 0 0)))
 
 -- bytes of their kind's length are those of the record read from them
@@ -181,20 +167,21 @@ from (a ∷ b ∷ c ∷ d ∷ []) h e = rw (← e)
 from (a ∷ b ∷ c ∷ d ∷ f ∷ bytes) h e = absurd (omega (arith, length-most a))
 
 module _ (s : ℕ) where
-  pub read-as : (newest : List Record) (bytes : List ℕ) → length bytes ≡ lengthOf (getD bytes 0 0)
-      → answerTo (isRecord s (bytesOf (recordIn (recordFrom bytes)))) (mayFollow (recordIn (getD newest (recordFrom bytes .transaction) noRecord)) (recordIn (recordFrom bytes))) (recordFrom bytes)
-      ≡ answerTo (isRecord s bytes) (mayFollow (recordIn (getD newest (recordFrom bytes .transaction) noRecord)) (recordOf bytes)) (recordFrom bytes)
-  unfolding recordFrom recordIn bytesOf recordOf answerTo
-  read-as newest [] e = rw (no-record s (0 ∷ 0 ∷ take (lengthOf 0 - 2) (0 ∷ 0 ∷ [])) refl, no-record s [] refl)
-  read-as newest (a ∷ []) e = absurd (not-one a (sym e))
-  read-as newest (a ∷ b ∷ bytes) e =
-      ap (λ (y : LogRecord). answerTo (isRecord s (bytesOf y)) (mayFollow (recordIn (getD newest b noRecord)) y) (recordFrom (a ∷ b ∷ bytes)))
-      (from (a ∷ b ∷ bytes) (omega arith) e)
+  -- no bytes, and kind 0
+  no-kind : (bytes : List ℕ) → getD bytes 0 0 ≡ 0 → kindAndLength s bytes ≡ false
+  unfolding kindAndLength recordOf
+  no-kind bytes e = rw (e, no-kind-low s 0 (omega arith))
 
-  pub from-bytes : (bytes : List ℕ) → isRecord s bytes ≡ true → recordIn (recordFrom bytes) ≡ recordOf bytes
-  unfolding isRecord recordOf every
-  from-bytes [] e = absurd (false≢true (sym (no-record s [] refl) ∙ e))
+  pub read-as : (y : LogRecord) (bytes : List ℕ) → length bytes ≡ lengthOf (getD bytes 0 0)
+      → answerOn s (bytesOf (recordIn (recordFrom bytes))) y (recordFrom bytes) ≡ answerOn s bytes y (recordFrom bytes)
+  unfolding recordFrom recordIn bytesOf recordOf answerTo
+  read-as y [] e = rw (no-kind (0 ∷ 0 ∷ take (lengthOf 0 - 2) (0 ∷ 0 ∷ [])) refl, no-kind [] refl)
+  read-as y (a ∷ []) e = absurd (not-one a (sym e))
+  read-as y (a ∷ b ∷ bytes) e =
+      ap (λ (z : LogRecord). answerOn s (bytesOf z) y (recordFrom (a ∷ b ∷ bytes))) (from (a ∷ b ∷ bytes) (omega arith) e)
+
+  pub from-bytes : (bytes : List ℕ) → kindAndLength s bytes ≡ true → recordIn (recordFrom bytes) ≡ recordOf bytes
+  unfolding kindAndLength recordOf
+  from-bytes [] e = absurd (false≢true (sym (no-kind [] refl) ∙ e))
   from-bytes (a ∷ bytes) e =
-      let kind = and-eq-true-iff (recordKindAt s a) _ .0 e in
-      let size = and-eq-true-iff (eqb (length (a ∷ bytes)) (lengthOf a)) _ .0 (kind .1) in
-      from (a ∷ bytes) (omega arith) (eqb-true (length (a ∷ bytes)) (lengthOf a) (size .0))
+      from (a ∷ bytes) (omega arith) (eqb-true (length (a ∷ bytes)) (lengthOf a) (and-eq-true-iff (recordKindAt s a) _ .0 e .1))

@@ -2,13 +2,13 @@
 use Prim.Native.Nat.{ℕ, zero, suc, _+_, _≤_, _<_}
 use mathlib.Core.Path.{_≡_, refl, ap, ap₂, sym, _∙_}
 use mathlib.Core.Bool.{Bool, true, false, cond, not, and-false, false≢true}
-use mathlib.Core.List.{List, [], _∷_, _++_, map}
+use mathlib.Core.List.{List, [], _∷_, _++_, map, append-assoc}
 use lib.Dec.{ltb}
 use lib.ListN.{length}
 use native.Mathlib.Omega.{arith}
 use borrow.Author.Tests.{ne-eqb, not-false, lt-ltb, le-ltb, ltb-false}
-use Rattle.codec.specs.Lists.{every, first}
-use Rattle.codec.specs.Records.{LogRecord, bytesOf, recordOf, lengthOf, isRecord, inSequence, recordTests, recordRefusals}
+use Rattle.codec.specs.Lists.{first}
+use Rattle.codec.specs.Records.{LogRecord, bytesOf, recordOf, lengthOf, kindAndLength, fieldsInRange, inSequence, recordTests, recordRefusals}
 use Rattle.codec.specs.Image.{image, overLimit, logRefusals, writeRefusals, stored, writeUnless, writeImage}
 use Rattle.codec.specs.Answers.{written}
 use Rattle.codec.specs.laws.Fields.{not-one, no-kind-low}
@@ -20,20 +20,67 @@ pub passed : (n : ℕ) (test : Bool) (rest : ℕ) → cond test (suc n) rest ≡
 passed n true rest e = absurd (omega arith)
 passed n false rest e = (refl, e)
 
+-- a number that refuses, or else another
+abbrev pub orElse : ℕ → ℕ → ℕ
+orElse zero m = m
+orElse (suc n) m = suc n
+
+or-else : (b : Bool) (n a m : ℕ) {k : ℕ} → k ≡ orElse a m → cond b (suc n) k ≡ orElse (cond b (suc n) a) m
+or-else true n a m e = refl
+or-else false n a m e = e
+
+or-or : (a b c : ℕ) → orElse a (orElse b c) ≡ orElse (orElse a b) c
+or-or zero b c = refl
+or-or (suc a) b c = refl
+
+neither : (n m : ℕ) → orElse n m ≡ 0 → (n ≡ 0) × (m ≡ 0)
+neither zero m e = (refl, e)
+neither (suc n) m e = absurd (omega arith)
+
 -- ---- records
 
-record-bytes : (s : ℕ) (bytes : List ℕ) → isRecord s bytes ≡ true → bytesOf (recordOf bytes) ≡ bytes
-unfolding isRecord recordOf every bytesOf
+record-bytes : (s : ℕ) (bytes : List ℕ) → kindAndLength s bytes ≡ true → bytesOf (recordOf bytes) ≡ bytes
+unfolding kindAndLength recordOf bytesOf
 record-bytes s [] e = absurd (false≢true (rw (no-kind-low s 0 (omega arith)) at e))
 record-bytes s (kind ∷ []) e = absurd (false≢true (rw (ne-eqb 1 (lengthOf kind) (λ p. not-one kind (sym p)), and-false) at e))
 record-bytes s (kind ∷ t ∷ fields) e = refl
 
-record-passed : (s : ℕ) (before : List LogRecord) (bytes : List ℕ) (cs : List (ℕ × Bool)) → first (recordTests s before bytes ++ cs) ≡ 0
-    → (isRecord s bytes ≡ true) × (first cs ≡ 0)
-unfolding recordTests first
-record-passed s before bytes cs e =
-    let kept = passed 22 (not (isRecord s bytes)) _ e in
-    (not-false (isRecord s bytes) (kept .0), passed 23 (not (inSequence s before (recordOf bytes))) _ (kept .1) .1)
+module _ (s : ℕ) (before : List LogRecord) (bytes : List ℕ) where
+  -- what the tests on a record tell where none strikes
+  pub record Sound : Type 0 where
+    pub shaped : kindAndLength s bytes ≡ true
+    pub low : recordOf bytes .transaction < 8
+    pub ranged : fieldsInRange (recordOf bytes) ≡ true
+    pub follows : inSequence s before (recordOf bytes) ≡ true
+
+  pub sound : first (recordTests s before bytes) ≡ 0 → Sound
+  unfolding recordTests first
+  sound e =
+      let kind = passed 22 (not (kindAndLength s bytes)) _ e in
+      let transaction = passed 26 (ltb 7 (recordOf bytes .transaction)) _ (kind .1) in
+      let fields = passed 27 (not (fieldsInRange (recordOf bytes))) _ (transaction .1) in
+      let sequence = passed 23 (not (inSequence s before (recordOf bytes))) _ (fields .1) in
+      record {
+        shaped = not-false (kindAndLength s bytes) (kind .0);
+        low = omega (arith, ltb-false 7 (recordOf bytes .transaction) (transaction .0));
+        ranged = not-false (fieldsInRange (recordOf bytes)) (fields .0);
+        follows = not-false (inSequence s before (recordOf bytes)) (sequence .0);
+      }
+
+  pub passes : Sound → first (recordTests s before bytes) ≡ 0
+  unfolding recordTests first
+  passes x = rw (x .shaped, le-ltb 7 (recordOf bytes .transaction) (omega (arith, x .low)), x .ranged, x .follows)
+
+  -- the tests on a record decide, or else those behind them
+  pub tests-or : (cs : List (ℕ × Bool)) → first (recordTests s before bytes ++ cs) ≡ orElse (first (recordTests s before bytes)) (first cs)
+  unfolding recordTests first
+  tests-or cs =
+      or-else (not (kindAndLength s bytes)) 22 _ _
+      (or-else (ltb 7 (recordOf bytes .transaction)) 26 _ _
+      (or-else (not (fieldsInRange (recordOf bytes))) 27 _ _ (or-else (not (inSequence s before (recordOf bytes))) 23 0 _ refl)))
+
+  pub record-passed : (cs : List (ℕ × Bool)) → first (recordTests s before bytes ++ cs) ≡ 0 → (first (recordTests s before bytes) ≡ 0) × (first cs ≡ 0)
+  record-passed cs e = neither (first (recordTests s before bytes)) (first cs) (sym (tests-or cs) ∙ e)
 
 -- records that no refusal strikes are the bytes of their log
 pub records-bytes : (s : ℕ) (before : List LogRecord) (records : List (List ℕ)) → first (recordRefusals s before records) ≡ 0
@@ -43,7 +90,7 @@ records-bytes s before [] e = refl
 records-bytes s before (bytes ∷ rest) e =
     let next = before ++ (recordOf bytes ∷ []) in
     let one = record-passed s before bytes (recordRefusals s next rest) e in
-    ap₂ _∷_ (record-bytes s bytes (one .0)) (records-bytes s next rest (one .1))
+    ap₂ _∷_ (record-bytes s bytes (sound s before bytes (one .0) .shaped)) (records-bytes s next rest (one .1))
 
 pub log-records : (log : List LogRecord) → map recordOf (map bytesOf log) ≡ log
 unfolding recordOf bytesOf
@@ -52,26 +99,14 @@ log-records (x ∷ log) = ap (x ∷_) (log-records log)
 
 -- ---- the answer of the writer's call
 
--- a number that refuses, or else another
-abbrev orElse : ℕ → ℕ → ℕ
-orElse zero m = m
-orElse (suc n) m = suc n
-
-or-else : (b : Bool) (n a m : ℕ) {k : ℕ} → k ≡ orElse a m → cond b (suc n) k ≡ orElse (cond b (suc n) a) m
-or-else true n a m e = refl
-or-else false n a m e = e
-
 records-or : (s : ℕ) (before : List LogRecord) (records : List (List ℕ)) (cs : List (ℕ × Bool))
     → first (recordRefusals s before records ++ cs) ≡ orElse (first (recordRefusals s before records)) (first cs)
-unfolding first recordRefusals recordTests
-records-or s before [] cs = refl
+unfolding recordRefusals
+records-or s before [] cs = unfold first in refl
 records-or s before (bytes ∷ records) cs =
-    or-else (not (isRecord s bytes)) 22 _ _
-    (or-else (not (inSequence s before (recordOf bytes))) 23 _ _ (records-or s (before ++ (recordOf bytes ∷ [])) records cs))
-
-neither : (n m : ℕ) → orElse n m ≡ 0 → (n ≡ 0) × (m ≡ 0)
-neither zero m e = (refl, e)
-neither (suc n) m e = absurd (omega arith)
+    let next = before ++ (recordOf bytes ∷ []) in
+    rw (append-assoc, tests-or s before bytes (recordRefusals s next records ++ cs), tests-or s before bytes (recordRefusals s next records), records-or s next records cs)
+    (or-or (first (recordTests s before bytes)) (first (recordRefusals s next records)) (first cs))
 
 write-answer : (n s : ℕ) (log : List LogRecord) (at : ℕ) (buffer : List ℕ) → writeUnless n s log at buffer .answer ≡ n
 unfolding writeUnless

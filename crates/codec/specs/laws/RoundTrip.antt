@@ -11,7 +11,7 @@ use borrow.Author.Tests.{leb-true, ltb-false, not-false, le-leb, le-ltb}
 use Rattle.codec.specs.laws.Tests.{or-none, same-list}
 use Rattle.codec.specs.Lists.{same, first}
 use Rattle.codec.specs.Records.{LogRecord, bytesOf, recordOf, recordRefusals}
-use Rattle.codec.specs.Image.{magic, headLength, pairTable, image, pairsOf, siteIn, countIn, pairsIn, recordsIn, overLimit, exact, tableExact, imageRefusals, accepted, readingNumber, readUnless, readImage, logRefusals, stored, writeImage, copyReading, copyImage}
+use Rattle.codec.specs.Image.{magic, headLength, pairTable, image, pairsOf, siteIn, countIn, pairsIn, recordsIn, overLimit, exact, tableExact, headRefusals, accepted, readingNumber, recordsUnless, readRecords, readUnless, readImage, logRefusals, stored, writeImage, copyReading, copyImage}
 use Rattle.codec.specs.laws.Pairs.{table-length, records-length}
 use Rattle.codec.specs.laws.Refusals.{passed, records-bytes, log-records, write-whole, write-passed}
 use Rattle.codec.specs.laws.Tables.{bytes-take, length-table, exact-records, exact-table, named-table, table-exact}
@@ -29,17 +29,23 @@ record Accepted (bytes : List ℕ) (s : ℕ) (log : List LogRecord) : Type 0 whe
   site : siteIn bytes ≡ s
   records : map recordOf (recordsIn bytes) ≡ log
 
-read-zero : (n : ℕ) (bytes : List ℕ) (s : ℕ) (log : List LogRecord) → readUnless n bytes ≡ accepted s log
+records-zero : (n : ℕ) (bytes : List ℕ) (s : ℕ) (log : List LogRecord) → recordsUnless n bytes ≡ accepted s log
     → (n ≡ 0) × (siteIn bytes ≡ s) × (map recordOf (recordsIn bytes) ≡ log)
+unfolding recordsUnless readingNumber
+records-zero zero bytes s log e = (refl, cc, cc)
+records-zero (suc n) bytes s log e = absurd (omega (arith, ap readingNumber e))
+
+read-zero : (n : ℕ) (bytes : List ℕ) (s : ℕ) (log : List LogRecord) → readUnless n bytes ≡ accepted s log → (n ≡ 0) × (readRecords bytes ≡ accepted s log)
 unfolding readUnless readingNumber
-read-zero zero bytes s log e = (refl, cc, cc)
+read-zero zero bytes s log e = (refl, e)
 read-zero (suc n) bytes s log e = absurd (omega (arith, ap readingNumber e))
 
 acceptance : (bytes : List ℕ) (s : ℕ) (log : List LogRecord) → readImage bytes ≡ accepted s log → Accepted bytes s log
-unfolding readImage imageRefusals first tableExact
+unfolding readImage headRefusals readRecords first tableExact
 acceptance bytes s log e =
-    let read = read-zero (first (imageRefusals bytes)) bytes s log e in
-    let opened = passed 19 (ltb (length bytes) 6 || not (same (take 4 bytes) magic)) _ (read .0) in
+    let head = read-zero (first (headRefusals bytes)) bytes s log e in
+    let read = records-zero (first (recordRefusals (siteIn bytes) [] (recordsIn bytes))) bytes s log (head .1) in
+    let opened = passed 19 (ltb (length bytes) 6 || not (same (take 4 bytes) magic)) _ (head .0) in
     let limited = passed 20 (overLimit (siteIn bytes) (countIn bytes)) _ (opened .1) in
     let tabled = passed 21 (not (tableExact bytes)) _ (limited .1) in
     let starts = or-none (ltb (length bytes) 6) (not (same (take 4 bytes) magic)) (opened .0) in
@@ -50,7 +56,7 @@ acceptance bytes s log e =
       limits = limited .0;
       fits = leb-true (headLength (countIn bytes)) (length bytes) (table .0);
       placed = table .1;
-      whole = tabled .1;
+      whole = read .0;
       site = read .1;
       records = read .2;
     }
@@ -121,9 +127,13 @@ module _ (s : ℕ) (log : List LogRecord) where
   unfolding recordsIn image
   records-in = rw pairs-in (named-table (head s log) (headLength (length log)) (map bytesOf log) head-length)
 
-  none-refuses : first (logRefusals s log) ≡ 0 → first (imageRefusals (image s log)) ≡ 0
-  unfolding imageRefusals logRefusals first
-  none-refuses e = rw (long-in, opening-in, site-in, count-in, table-in, records-in) e
+  none-refuses : first (logRefusals s log) ≡ 0 → first (headRefusals (image s log)) ≡ 0
+  unfolding headRefusals logRefusals first
+  none-refuses e = rw (long-in, opening-in, site-in, count-in, table-in, passed 20 (overLimit s (length log)) _ e .0)
+
+  records-pass : first (logRefusals s log) ≡ 0 → first (recordRefusals (siteIn (image s log)) [] (recordsIn (image s log))) ≡ 0
+  unfolding logRefusals first
+  records-pass e = rw (site-in, records-in) (passed 20 (overLimit s (length log)) _ e .1)
 
 -- ---- the call of the writer
 
@@ -157,8 +167,8 @@ readable-writable bytes s log e =
 
 -- What is written is accepted, and reads back as the same log.
 pub reads-back : (s : ℕ) (log : List LogRecord) → first (logRefusals s log) ≡ 0 → readImage (image s log) ≡ accepted s log
-unfolding readImage readUnless
-reads-back s log e = rw (none-refuses s log e, site-in s log, records-in s log, log-records log)
+unfolding readImage readUnless readRecords recordsUnless
+reads-back s log e = rw (none-refuses s log e, records-pass s log e, site-in s log, records-in s log, log-records log)
 
 -- An accepted image that is read and written again leaves its bytes in the buffer.
 pub written-again : (bytes : List ℕ) → ((i : ℕ) → getD bytes i 0 < 256) → (s : ℕ) (log : List LogRecord) → readImage bytes ≡ accepted s log

@@ -10,8 +10,9 @@ use native.Mathlib.Omega.{arith}
 use borrow.Author.Tests.{eq-eqb, le-leb, le-ltb, eqb-true, leb-true}
 use Rattle.codec.specs.Lists.{select, any, all, every, same, first}
 use Rattle.codec.specs.Sets.{member, empty, part}
-use Rattle.codec.specs.Records.{LogRecord, bytesOf, recordOf, lengths, lengthOf, membersIn, presumeCommitIn, awaitsAcks, recordKindAt, masksInRange, fieldsInRange, isRecord, sequences, agrees, ofTransaction, inSequence, recordTests, recordRefusals}
+use Rattle.codec.specs.Records.{LogRecord, bytesOf, recordOf, lengths, lengthOf, membersIn, presumeCommitIn, awaitsAcks, recordKindAt, kindAndLength, masksInRange, fieldsInRange, sequences, agrees, ofTransaction, inSequence, recordRefusals}
 use Rattle.codec.specs.Image.{most, overLimit, logRefusals}
+use Rattle.codec.specs.laws.Refusals.{Sound, passes, tests-or}
 use Rattle.codec.specs.laws.Tests.{and-left, and-right, true-of, lt-or-le}
 use Rattle.site.specs.Presumption.{presumptionNumber, presumedAbort, presumedCommit}
 use Rattle.site.specs.Cohort.{Cohort, masksOf, presumptionOf}
@@ -70,26 +71,25 @@ in-between P a n k f t =
     let high = leb-true k (a + n) (true-of _ (and-right (leb a k) (leb k (a + n)) t)) in
     from-at P a (suc n) k f low (omega (arith, high))
 
-module _ (g : Cohort) (t : ℕ) (h : t < 8) (m : Ranged g) where
-  in-range : leb t 7 ≡ true
-  in-range = le-leb t 7 (omega arith)
-
+module _ (g : Cohort) (t : ℕ) (m : Ranged g) where
   -- members and PC of the records 1 and 2
   masks : (k : ℕ) → masksInRange (record { kind = k; transaction = t; fields = masksOf g }) ≡ true
   unfolding masksInRange membersIn presumeCommitIn masksOf every
   masks k = rw (le-leb 1 (g .members) (m .some), le-leb (g .members) 255 (omega (arith, m .byte)), m .part)
 
-  -- the record of kind k passes, a record 1 where it is written
+  -- the record of kind k has its length and its fields, a record 1 where it is written
   abbrev Passes : ℕ → ℕ → Type 0
-  Passes s k = T (not (eqb k 1) || writesInit g) → isRecord s (bytesOf (recordFor g t s k)) ≡ true
+  Passes s k =
+      T (not (eqb k 1) || writesInit g)
+      → (kindAndLength s (bytesOf (recordFor g t s k)) ≡ true) × (fieldsInRange (recordFor g t s k) ≡ true)
 
   record-is : (s k : ℕ) → T (recordKindAt s k) → Passes s k
-  unfolding recordKindAt isRecord recordOf bytesOf every lengthOf lengths fieldsInRange masksOf presumeCommitIn
+  unfolding recordKindAt kindAndLength recordOf bytesOf lengthOf lengths fieldsInRange masksOf presumeCommitIn
   record-is zero k =
       in-between (Passes 0) 1 3 k
-      (λ b. rw (in-range, masks 1, true-of (not (empty (g .presumeCommit))) b), (λ b. rw (in-range, masks 2), (λ b. rw in-range, (λ b. rw in-range, tt))))
+      (λ b. (refl, rw (masks 1, true-of (not (empty (g .presumeCommit))) b)), (λ b. (refl, masks 2), (λ b. (refl, refl), (λ b. (refl, refl), tt))))
   record-is (suc s) k =
-      in-between (Passes (suc s)) 5 2 k (λ b. rw (in-range, presumption-small g (suc s)), (λ b. rw in-range, (λ b. rw in-range, tt)))
+      in-between (Passes (suc s)) 5 2 k (λ b. (refl, presumption-small g (suc s)), (λ b. (refl, refl), (λ b. (refl, refl), tt)))
 
 -- ---- the order of a transaction's records
 
@@ -143,11 +143,11 @@ module _ (g : ℕ → Cohort) (s : ℕ) where
   records-one x = records-head x [] ∙ unfold select in refl
 
   record Head (x : LogRecord) (before log : List LogRecord) : Type 0 where
-    fits : isRecord s (bytesOf x) ≡ true
-    follows : inSequence s before x ≡ true
+    here : Sound s before (bytesOf x)
     rest : Follows (x .transaction) (before ++ (x ∷ [])) log
 
   head-of : (x : LogRecord) (before log : List LogRecord) → Follows (x .transaction) before (x ∷ log) → Head x before log
+  unfolding recordOf bytesOf
   head-of x before log f = go (f .later) (sym (records-head x log) ∙ f .is-later) (f .order) (f .ranged)
     where
       u : ℕ
@@ -166,6 +166,17 @@ module _ (g : ℕ → Cohort) (s : ℕ) where
       seen k e =
           select-append (ofTransaction u) before (x ∷ []) ∙ ap₂ _++_ (f .is-earlier) (records-one x ∙ ap (λ (y : LogRecord). y ∷ []) e) ∙ sym (map-append put (f .earlier) (k ∷ []))
 
+      sound-record : (k : ℕ) → T (recordKindAt s k) → T (not (eqb k 1) || i) → T ((not (eqb k 3) || a) && any (same (f .earlier ++ (k ∷ []))) (sequences s))
+          → u < 8 → Ranged (g u) → Sound s before (bytesOf (put k))
+      sound-record k kind first last low m =
+          let own = record-is (g u) u m s k kind first in
+          record {
+            shaped = own .0;
+            low = low;
+            ranged = own .1;
+            follows = record-follows (g u) u s before (f .earlier) k (f .is-earlier) (and-left (not (eqb k 3) || a) _ last) (and-right (not (eqb k 3) || a) _ last);
+          }
+
       go : (ks : List ℕ) → x ∷ recordsOf u log ≡ map put ks → T (orderly s i a (f .earlier) ks) → (ks ≡ []) ⊎ ((u < 8) × Ranged (g u)) → Head x before log
       go [] e o r = absurd (omega (arith, ap length e))
       go (k ∷ ks) e o (inl q) = absurd (omega (arith, ap length q))
@@ -177,8 +188,7 @@ module _ (g : ℕ → Cohort) (s : ℕ) where
           let first = and-left (not (eqb k 1) || i) _ others in
           let last = and-right (not (eqb k 1) || i) _ others in
           record {
-            fits = subst (λ (y : LogRecord). isRecord s (bytesOf y) ≡ true) (sym here) (record-is (g u) u (r .0) (r .1) s k kind first);
-            follows = subst (λ (y : LogRecord). inSequence s before y ≡ true) (sym here) (record-follows (g u) u s before (f .earlier) k (f .is-earlier) (and-left (not (eqb k 3) || a) _ last) (and-right (not (eqb k 3) || a) _ last));
+            here = subst (λ (y : LogRecord). Sound s before (bytesOf y)) (sym here) (sound-record k kind first last (r .0) (r .1));
             rest =
                 record {
                   earlier = f .earlier ++ (k ∷ []);
@@ -212,11 +222,11 @@ module _ (g : ℕ → Cohort) (s : ℕ) where
       go false e = passed-by t x before log e (f t)
 
   records-pass : (before log : List LogRecord) → ((t : ℕ) → Follows t before log) → first (recordRefusals s before (map bytesOf log)) ≡ 0
-  unfolding recordOf bytesOf recordRefusals recordTests first
-  records-pass before [] f = refl
+  unfolding recordOf bytesOf recordRefusals
+  records-pass before [] f = unfold first in refl
   records-pass before (x ∷ log) f =
-      let here = head-of x before log (f (x .transaction)) in
-      rw (here .fits, here .follows) (records-pass (before ++ (x ∷ [])) log (next x before log f))
+      rw (tests-or s before (bytesOf x) (recordRefusals s (before ++ (x ∷ [])) (map bytesOf log)), passes s before (bytesOf x) (head-of x before log (f (x .transaction)) .here))
+      (records-pass (before ++ (x ∷ [])) log (next x before log f))
 
   pub log-passes : (log : List LogRecord) → s ≤ 8 → length log ≤ most s → ((t : ℕ) → Follows t [] log) → first (logRefusals s log) ≡ 0
   unfolding logRefusals overLimit first

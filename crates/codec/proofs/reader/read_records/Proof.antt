@@ -3,13 +3,13 @@ use mathlib.Core.Path.{_≡_, refl, ap, sym, _∙_}
 use Prim.Native.Nat.{ℕ, _+_, _-_, _*_, _<_}
 use native.Mathlib.Omega.{arith}
 use borrow.Author.Needs.{needs}
-use Rattle.codec.specs.Image.{headLength, siteIn, countIn, readUnless}
+use Rattle.codec.specs.Image.{headLength, siteIn, countIn}
 use Rattle.codec.specs.Answers.{recordNumber, values, imageValues}
 use Rattle.codec.specs.Inside.{Readable, Within, wordAt}
 use Rattle.codec.specs.declared.log.Log.{Log}
 use Rattle.codec.proofs.Held.{held}
 use Rattle.codec.proofs.Passed.{not-accepted}
-use Rattle.codec.proofs.Filled.{Filled, filled-none, filled-next, filled-all, within, image-stopped, read-refused, answerAt}
+use Rattle.codec.proofs.Filled.{Filled, filled-none, filled-next, filled-all, within, image-stopped, records-refused, answerAt}
 use Rattle.codec.proofs.reader.read_records.Statement.{statement}
 use Rattle.codec.proofs.reader.read_records.Tie as tie
 
@@ -90,6 +90,9 @@ enum-known-answer c = search needs
 number-requires : tie.Need-number-requires Inv-loop μ-loop
 number-requires c κs = tt
 
+cast-refused : tie.Need-cast-refused Inv-loop μ-loop
+cast-refused c = omega (arith, few (c .before .before .before .before .before))
+
 refused-requires : tie.Need-refused-requires Inv-loop μ-loop
 refused-requires c κs = tt
 
@@ -98,10 +101,10 @@ returns c = let read = c .before .before .before in
     let w = read .before .before .before .before in
     let bytes = now (w .before .before .before .before .before .args .bytes) in
     let named : recordNumber (read .read .result) ≡ 0 → ⊥ = not-accepted (read .read .result) (c .before .before .match .keys2) in
-    let number = c .before .number .ensures
-    ∙ ap recordNumber (answered read)
-    ∙ image-stopped bytes (w .loop .inv .0) (w .loop .records) (w .loop .newest .of) (w .loop .at) (w .loop .i) (w .loop .inv .1 .1 .1) (more (read .before .before .before)) (λ e. named (ap recordNumber (answered read) ∙ e)) in
-    c .refused .ensures ∙ ap values (sym (read-refused _ bytes (λ e. named (sym (c .before .number .ensures) ∙ e))) ∙ ap (λ (n : ℕ). readUnless n bytes) number)
+    let here = ap recordNumber (answered read) in
+    let struck = image-stopped bytes (w .loop .inv .0) (w .loop .records) (w .loop .newest .of) (w .loop .at) (w .loop .i) (w .loop .inv .1 .1 .1) (more (read .before .before .before)) (λ e. named (here ∙ e)) in
+    c .refused .ensures
+    ∙ ap values (records-refused bytes _ _ (λ e. named (sym (c .before .number .ensures) ∙ e)) (c .before .number .ensures ∙ here ∙ struck .0) (struck .1))
 
 with-requires : tie.Need-with-requires Inv-loop μ-loop
 with-requires c κs = tt
@@ -124,6 +127,10 @@ loop-again c = let w = c .before .before .before .before .before .before .before
     let next = filled-next (now (w .before .before .before .before .before .args .bytes)) (inv .0) (w .loop .records) (w .loop .newest .of) (w .loop .at) (w .loop .i) (inv .1 .1 .1)
     (more (c .before .before .before .before .before .before .before)) (c .before .before .answer .given .0 .0) (sym (answered (c .before .before .before .before)) ∙ c .before .before .answer .given .1) in
     (inv .0, (inv .1 .0, (inv .1 .1 .0, rw (c .with .ensures, c .before .before .before .before .before .before .end-of .ensures) (next .1))))
+
+cast-index : tie.Need-cast-index Inv-loop μ-loop
+unfolding countIn
+cast-index c = omega (arith, c .before .loop .inv .0 .few)
 
 returns-2 : tie.Need-returns-2 Inv-loop μ-loop
 unfolding imageValues siteIn countIn
@@ -154,6 +161,7 @@ read-records-spec =
     read-requires
     enum-known-answer
     number-requires
+    cast-refused
     refused-requires
     returns
     with-requires
@@ -162,4 +170,5 @@ read-records-spec =
     add-i
     loop-less
     loop-again
+    cast-index
     returns-2)

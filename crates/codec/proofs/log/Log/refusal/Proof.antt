@@ -8,9 +8,9 @@ use lib.ListN.{length, getD, length-map}
 use Rattle.codec.specs.Lists.{first}
 use Rattle.codec.specs.Records.{recordRefusals}
 use Rattle.codec.specs.Image.{overLimit, logRefusals}
-use Rattle.codec.specs.Records.{bytesOf, isRecord}
+use Rattle.codec.specs.Records.{bytesOf}
 use Rattle.codec.specs.Answers.{logIn, noRecord, recordIn, recordNumber}
-use Rattle.codec.specs.Inside.{bytesIn, mayFollow, answerTo}
+use Rattle.codec.specs.Inside.{bytesIn, answerOn}
 use Rattle.codec.specs.declared.record.Record.{Record}
 use Rattle.codec.proofs.Passed.{Passed, passed-none, passed-all, not-accepted}
 use Rattle.codec.proofs.Opened.{few-records}
@@ -52,7 +52,7 @@ answered c =
     let w = c .before .before .before .before in
     let l = w .before .before .before .before .before .args .self in
     let x = getD (l .records) (w .loop .i) noRecord in
-    c .judged .ensures ∙ ap (λ (y : Record). answerTo (isRecord (l .site) (bytesOf (recordIn x))) (mayFollow (recordIn y) (recordIn x)) x) (c .before .behind .ensures)
+    c .judged .ensures ∙ ap (λ (y : Record). answerOn (l .site) (bytesOf (recordIn x)) (recordIn y) x) (c .before .behind .ensures)
 
 over-limit-requires : tie.Need-over-limit-requires Inv-loop μ-loop
 over-limit-requires c κs = tt

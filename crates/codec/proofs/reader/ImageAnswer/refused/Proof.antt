@@ -9,7 +9,7 @@ new-requires c κs = tt
 
 returns : tie.Need-returns
 unfolding values imageValues logIn
-returns c = ap (λ (l : Log). imageValues (record { answer = c .before .args .answer; log = l })) (c .new .ensures)
+returns c = ap (λ (l : Log). imageValues (record { answer = c .before .args .answer; index = c .before .args .index; log = l })) (c .new .ensures)
 
 pub refused-spec : {M : Type 1} → statement M
 refused-spec = tie.close (tie.spec new-requires returns)

@@ -1,6 +1,8 @@
 use denote.Ref.{now}
 use mathlib.Core.Path.{sym, _∙_, ap}
 use Rattle.codec.specs.Records.{lengthOf}
+use lib.ListN.{getD}
+use Rattle.codec.specs.Answers.{recordIn, noRecord}
 use Rattle.codec.specs.Inside.{answerTo, recordFrom}
 use Rattle.codec.specs.declared.record.Record.{Record}
 use Rattle.codec.specs.laws.Fields.{wrong-length, read-as}
@@ -31,7 +33,7 @@ unfolding recordFrom
 returns-2 c = let w = c .before .before .before .before in
     let a = w .before .before .args in
     let size = c .before .before .before .length-of .ensures ∙ ap (λ (x : Record). lengthOf (x .kind)) (w .from-bytes .ensures) in
-    c .judged .ensures ∙ rw (c .before .behind .ensures, w .from-bytes .ensures) (read-as (a .site) (a .newest .of) (now (a .bytes)) (c .before .before .if1 .left ∙ size))
+    c .judged .ensures ∙ rw (c .before .behind .ensures, w .from-bytes .ensures) (read-as (a .site) (recordIn (getD (a .newest .of) (recordFrom (now (a .bytes)) .transaction) noRecord)) (now (a .bytes)) (c .before .before .if1 .left ∙ size))
 
 pub read-spec : {M : Type 1} → statement M
 read-spec =
