@@ -1,16 +1,17 @@
 -- What it tells that no refusal strikes: of a list of refusals, of the records of an image, and of the writer's call. Assumes nothing.
 use Prim.Native.Nat.{ℕ, zero, suc, _+_, _≤_, _<_}
 use mathlib.Core.Path.{_≡_, refl, ap, ap₂, sym, _∙_}
-use mathlib.Core.Bool.{Bool, true, false, cond, not, and-false, false≢true}
+use mathlib.Core.Bool.{Bool, true, false, cond, not, _&&_, and-false, false≢true}
 use mathlib.Core.List.{List, [], _∷_, _++_, map, append-assoc}
-use lib.Dec.{ltb}
+use lib.Dec.{T, eqb, leb, ltb}
 use lib.ListN.{length}
 use native.Mathlib.Omega.{arith}
 use borrow.Author.Tests.{ne-eqb, not-false, lt-ltb, le-ltb, ltb-false}
-use Rattle.codec.specs.Lists.{first}
+use Rattle.codec.specs.Lists.{any, all, first}
 use Rattle.codec.specs.Records.{LogRecord, bytesOf, recordOf, lengthOf, kindAndLength, fieldsInRange, inSequence, recordTests, recordRefusals}
 use Rattle.codec.specs.Image.{image, overLimit, logRefusals, writeRefusals, stored, writeUnless, writeImage}
 use Rattle.codec.specs.Answers.{written}
+use Rattle.codec.specs.laws.Tests.{and-left, and-right, or-none}
 use Rattle.codec.specs.laws.Fields.{not-one, no-kind-low}
 
 -- ---- lists of refusals
@@ -25,10 +26,6 @@ abbrev pub orElse : ℕ → ℕ → ℕ
 orElse zero m = m
 orElse (suc n) m = suc n
 
-or-else : (b : Bool) (n a m : ℕ) {k : ℕ} → k ≡ orElse a m → cond b (suc n) k ≡ orElse (cond b (suc n) a) m
-or-else true n a m e = refl
-or-else false n a m e = e
-
 or-or : (a b c : ℕ) → orElse a (orElse b c) ≡ orElse (orElse a b) c
 or-or zero b c = refl
 or-or (suc a) b c = refl
@@ -36,6 +33,34 @@ or-or (suc a) b c = refl
 neither : (n m : ℕ) → orElse n m ≡ 0 → (n ≡ 0) × (m ≡ 0)
 neither zero m e = (refl, e)
 neither (suc n) m e = absurd (omega arith)
+
+-- no refusal has the number 0
+abbrev numbered : List (ℕ × Bool) → Bool
+numbered cs = all (λ c. leb 1 (c .0)) cs
+
+-- one refusal in front of others
+numbered-head : (n : ℕ) (b : Bool) → T (leb 1 n) → (a m : ℕ) {k : ℕ} → k ≡ orElse a m → cond b n k ≡ orElse (cond b n a) m
+numbered-head zero b t a m e = absurd t
+numbered-head (suc n) true t a m e = refl
+numbered-head (suc n) false t a m e = e
+
+-- the first of them decides, or else those behind them
+first-or : (cs ds : List (ℕ × Bool)) → T (numbered cs) → first (cs ++ ds) ≡ orElse (first cs) (first ds)
+unfolding first all
+first-or [] ds t = refl
+first-or (c ∷ cs) ds t = numbered-head (c .0) (c .1) (and-left (leb 1 (c .0)) _ t) _ _ (first-or cs ds (and-right (leb 1 (c .0)) _ t))
+
+-- where none strikes, none of number n does
+none-strikes : (n : ℕ) (cs : List (ℕ × Bool)) → T (numbered cs) → first cs ≡ 0 → any (λ c. eqb (c .0) n && c .1) cs ≡ false
+unfolding first all any
+none-strikes n [] t e = refl
+none-strikes n (c ∷ cs) t e =
+    let one = by (c .0) (c .1) (and-left (leb 1 (c .0)) _ t) e in
+    rw (one .0, and-false, none-strikes n cs (and-right (leb 1 (c .0)) _ t) (one .1))
+  where
+    by : (n : ℕ) (b : Bool) → T (leb 1 n) → {m : ℕ} → cond b n m ≡ 0 → (b ≡ false) × (m ≡ 0)
+    by zero b t e = absurd t
+    by (suc n) b t e = passed n b _ e
 
 -- ---- records
 
@@ -54,17 +79,14 @@ module _ (s : ℕ) (before : List LogRecord) (bytes : List ℕ) where
     pub follows : inSequence s before (recordOf bytes) ≡ true
 
   pub sound : first (recordTests s before bytes) ≡ 0 → Sound
-  unfolding recordTests first
+  unfolding recordTests any all
   sound e =
-      let kind = passed 22 (not (kindAndLength s bytes)) _ e in
-      let transaction = passed 26 (ltb 7 (recordOf bytes .transaction)) _ (kind .1) in
-      let fields = passed 27 (not (fieldsInRange (recordOf bytes))) _ (transaction .1) in
-      let sequence = passed 23 (not (inSequence s before (recordOf bytes))) _ (fields .1) in
+      let tests = recordTests s before bytes in
       record {
-        shaped = not-false (kindAndLength s bytes) (kind .0);
-        low = omega (arith, ltb-false 7 (recordOf bytes .transaction) (transaction .0));
-        ranged = not-false (fieldsInRange (recordOf bytes)) (fields .0);
-        follows = not-false (inSequence s before (recordOf bytes)) (sequence .0);
+        shaped = not-false (kindAndLength s bytes) (or-none (not (kindAndLength s bytes)) _ (none-strikes 23 tests tt e) .0);
+        low = omega (arith, ltb-false 7 (recordOf bytes .transaction) (or-none (ltb 7 (recordOf bytes .transaction)) _ (none-strikes 27 tests tt e) .0));
+        ranged = not-false (fieldsInRange (recordOf bytes)) (or-none (not (fieldsInRange (recordOf bytes))) _ (none-strikes 28 tests tt e) .0);
+        follows = not-false (inSequence s before (recordOf bytes)) (or-none (not (inSequence s before (recordOf bytes))) _ (none-strikes 24 tests tt e) .0);
       }
 
   pub passes : Sound → first (recordTests s before bytes) ≡ 0
@@ -73,11 +95,8 @@ module _ (s : ℕ) (before : List LogRecord) (bytes : List ℕ) where
 
   -- the tests on a record decide, or else those behind them
   pub tests-or : (cs : List (ℕ × Bool)) → first (recordTests s before bytes ++ cs) ≡ orElse (first (recordTests s before bytes)) (first cs)
-  unfolding recordTests first
-  tests-or cs =
-      or-else (not (kindAndLength s bytes)) 22 _ _
-      (or-else (ltb 7 (recordOf bytes .transaction)) 26 _ _
-      (or-else (not (fieldsInRange (recordOf bytes))) 27 _ _ (or-else (not (inSequence s before (recordOf bytes))) 23 0 _ refl)))
+  unfolding recordTests all
+  tests-or cs = first-or (recordTests s before bytes) cs tt
 
   pub record-passed : (cs : List (ℕ × Bool)) → first (recordTests s before bytes ++ cs) ≡ 0 → (first (recordTests s before bytes) ≡ 0) × (first cs ≡ 0)
   record-passed cs e = neither (first (recordTests s before bytes)) (first cs) (sym (tests-or cs) ∙ e)
@@ -116,7 +135,7 @@ write-answer (suc n) s log at buffer = refl
 module _ (s : ℕ) (log : List LogRecord) (at : ℕ) (buffer : List ℕ) where
   refusal : first (writeRefusals s log at buffer) ≡ orElse (first (logRefusals s log)) (cond (ltb (length buffer) (at + length (image s log))) 25 0)
   unfolding writeRefusals logRefusals first
-  refusal = or-else (overLimit s (length log)) 20 _ _ (records-or s [] (map bytesOf log) ((25, ltb (length buffer) (at + length (image s log))) ∷ []))
+  refusal = numbered-head 21 (overLimit s (length log)) tt _ _ (records-or s [] (map bytesOf log) ((25, ltb (length buffer) (at + length (image s log))) ∷ []))
 
   pub write-refused : (n : ℕ) → n ≡ first (logRefusals s log) → (n ≡ 0 → ⊥) → written n buffer ≡ writeImage s log at buffer
   unfolding writeImage writeUnless
