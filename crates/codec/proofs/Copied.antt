@@ -1,8 +1,7 @@
 -- What the reader's answer tells the copier. Assumes nothing.
-use mathlib.Core.Path.{_≡_, refl, ap, sym, _∙_}
+use mathlib.Core.Path.{_≡_, ap, sym, _∙_}
 use mathlib.Core.List.{List, map}
 use Prim.Native.Nat.{ℕ}
-use native.Mathlib.Omega.{arith}
 use Rattle.codec.specs.Lists.{first}
 use Rattle.codec.specs.Records.{recordOf}
 use Rattle.codec.specs.Image.{Reading, accepted, refused, siteIn, recordsIn, readImage, logRefusals, writeImage, copyReading, copyImage}

@@ -136,7 +136,7 @@ impl Run {
         found.entered(site, outcome)
     }
 
-    // A site's log image from `at` on: 0, or the number that refuses it, 21, 23, 24 or 25, and the buffer as it was.
+    // A site's log image from `at` on: 0, or the number that refuses it, 21, 23, 27, 28, 24 or 25, and the buffer as it was.
     pub fn write_log(self, site: u8, buffer: &mut [u8], at: usize) -> u8
         ensures { λ r. ⌜ written r (now (buffer .exit)) ≡ writeImage site (runIn self .site site .stable) at (now (buffer .entry)) ⌝ }
     {

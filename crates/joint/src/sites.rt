@@ -215,7 +215,7 @@ impl Site {
         self.oldest(transaction, count) < count
     }
 
-    // The image of its log, as site `number`, from `at` on: 0, or 21, 23, 24, 25 and the buffer as it was.
+    // The image of its log, as site `number`, from `at` on: 0, or 21, 23, 27, 28, 24, 25 and the buffer as it was.
     pub fn write_log(self, number: u8, buffer: &mut [u8], at: usize) -> u8
         ensures { λ r. ⌜ written r (now (buffer .exit)) ≡ writeImage number (siteIn self .stable) at (now (buffer .entry)) ⌝ }
     {

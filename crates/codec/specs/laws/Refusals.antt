@@ -2,14 +2,14 @@
 use Prim.Native.Nat.{ℕ, zero, suc, _+_, _≤_, _<_}
 use mathlib.Core.Path.{_≡_, refl, ap, ap₂, sym, _∙_}
 use mathlib.Core.Bool.{Bool, true, false, cond, not, _&&_, and-false, false≢true}
-use mathlib.Core.List.{List, [], _∷_, _++_, map, append-assoc}
+use mathlib.Core.List.{List, [], _∷_, _++_, map}
 use lib.Dec.{T, eqb, leb, ltb}
 use lib.ListN.{length}
 use native.Mathlib.Omega.{arith}
 use borrow.Author.Tests.{ne-eqb, not-false, lt-ltb, le-ltb, ltb-false}
 use Rattle.codec.specs.Lists.{any, all, first}
 use Rattle.codec.specs.Records.{LogRecord, bytesOf, recordOf, lengthOf, kindAndLength, fieldsInRange, inSequence, recordTests, recordRefusals}
-use Rattle.codec.specs.Image.{image, overLimit, logRefusals, writeRefusals, stored, writeUnless, writeImage}
+use Rattle.codec.specs.Image.{image, logRefusals, writeRefusals, stored, writeUnless, writeImage}
 use Rattle.codec.specs.Answers.{written}
 use Rattle.codec.specs.laws.Tests.{and-left, and-right, or-none}
 use Rattle.codec.specs.laws.Fields.{not-one, no-kind-low}
@@ -26,10 +26,6 @@ abbrev pub orElse : ℕ → ℕ → ℕ
 orElse zero m = m
 orElse (suc n) m = suc n
 
-or-or : (a b c : ℕ) → orElse a (orElse b c) ≡ orElse (orElse a b) c
-or-or zero b c = refl
-or-or (suc a) b c = refl
-
 neither : (n m : ℕ) → orElse n m ≡ 0 → (n ≡ 0) × (m ≡ 0)
 neither zero m e = (refl, e)
 neither (suc n) m e = absurd (omega arith)
@@ -38,17 +34,16 @@ neither (suc n) m e = absurd (omega arith)
 abbrev numbered : List (ℕ × Bool) → Bool
 numbered cs = all (λ c. leb 1 (c .0)) cs
 
--- one refusal in front of others
-numbered-head : (n : ℕ) (b : Bool) → T (leb 1 n) → (a m : ℕ) {k : ℕ} → k ≡ orElse a m → cond b n k ≡ orElse (cond b n a) m
-numbered-head zero b t a m e = absurd t
-numbered-head (suc n) true t a m e = refl
-numbered-head (suc n) false t a m e = e
-
--- the first of them decides, or else those behind them
+-- they decide, or else those behind them
 first-or : (cs ds : List (ℕ × Bool)) → T (numbered cs) → first (cs ++ ds) ≡ orElse (first cs) (first ds)
 unfolding first all
 first-or [] ds t = refl
-first-or (c ∷ cs) ds t = numbered-head (c .0) (c .1) (and-left (leb 1 (c .0)) _ t) _ _ (first-or cs ds (and-right (leb 1 (c .0)) _ t))
+first-or (c ∷ cs) ds t = by (c .0) (c .1) (and-left (leb 1 (c .0)) _ t) _ _ (first-or cs ds (and-right (leb 1 (c .0)) _ t))
+  where
+    by : (n : ℕ) (b : Bool) → T (leb 1 n) → (a m : ℕ) {k : ℕ} → k ≡ orElse a m → cond b n k ≡ orElse (cond b n a) m
+    by zero b t a m e = absurd t
+    by (suc n) true t a m e = refl
+    by (suc n) false t a m e = e
 
 -- where none strikes, none of number n does
 none-strikes : (n : ℕ) (cs : List (ℕ × Bool)) → T (numbered cs) → first cs ≡ 0 → any (λ c. eqb (c .0) n && c .1) cs ≡ false
@@ -118,14 +113,10 @@ log-records (x ∷ log) = ap (x ∷_) (log-records log)
 
 -- ---- the answer of the writer's call
 
-records-or : (s : ℕ) (before : List LogRecord) (records : List (List ℕ)) (cs : List (ℕ × Bool))
-    → first (recordRefusals s before records ++ cs) ≡ orElse (first (recordRefusals s before records)) (first cs)
-unfolding recordRefusals
-records-or s before [] cs = unfold first in refl
-records-or s before (bytes ∷ records) cs =
-    let next = before ++ (recordOf bytes ∷ []) in
-    rw (append-assoc, tests-or s before bytes (recordRefusals s next records ++ cs), tests-or s before bytes (recordRefusals s next records), records-or s next records cs)
-    (or-or (first (recordTests s before bytes)) (first (recordRefusals s next records)) (first cs))
+records-numbered : (s : ℕ) (before : List LogRecord) (records : List (List ℕ)) → T (numbered (recordRefusals s before records))
+unfolding recordRefusals recordTests all
+records-numbered s before [] = tt
+records-numbered s before (bytes ∷ records) = records-numbered s (before ++ (recordOf bytes ∷ [])) records
 
 write-answer : (n s : ℕ) (log : List LogRecord) (at : ℕ) (buffer : List ℕ) → writeUnless n s log at buffer .answer ≡ n
 unfolding writeUnless
@@ -134,8 +125,8 @@ write-answer (suc n) s log at buffer = refl
 
 module _ (s : ℕ) (log : List LogRecord) (at : ℕ) (buffer : List ℕ) where
   refusal : first (writeRefusals s log at buffer) ≡ orElse (first (logRefusals s log)) (cond (ltb (length buffer) (at + length (image s log))) 25 0)
-  unfolding writeRefusals logRefusals first
-  refusal = numbered-head 21 (overLimit s (length log)) tt _ _ (records-or s [] (map bytesOf log) ((25, ltb (length buffer) (at + length (image s log))) ∷ []))
+  unfolding writeRefusals logRefusals first all
+  refusal = first-or (logRefusals s log) ((25, ltb (length buffer) (at + length (image s log))) ∷ []) (records-numbered s [] (map bytesOf log))
 
   pub write-refused : (n : ℕ) → n ≡ first (logRefusals s log) → (n ≡ 0 → ⊥) → written n buffer ≡ writeImage s log at buffer
   unfolding writeImage writeUnless

@@ -1,5 +1,5 @@
 -- An image and its log: an accepted image written again is the same bytes, and what is written reads back.
-use Prim.Native.Nat.{ℕ, zero, suc, _+_, _*_, _≤_, _<_}
+use Prim.Native.Nat.{ℕ, _+_, _*_, _≤_, _<_}
 use mathlib.Core.Path.{_≡_, refl, sym, ap, _∙_}
 use mathlib.Core.Bool.{true, false, not, _||_, and-eq-true-iff}
 use mathlib.Core.List.{List, [], _∷_, _++_, map, flatten, append-assoc}
@@ -13,6 +13,7 @@ use Rattle.codec.specs.Lists.{same, first}
 use Rattle.codec.specs.Records.{LogRecord, bytesOf, recordOf, recordRefusals}
 use Rattle.codec.specs.Image.{magic, headLength, pairTable, image, pairsOf, siteIn, countIn, pairsIn, recordsIn, overLimit, exact, tableExact, headRefusals, accepted, readingNumber, recordsUnless, readRecords, readUnless, readImage, logRefusals, stored, writeImage, copyReading, copyImage}
 use Rattle.codec.specs.laws.Pairs.{table-length, records-length}
+use Rattle.codec.specs.laws.Readings.{unrefused, accepted-by-zero}
 use Rattle.codec.specs.laws.Refusals.{passed, records-bytes, log-records, write-whole, write-passed}
 use Rattle.codec.specs.laws.Tables.{bytes-take, length-table, exact-records, exact-table, named-table, table-exact}
 
@@ -29,23 +30,12 @@ record Accepted (bytes : List ℕ) (s : ℕ) (log : List LogRecord) : Type 0 whe
   site : siteIn bytes ≡ s
   records : map recordOf (recordsIn bytes) ≡ log
 
-records-zero : (n : ℕ) (bytes : List ℕ) (s : ℕ) (log : List LogRecord) → recordsUnless n bytes ≡ accepted s log
-    → (n ≡ 0) × (siteIn bytes ≡ s) × (map recordOf (recordsIn bytes) ≡ log)
-unfolding recordsUnless readingNumber
-records-zero zero bytes s log e = (refl, cc, cc)
-records-zero (suc n) bytes s log e = absurd (omega (arith, ap readingNumber e))
-
-read-zero : (n : ℕ) (bytes : List ℕ) (s : ℕ) (log : List LogRecord) → readUnless n bytes ≡ accepted s log → (n ≡ 0) × (readRecords bytes ≡ accepted s log)
-unfolding readUnless readingNumber
-read-zero zero bytes s log e = (refl, e)
-read-zero (suc n) bytes s log e = absurd (omega (arith, ap readingNumber e))
-
 acceptance : (bytes : List ℕ) (s : ℕ) (log : List LogRecord) → readImage bytes ≡ accepted s log → Accepted bytes s log
-unfolding readImage headRefusals readRecords first tableExact
+unfolding headRefusals first tableExact readingNumber
 acceptance bytes s log e =
-    let head = read-zero (first (headRefusals bytes)) bytes s log e in
-    let read = records-zero (first (recordRefusals (siteIn bytes) [] (recordsIn bytes))) bytes s log (head .1) in
-    let opened = passed 19 (ltb (length bytes) 6 || not (same (take 4 bytes) magic)) _ (head .0) in
+    let none = unrefused bytes (ap readingNumber e) in
+    let read : accepted (siteIn bytes) (map recordOf (recordsIn bytes)) ≡ accepted s log = sym (accepted-by-zero bytes (ap readingNumber e)) ∙ e in
+    let opened = passed 19 (ltb (length bytes) 6 || not (same (take 4 bytes) magic)) _ (none .0) in
     let limited = passed 20 (overLimit (siteIn bytes) (countIn bytes)) _ (opened .1) in
     let tabled = passed 21 (not (tableExact bytes)) _ (limited .1) in
     let starts = or-none (ltb (length bytes) 6) (not (same (take 4 bytes) magic)) (opened .0) in
@@ -56,9 +46,9 @@ acceptance bytes s log e =
       limits = limited .0;
       fits = leb-true (headLength (countIn bytes)) (length bytes) (table .0);
       placed = table .1;
-      whole = read .0;
-      site = read .1;
-      records = read .2;
+      whole = none .1;
+      site = cc;
+      records = cc;
     }
 
 module _ (bytes : List ℕ) (s : ℕ) (log : List LogRecord) (a : Accepted bytes s log) where
