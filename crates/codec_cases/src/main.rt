@@ -6,32 +6,57 @@ use codec::reader::dpr_image_check;
 use codec::record::Record;
 use codec::writer::dpr_image_copy;
 use codec::writer::write_image;
+ghost use mathlib.Core.Path.{_≡_};
+ghost use Prim.Native.Nat.{_+_, _*_};
+ghost use Rattle.codec.specs.Image.{checkImage};
 
-// The index stands in the high byte; on 20 to 22 it is 0.
-fn heads() {
-    // 20: under 6 bytes.
-    check::expect(dpr_image_check(b"\x44\x50\x52") == 20);
-    // 21: site 9.
-    check::expect(dpr_image_check(b"\x44\x50\x52\x4C\x09\x00") == 21);
-    // 22: first offset 0B, one record.
-    check::expect(dpr_image_check(b"\x44\x50\x52\x4C\x01\x01\x0B\x00\x03\x00\x05\x00\x01") == 22);
-    // K10's image: accepted, and one record.
-    check::expect(dpr_image_check(b"\x44\x50\x52\x4C\x01\x01\x0A\x00\x03\x00\x05\x00\x01") == 256);
+// Reads an image, whose number and index are these.
+fn reads(image: &[u8], number: u8, index: u8)
+    requires { ⌜ checkImage (now image) ≡ number + 256 * index ⌝ }
+{
+    check::expect(dpr_image_check(image) == (number as u16) + 256 * (index as u16));
 }
 
-fn records() {
-    // 23: a record 06 of three bytes, 06 00 00.
-    check::expect(dpr_image_check(b"\x44\x50\x52\x4C\x01\x01\x0A\x00\x03\x00\x06\x00\x00") == 23);
+fn images() {
+    // 20: under 6 bytes.
+    reads(b"\x44\x50\x52", 20, 0);
+    // 21: site 9.
+    reads(b"\x44\x50\x52\x4C\x09\x00", 21, 0);
+    // 22: first offset 0B, one record.
+    reads(
+        b"\x44\x50\x52\x4C\x01\x01\x0B\x00\x03\x00\x05\x00\x01",
+        22,
+        0,
+    );
+    // 23: 06 00 00, a byte too long.
+    reads(
+        b"\x44\x50\x52\x4C\x01\x01\x0A\x00\x03\x00\x06\x00\x00",
+        23,
+        0,
+    );
     // 27 before 28: 05 08 02.
-    check::expect(dpr_image_check(b"\x44\x50\x52\x4C\x01\x01\x0A\x00\x03\x00\x05\x08\x02") == 27);
-    // 28: 05 00 02, which was 23 in document 01.
-    check::expect(dpr_image_check(b"\x44\x50\x52\x4C\x01\x01\x0A\x00\x03\x00\x05\x00\x02") == 28);
+    reads(
+        b"\x44\x50\x52\x4C\x01\x01\x0A\x00\x03\x00\x05\x08\x02",
+        27,
+        0,
+    );
+    // 28: 05 00 02, which is 23 in document 01.
+    reads(
+        b"\x44\x50\x52\x4C\x01\x01\x0A\x00\x03\x00\x05\x00\x02",
+        28,
+        0,
+    );
     // 24 at the second record: 05 00 00 05 00 00.
-    check::expect(
-        dpr_image_check(
-            b"\x44\x50\x52\x4C\x01\x02\x0E\x00\x03\x00\x11\x00\x03\x00\x05\x00\x00\x05\x00\x00",
-        )
-            == 256 + 24,
+    reads(
+        b"\x44\x50\x52\x4C\x01\x02\x0E\x00\x03\x00\x11\x00\x03\x00\x05\x00\x00\x05\x00\x00",
+        24,
+        1,
+    );
+    // K10's image: accepted, one record.
+    reads(
+        b"\x44\x50\x52\x4C\x01\x01\x0A\x00\x03\x00\x05\x00\x01",
+        0,
+        1,
     );
 }
 
@@ -107,8 +132,7 @@ fn messages() {
 }
 
 fn main() {
-    heads();
-    records();
+    images();
     buffers();
     logs();
     messages();
