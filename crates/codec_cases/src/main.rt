@@ -8,7 +8,9 @@ use codec::writer::dpr_image_copy;
 use codec::writer::write_image;
 ghost use mathlib.Core.Path.{_≡_};
 ghost use Prim.Native.Nat.{_+_, _*_};
-ghost use Rattle.codec.specs.Image.{checkImage};
+ghost use lib.ListN.{replicate};
+ghost use Rattle.codec.specs.Image.{checkImage, writeImage};
+ghost use Rattle.codec.specs.Answers.{logIn};
 
 // Reads an image, whose number and index are these.
 fn reads(image: &[u8], number: u8, index: u8)
@@ -81,10 +83,17 @@ fn buffers() {
     ));
 }
 
-fn logs() {
+// Writes a log, which this number refuses.
+fn refuses(log: Log, number: u8)
+    requires { ⌜ writeImage (log .site) (logIn log) 0 (replicate 40 0xEE) .answer ≡ number ⌝ }
+{
     let mut buffer = [0xEEu8; 40];
+    check::expect(write_image(log, &mut buffer, 0) == number);
+}
+
+fn logs() {
     // 21: site 9.
-    check::expect(write_image(Log::new(9), &mut buffer, 0) == 21);
+    refuses(Log::new(9), 21);
     // 27 before 28: 05 08 02.
     let mut eight = Log::new(1);
     eight.records[0] = Record {
@@ -94,7 +103,7 @@ fn logs() {
         second: 0,
     };
     eight.count = 1;
-    check::expect(write_image(eight, &mut buffer, 0) == 27);
+    refuses(eight, 27);
     // 28: 05 00 02.
     let mut one = Log::new(1);
     one.records[0] = Record {
@@ -104,7 +113,7 @@ fn logs() {
         second: 0,
     };
     one.count = 1;
-    check::expect(write_image(one, &mut buffer, 0) == 28);
+    refuses(one, 28);
     // 24: 05 00 00 05 00 00.
     let mut two = Log::new(1);
     two.records[0] = Record {
@@ -120,7 +129,7 @@ fn logs() {
         second: 0,
     };
     two.count = 2;
-    check::expect(write_image(two, &mut buffer, 0) == 24);
+    refuses(two, 24);
 }
 
 fn messages() {
