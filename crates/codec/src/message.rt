@@ -1,5 +1,6 @@
 // Message kinds and numbers: 16 bits for a message of a kind to or from a participant on a transaction.
 ghost use mathlib.Core.Path.{_≡_};
+ghost use Prim.Native.Nat.{_≤_, _/_, _%_};
 ghost use Rattle.codec.specs.Messages.{messageParts, messageAnswer, partsWritten, numberOf, numberAnswer};
 ghost use Rattle.codec.specs.Answers.{partsIn, partsValues, numberValues, written};
 
@@ -17,6 +18,33 @@ pub enum PartsAnswer {
 pub enum NumberAnswer {
     Number(u16),
     Refused,
+}
+
+// A number stepped down: how many steps it had, and the rest.
+struct Stepped {
+    steps: u8,
+    rest: u16,
+}
+
+impl Stepped {
+    // By subtracting, at most 7 times. Each of the 7 is tried: where the loop ends with the last step that there is, the
+    // compiler divides instead (docs/DECISIONS.md, 2.02).
+    fn down(number: u16, step: u16) -> Stepped
+        requires { ⌜ (1 ≤ step) × (number / step ≤ 7) ⌝ }
+        ensures { λ r. ⌜ (r .steps ≡ number / step) × (r .rest ≡ number % step) ⌝ }
+    {
+        let mut steps: u8 = 0;
+        let mut rest = number;
+        let mut tried: u8 = 0;
+        while tried < 7 {
+            if step <= rest {
+                steps += 1;
+                rest -= step;
+            }
+            tried += 1;
+        }
+        Stepped { steps, rest }
+    }
 }
 
 impl Parts {
@@ -44,6 +72,10 @@ impl Parts {
     pub const LAST_KIND: u8 = 6;
     // The number that refuses.
     pub const REFUSED: u8 = 26;
+    // How far numbers are apart: of a transaction and the next, of a participant and the next.
+    const TRANSACTION_STEP: u16 = 56;
+
+    const PARTICIPANT_STEP: u16 = 7;
 
     pub fn from_number(number: u16) -> PartsAnswer
         ensures { λ r. ⌜ partsValues r ≡ messageAnswer (messageParts number) ⌝ }
@@ -51,10 +83,12 @@ impl Parts {
         if Parts::LAST < number {
             return PartsAnswer::Refused;
         }
+        let transactions = Stepped::down(number, Parts::TRANSACTION_STEP);
+        let participants = Stepped::down(transactions.rest, Parts::PARTICIPANT_STEP);
         PartsAnswer::Message(Parts {
-            transaction: (number / 56) as u8,
-            participant: (number % 56 / 7 + 1) as u8,
-            kind: (number % 7) as u8,
+            transaction: transactions.steps,
+            participant: participants.steps + 1,
+            kind: participants.rest as u8,
         })
     }
 

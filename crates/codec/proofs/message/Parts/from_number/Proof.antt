@@ -1,7 +1,7 @@
 use mathlib.Core.Path.{sym}
+use native.Mathlib.Omega.{arith}
 use Rattle.codec.specs.Answers.{partsValues}
 use Rattle.codec.proofs.Numbered.{no-message, parts-of}
-use borrow.Author.Needs.{needs}
 use Rattle.codec.proofs.message.Parts.from_number.Statement.{statement}
 use Rattle.codec.proofs.message.Parts.from_number.Tie as tie
 
@@ -9,21 +9,24 @@ returns : tie.Need-returns
 unfolding partsValues
 returns c = sym (no-message _ (c .if1 .taken))
 
-cast-t4 : tie.Need-cast-t4
-cast-t4 c = search needs
+down-requires : tie.Need-down-requires
+down-requires c κs = (omega arith, omega (arith, c .if1 .left))
 
-add-t7 : tie.Need-add-t7
-add-t7 c = search needs
+down-requires-2 : tie.Need-down-requires-2
+down-requires-2 c κs = (omega arith, omega (arith, c .down .ensures .1))
 
-cast-t8 : tie.Need-cast-t8
-cast-t8 c = search needs
+add-t5 : tie.Need-add-t5
+add-t5 c = let p = c .before in omega (arith, p .down2 .ensures .0, p .before .down .ensures .1)
 
-cast-t10 : tie.Need-cast-t10
-cast-t10 c = search needs
+cast-t6 : tie.Need-cast-t6
+cast-t6 c = omega (arith, c .before .before .down2 .ensures .1)
 
 returns-2 : tie.Need-returns-2
 unfolding partsValues
-returns-2 c = sym (parts-of (c .before .args .number) (c .if1 .left))
+returns-2 c =
+    let participants = c .before .before .down2 .ensures in
+    let transactions = c .before .before .before .down .ensures in
+    rw (participants .0, participants .1, transactions .0, transactions .1) (sym (parts-of _ (c .before .before .before .before .if1 .left)))
 
 pub from-number-spec : {M : Type 1} → statement M
-from-number-spec = tie.close (tie.spec returns cast-t4 add-t7 cast-t8 cast-t10 returns-2)
+from-number-spec = tie.close (tie.spec returns down-requires down-requires-2 add-t5 cast-t6 returns-2)
