@@ -1,4 +1,4 @@
-//! Log images in plain Rust without a heap: what the proved codec is measured against.
+//! Log images in plain Rust without a heap, and message numbers: what the proved codec is measured against.
 //! A `Log` is made by `read` alone, so `write` need not check it again.
 
 #[derive(Clone, Copy)]
@@ -150,4 +150,26 @@ pub fn image_check(image: &[u8]) -> u16 {
         Err(refusal) => refusal,
     };
     u16::from_le_bytes([number, index as u8])
+}
+
+/// How many steps a number has, at most 7, and the rest. Of `while step <= rest` rustc makes a division.
+fn step_down(number: u16, step: u16) -> (u8, u16) {
+    let (mut steps, mut rest) = (0, number);
+    for _ in 0..7 {
+        if step <= rest {
+            steps += 1;
+            rest -= step;
+        }
+    }
+    (steps, rest)
+}
+
+/// Transaction, participant and kind of a message number, or 26.
+pub fn message_parts(number: u16) -> Result<[u8; 3], u8> {
+    if number > 447 {
+        return Err(26);
+    }
+    let (transaction, rest) = step_down(number, 56);
+    let (participants, kind) = step_down(rest, 7);
+    Ok([transaction, participants + 1, kind as u8])
 }

@@ -1,5 +1,6 @@
 //! The functions of libcodec.a beside two codecs in plain Rust, for bench/run-codec.
-//! `check`: do the plain ones agree? `measure N`: N calls of each, to be counted by callgrind under the names below.
+//! `check`: do the plain ones agree? `images N`: N calls of each on the largest image; `numbers`: a call of each on each
+//! message's number. Callgrind counts them under the names below.
 
 #[allow(dead_code)]
 #[path = "../../../tests/reference/src/codec.rs"]
@@ -21,6 +22,7 @@ extern "C" {
     fn dpr_image_copy(image: *const u8, image_len: usize, buffer: *mut u8, buffer_len: usize, offset: usize) -> u8;
 }
 
+type MessageParts = unsafe extern "C" fn(u16, *mut [u8; 3]) -> u8;
 type ImageCheck = unsafe extern "C" fn(*const u8, usize) -> u16;
 type ImageCopy = unsafe extern "C" fn(*const u8, usize, *mut u8, usize, usize) -> u8;
 
@@ -68,6 +70,18 @@ unsafe extern "C" fn reference_image_copy(
 
 #[no_mangle]
 #[inline(never)]
+unsafe extern "C" fn lean_message_parts(number: u16, parts: *mut [u8; 3]) -> u8 {
+    match lean::message_parts(number) {
+        Err(refusal) => refusal,
+        Ok(message) => {
+            *parts = message;
+            0
+        }
+    }
+}
+
+#[no_mangle]
+#[inline(never)]
 unsafe extern "C" fn reference_message_parts(number: u16, parts: *mut [u8; 3]) -> u8 {
     match codec::Message::from_number(number) {
         Err(refusal) => refusal,
@@ -90,8 +104,15 @@ fn copied(copy: ImageCopy, image: &[u8], room: usize, offset: usize) -> (u8, Vec
     (answer, buffer)
 }
 
+/// Answer and parts of a message number.
+fn parted(parts_of: MessageParts, number: u16) -> (u8, [u8; 3]) {
+    let mut parts = [0xEE; 3];
+    let answer = unsafe { parts_of(number, &mut parts) };
+    (answer, parts)
+}
+
 /// The lean codec against the reference model's: accepted images, their prefixes, their single-byte changes, and bad
-/// records in their places.
+/// records in their places; all message numbers.
 fn check() {
     let mut compared = 0;
     let mut compare = |image: &[u8], room: usize, offset: usize| {
@@ -123,10 +144,13 @@ fn check() {
             }
         }
     }
-    println!("the two codecs in plain Rust agree on {compared} checks and copies");
+    for number in 0..=u16::MAX {
+        assert_eq!(parted(lean_message_parts, number), parted(reference_message_parts, number), "message number {number}");
+    }
+    println!("the two codecs in plain Rust agree on {compared} checks and copies, and on all message numbers");
 }
 
-fn measure(calls: usize) {
+fn measure_images(calls: usize) {
     // the largest: 24 records at the coordinator
     let image = images::accepted(&mut random::Random(7)).into_iter().max_by_key(Vec::len).unwrap();
     assert_eq!((image[4], image[5], image.len()), (0, 24, 182));
@@ -143,11 +167,13 @@ fn measure(calls: usize) {
             assert!(answer == 0 && buffer == wanted);
         }
     }
-    for i in 0..calls {
-        let number = black_box((i % 448) as u16);
-        let (mut proved, mut plain) = ([0; 3], [0; 3]);
-        let answers = unsafe { [dpr_message_parts(number, &mut proved), reference_message_parts(number, &mut plain)] };
-        assert!(answers == [0, 0] && proved == plain);
+}
+
+fn measure_numbers() {
+    for parts_of in [dpr_message_parts as MessageParts, lean_message_parts, reference_message_parts] {
+        for number in 0..448 {
+            assert_eq!(black_box(parted(parts_of, black_box(number))).0, 0);
+        }
     }
 }
 
@@ -155,7 +181,8 @@ fn main() {
     let words: Vec<String> = std::env::args().skip(1).collect();
     match words.iter().map(String::as_str).collect::<Vec<_>>()[..] {
         ["check"] => check(),
-        ["measure", calls] => measure(calls.parse().unwrap()),
-        _ => panic!("check, or measure and the number of calls"),
+        ["images", calls] => measure_images(calls.parse().unwrap()),
+        ["numbers"] => measure_numbers(),
+        _ => panic!("check, numbers, or images and the number of calls"),
     }
 }

@@ -27,8 +27,11 @@ struct Stepped {
 }
 
 impl Stepped {
-    // By subtracting, at most 7 times. Each of the 7 is tried: where the loop ends with the last step that there is, the
-    // compiler divides instead (docs/DECISIONS.md, 2.02).
+    // Transactions and participants are 8 each: from the first there are at most 7 steps.
+    const MOST: u8 = 7;
+
+    // By subtracting. All 7 steps are tried: of a loop that ends at the first that is too long the compiler makes a division
+    // (docs/DECISIONS.md, 2.02).
     fn down(number: u16, step: u16) -> Stepped
         requires { ⌜ (1 ≤ step) × (number / step ≤ 7) ⌝ }
         ensures { λ r. ⌜ (r .steps ≡ number / step) × (r .rest ≡ number % step) ⌝ }
@@ -36,7 +39,7 @@ impl Stepped {
         let mut steps: u8 = 0;
         let mut rest = number;
         let mut tried: u8 = 0;
-        while tried < 7 {
+        while tried < Stepped::MOST {
             if step <= rest {
                 steps += 1;
                 rest -= step;
@@ -72,7 +75,7 @@ impl Parts {
     pub const LAST_KIND: u8 = 6;
     // The number that refuses.
     pub const REFUSED: u8 = 26;
-    // How far numbers are apart: of a transaction and the next, of a participant and the next.
+    // From a transaction's numbers to those of the next, and from a participant's.
     const TRANSACTION_STEP: u16 = 56;
 
     const PARTICIPANT_STEP: u16 = 7;
@@ -106,7 +109,9 @@ impl Parts {
             return NumberAnswer::Refused;
         }
         NumberAnswer::Number(
-            56 * (transaction as u16) + 7 * ((participant - 1) as u16) + (kind as u16),
+            Parts::TRANSACTION_STEP * (transaction as u16)
+                + Parts::PARTICIPANT_STEP * ((participant - 1) as u16)
+                + (kind as u16),
         )
     }
 }
