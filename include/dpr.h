@@ -81,7 +81,8 @@ uint16_t dpr_image_check(const uint8_t *image, size_t image_len);
  * `buffer_len - offset` is under `image_len`; an offset beyond the end of the buffer, of any value, is one of these. */
 uint8_t dpr_image_copy(const uint8_t *image, size_t image_len, uint8_t *buffer, size_t buffer_len, size_t offset);
 
-/* Turns a message number, 56 * handover + 7 * (box - 1) + kind, back into its parts.
+/* Turns a message number, 56 * handover + 7 * (box - 1) + kind, back into its parts, without a division or a
+ * multiplication.
  *
  * DPR_ACCEPTED: parts[0] is the handover (0 to 7), parts[1] the box (1 to 8), parts[2] the kind (0 Prepare, 1 Yes, 2 No,
  * 3 Commit, 4 Abort, 5 CommitAck, 6 AbortAck).
