@@ -1,11 +1,11 @@
 -- Message numbers, and the three bytes that hold a message's parts. Assumes nothing.
-use mathlib.Core.Path.{_≡_, refl, sym, ap, _∙_}
+use mathlib.Core.Path.{_≡_, refl, sym, _∙_}
 use mathlib.Core.List.{List, [], _∷_}
 use mathlib.Core.Option.{Option, none, some}
 use mathlib.Core.Bool.{Bool, true, false, not, _&&_, _||_}
-use Prim.Native.Nat.{ℕ, _<_, _≤_, _+_, _*_, _-_, _/_, _%_}
+use Prim.Native.Nat.{ℕ, suc, _<_, _≤_, _+_, _*_, _-_, _/_, _%_}
 use native.Mathlib.Omega.{arith}
-use native.Mathlib.Nat.{div-eq-of-lt, div-eq-sub-div, mod-eq-sub-mod, div-add-mod}
+use native.Mathlib.Nat.{mul-suc, mul-le-mul-left}
 use borrow.Author.Tests.{le-leb, lt-leb, leb-true, ltb-false, not-true}
 use lib.Dec.{leb, ltb}
 use lib.ListN.{set}
@@ -21,34 +21,38 @@ use Rattle.codec.proofs.message.PartsAnswer.{the-type}
 
 -- ---- a number stepped down
 
--- `steps` were taken and `rest` is left, which has no more steps than are still to be tried
+-- `steps` were taken and `rest` is left, which has no more of them than are still to be tried
 pub record Stepping (number step steps rest tried : ℕ) : Type 0 where
   pub few : tried ≤ 7
-  pub quotient : steps + rest / step ≡ number / step
-  pub remainder : rest % step ≡ number % step
-  pub left : rest / step ≤ 7 - tried
+  pub taken : steps ≤ tried
+  pub whole : number ≡ step * steps + rest
+  pub left : rest < step * (8 - tried)
+
+pub not-stepped : (number step : ℕ) → number < step * 8 → Stepping number step 0 number 0
+not-stepped number step h = record { few = omega arith; taken = omega arith; whole = omega arith; left = h }
 
 module _ {number step steps rest tried : ℕ} (s : Stepping number step steps rest tried) where
-  pub step-taken : 1 ≤ step → step ≤ rest → tried < 7 → Stepping number step (steps + 1) (rest - step) (tried + 1)
-  step-taken positive more again =
-      let next : rest / step ≡ (rest - step) / step + 1 = div-eq-sub-div positive more in
+  pub step-taken : step ≤ rest → tried < 7 → Stepping number step (steps + 1) (rest - step) (tried + 1)
+  step-taken fits again =
+      let one-less : 8 - tried ≡ suc (8 - (tried + 1)) = omega arith in
+      let less : rest < step * suc (8 - (tried + 1)) = rw (← one-less) (s .left) in
       record {
         few = omega arith;
-        quotient = omega (arith, next, s .quotient);
-        remainder = sym (mod-eq-sub-mod more) ∙ s .remainder;
-        left = omega (arith, next, s .left);
+        taken = omega (arith, s .taken);
+        whole = omega (arith, s .whole, mul-suc step steps);
+        left = omega (arith, less, mul-suc step (8 - (tried + 1)));
       }
 
   pub step-left : rest < step → tried < 7 → Stepping number step steps rest (tried + 1)
-  step-left less again =
-      let none : rest / step ≡ 0 = div-eq-of-lt less in
-      record { few = omega arith; quotient = s .quotient; remainder = s .remainder; left = omega (arith, none) }
+  step-left long again =
+      let more : step * 1 ≤ step * (8 - (tried + 1)) = mul-le-mul-left step (omega arith) in
+      record { few = omega arith; taken = omega (arith, s .taken); whole = s .whole; left = omega (arith, more) }
 
-  pub stepped : 7 ≤ tried → (steps ≡ number / step) × (rest ≡ number % step)
+  pub stepped : 7 ≤ tried → (number ≡ step * steps + rest) × (rest < step)
   stepped ended =
-      let none : rest / step ≡ 0 = omega (arith, s .left) in
-      let whole : step * 0 + rest % step ≡ rest = ap (λ (q : ℕ). step * q + rest % step) (sym none) ∙ div-add-mod rest step in
-      (omega (arith, none, s .quotient), omega (arith, whole, s .remainder))
+      let last : 8 - tried ≡ 1 = omega (arith, s .few) in
+      let less : rest < step * 1 = rw (← last) (s .left) in
+      (s .whole, omega (arith, less))
 
 -- ---- a number's parts
 
@@ -56,10 +60,14 @@ pub no-message : (n : ℕ) → 447 < n → messageAnswer (messageParts n) ≡ 26
 unfolding messageParts onlyIf messageAnswer
 no-message n h = rw (lt-leb n 447 h)
 
--- the kind is what the steps of 56 and then those of 7 leave
-pub parts-of : (n : ℕ) → n ≤ 447 → messageAnswer (messageParts n) ≡ 0 ∷ (n / 56) ∷ (n % 56 / 7 + 1) ∷ (n % 56 % 7) ∷ []
+-- `t` steps of 56, `p` of 7, and `k` is left
+pub parts-of : (n t p k rest : ℕ) → n ≤ 447 → n ≡ 56 * t + rest → rest < 56 → rest ≡ 7 * p + k → k < 7 → messageAnswer (messageParts n) ≡ 0 ∷ t ∷ (p + 1) ∷ k ∷ []
 unfolding messageParts onlyIf messageAnswer
-parts-of n h = let kind : n % 56 % 7 ≡ n % 7 = omega arith in rw (le-leb n 447 h, kind)
+parts-of n t p k rest few transactions in-transaction participants in-participant =
+    let t-is : n / 56 ≡ t = omega arith in
+    let p-is : n % 56 / 7 ≡ p = omega arith in
+    let k-is : n % 7 ≡ k = omega arith in
+    rw (le-leb n 447 few, t-is, p-is, k-is)
 
 pub parts-written : (o : Option Parts) (t p k : ℕ) (parts : List ℕ) → messageAnswer o ≡ 0 ∷ t ∷ p ∷ k ∷ [] → partsWritten o parts ≡ written 0 (set (set (set parts 0 t) 1 p) 2 k)
 unfolding messageAnswer partsWritten

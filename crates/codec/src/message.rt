@@ -1,6 +1,6 @@
 // Message kinds and numbers: 16 bits for a message of a kind to or from a participant on a transaction.
 ghost use mathlib.Core.Path.{_≡_};
-ghost use Prim.Native.Nat.{_≤_, _/_, _%_};
+ghost use Prim.Native.Nat.{_+_, _*_, _<_};
 ghost use Rattle.codec.specs.Messages.{messageParts, messageAnswer, partsWritten, numberOf, numberAnswer};
 ghost use Rattle.codec.specs.Answers.{partsIn, partsValues, numberValues, written};
 
@@ -33,8 +33,8 @@ impl Stepped {
     // By subtracting. All 7 steps are tried: of a loop that ends at the first that is too long the compiler makes a division
     // (docs/DECISIONS.md, 2.02).
     fn down(number: u16, step: u16) -> Stepped
-        requires { ⌜ (1 ≤ step) × (number / step ≤ 7) ⌝ }
-        ensures { λ r. ⌜ (r .steps ≡ number / step) × (r .rest ≡ number % step) ⌝ }
+        requires { ⌜ number < step * 8 ⌝ }
+        ensures { λ r. ⌜ (number ≡ step * r .steps + r .rest) × (r .rest < step) ⌝ }
     {
         let mut steps: u8 = 0;
         let mut rest = number;

@@ -10,10 +10,10 @@ unfolding partsValues
 returns c = sym (no-message _ (c .if1 .taken))
 
 down-requires : tie.Need-down-requires
-down-requires c κs = (omega arith, omega (arith, c .if1 .left))
+down-requires c κs = omega (arith, c .if1 .left)
 
 down-requires-2 : tie.Need-down-requires-2
-down-requires-2 c κs = (omega arith, omega (arith, c .down .ensures .1))
+down-requires-2 c κs = omega (arith, c .down .ensures .1)
 
 add-t5 : tie.Need-add-t5
 add-t5 c = let p = c .before in omega (arith, p .down2 .ensures .0, p .before .down .ensures .1)
@@ -26,7 +26,7 @@ unfolding partsValues
 returns-2 c =
     let participants = c .before .before .down2 .ensures in
     let transactions = c .before .before .before .down .ensures in
-    rw (participants .0, participants .1, transactions .0, transactions .1) (sym (parts-of _ (c .before .before .before .before .if1 .left)))
+    sym (parts-of _ _ _ _ _ (c .before .before .before .before .if1 .left) (transactions .0) (transactions .1) (participants .0) (participants .1))
 
 pub from-number-spec : {M : Type 1} → statement M
 from-number-spec = tie.close (tie.spec returns down-requires down-requires-2 add-t5 cast-t6 returns-2)

@@ -1,8 +1,7 @@
-use mathlib.Core.Path.{refl}
 use mathlib.Core.Logic.{⊎-elim}
 use Prim.Native.Nat.{_-_}
 use native.Mathlib.Omega.{arith}
-use Rattle.codec.proofs.Numbered.{Stepping, step-taken, step-left, stepped}
+use Rattle.codec.proofs.Numbered.{Stepping, not-stepped, step-taken, step-left, stepped}
 use Rattle.codec.proofs.message.Stepped.down.Statement.{statement}
 use Rattle.codec.proofs.message.Stepped.down.Tie as tie
 
@@ -13,10 +12,10 @@ abbrev μ-loop : tie.MeasureT-loop
 μ-loop number step steps₀ rest₀ tried₀ steps rest tried = 7 - tried
 
 loop-holds : tie.Need-loop-holds Inv-loop μ-loop
-loop-holds c = record { few = omega arith; quotient = omega arith; remainder = refl; left = c .pre .1 }
+loop-holds c = not-stepped _ _ (c .pre)
 
 add-steps : tie.Need-add-steps Inv-loop μ-loop
-add-steps c = let w = c .before .before in omega (arith, w .loop .inv .quotient, w .before .pre .1)
+add-steps c = let w = c .before .before in omega (arith, w .loop .inv .taken, w .loop .inv .few)
 
 add-tried : tie.Need-add-tried Inv-loop μ-loop
 add-tried c = omega (arith, c .before .loop-test .taken)
@@ -29,7 +28,7 @@ loop-again c =
     let l = c .before .before in
     let again = c .before .loop-test .taken in
     ⊎-elim
-    (λ w. rw (w .1, w .2) (step-taken (l .loop .inv) (l .before .pre .0) (w .0 .taken) again))
+    (λ w. rw (w .1, w .2) (step-taken (l .loop .inv) (w .0 .taken) again))
     (λ w. rw (w .1, w .2) (step-left (l .loop .inv) (w .0 .left) again))
     (c .if1 .came)
 
