@@ -172,7 +172,8 @@ fn measure_images(calls: usize) {
 fn measure_numbers() {
     for parts_of in [dpr_message_parts as MessageParts, lean_message_parts, reference_message_parts] {
         for number in 0..448 {
-            assert_eq!(black_box(parted(parts_of, black_box(number))).0, 0);
+            let wanted = [(number / 56) as u8, (number % 56 / 7 + 1) as u8, (number % 7) as u8];
+            assert_eq!(black_box(parted(parts_of, black_box(number))), (0, wanted));
         }
     }
 }
