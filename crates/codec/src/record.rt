@@ -3,7 +3,7 @@ use crate::sets::minus;
 use crate::sets::part;
 ghost use mathlib.Core.Path.{_≡_};
 ghost use lib.ListN.{length, getD, set, replicate};
-ghost use Rattle.codec.specs.Records.{bytesOf, lengthOf, recordKindAt, fieldsInRange};
+ghost use Rattle.codec.specs.Records.{bytesOf, lengthOf, awaitsAcks, recordKindAt, fieldsInRange};
 ghost use Rattle.codec.specs.Answers.{recordIn, noRecord, recordNumber};
 ghost use Rattle.codec.specs.Inside.{recordFrom, mayFollow, answerOn};
 
@@ -189,8 +189,21 @@ impl Record {
         }
     }
 
+    // Whether a record 2 has a PrA member, one that is not in PC: its commit is not closed before record 3. The definition does
+    // not ask for the kind, so of others it goes by the fields that they have: a record 5 has one.
+    pub fn awaits_acks(self) -> bool
+        ensures { λ r. ⌜ r ≡ awaitsAcks (recordIn self) ⌝ }
+    {
+        let kind = self.kind;
+        match kind {
+            Record::INIT | Record::COMMIT => minus(self.first, self.second) != 0,
+            Record::PREPARED => self.first != 0,
+            _ => false,
+        }
+    }
+
     // Whether the record may stand behind the newest one of its transaction: by the table, with equal masks in 1 and 2,
-    // and a member that owes an ack before 3.
+    // and a PrA member before 3.
     fn follows(self, newest: Record) -> bool
         ensures { λ r. ⌜ r ≡ mayFollow (recordIn newest) (recordIn self) ⌝ }
     {
@@ -202,12 +215,12 @@ impl Record {
         if Record::ABORTED < kind {
             return false;
         }
+        if (before == Record::COMMIT) & (kind == Record::COMMIT_END) {
+            return newest.awaits_acks();
+        }
         let tabled = (Record::NEXT[before as usize] >> kind) % 2 == 1;
         let same = (newest.first == self.first) & (newest.second == self.second);
-        let awaits = minus(newest.first, newest.second) != 0;
-        tabled
-            & (!((before == Record::INIT) & (kind == Record::COMMIT)) | same)
-            & (!((before == Record::COMMIT) & (kind == Record::COMMIT_END)) | awaits)
+        tabled & (!((before == Record::INIT) & (kind == Record::COMMIT)) | same)
     }
 
     // The record as one of a site, behind the newest one of its transaction: 23, 27, 28 and 24 in this order.

@@ -1,6 +1,6 @@
-use mathlib.Core.Path.{sym}
+use mathlib.Core.Path.{sym, _∙_}
 use Rattle.codec.specs.Inside.{nextKinds}
-use Rattle.codec.proofs.Behind.{newest-no-kind, next-no-kind, follows-is}
+use Rattle.codec.proofs.Behind.{newest-no-kind, next-no-kind, end-behind-commit, follows-is}
 use borrow.Author.Needs.{needs}
 use Rattle.codec.proofs.record.Record.follows.Statement.{statement}
 use Rattle.codec.proofs.record.Record.follows.Tie as tie
@@ -11,6 +11,13 @@ returns c = sym (newest-no-kind (c .before .args .newest) (c .before .args .self
 returns-2 : tie.Need-returns-2
 returns-2 c = sym (next-no-kind (c .before .before .args .newest) (c .before .before .args .self) (c .if2 .taken))
 
+awaits-acks-requires : tie.Need-awaits-acks-requires
+awaits-acks-requires c κs = tt
+
+returns-3 : tie.Need-returns-3
+returns-3 c = let a = c .before .before .before .before .args in
+    c .awaits-acks .ensures ∙ sym (end-behind-commit (a .newest) (a .self) (c .before .if3 .taken))
+
 cast-tabled : tie.Need-cast-tabled
 cast-tabled c = search needs
 
@@ -20,16 +27,22 @@ array-read-tabled c = search needs
 shr-tabled : tie.Need-shr-tabled
 shr-tabled c = search needs
 
-minus-requires : tie.Need-minus-requires
-minus-requires c κs = search needs
-
-returns-3 : tie.Need-returns-3
+returns-4 : tie.Need-returns-4
 unfolding nextKinds
-returns-3 c = let test = c .before .before .before .before .before in
+returns-4 c = let pair = c .before .before .before .before in
+    let test = pair .before in
     let a = test .before .before .args in
-    rw (c .minus .ensures) (follows-is (a .newest) (a .self) (test .before .if1 .left) (test .if2 .left))
+    follows-is (a .newest) (a .self) (test .before .if1 .left) (test .if2 .left) (pair .if3 .left)
 
 pub follows-spec : {M : Type 1} → statement M
 follows-spec =
     tie.close
-    (tie.spec returns returns-2 cast-tabled array-read-tabled shr-tabled minus-requires returns-3)
+    (tie.spec
+    returns
+    returns-2
+    awaits-acks-requires
+    returns-3
+    cast-tabled
+    array-read-tabled
+    shr-tabled
+    returns-4)
