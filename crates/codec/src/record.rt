@@ -21,7 +21,7 @@ pub struct Newest {
 }
 
 impl Newest {
-    pub fn none() -> Newest
+    pub(crate) fn none() -> Newest
         ensures { λ r. ⌜ r .of ≡ replicate 8 noRecord ⌝ }
     {
         Newest {
@@ -30,7 +30,7 @@ impl Newest {
     }
 
     // The newest record of a record's transaction.
-    pub fn behind(self, x: Record) -> Record
+    pub(crate) fn behind(self, x: Record) -> Record
         ensures { λ r. ⌜ r ≡ getD (self .of) (x .transaction) noRecord ⌝ }
     {
         let transaction = x.transaction;
@@ -41,7 +41,7 @@ impl Newest {
     }
 
     // With one record more.
-    pub fn with(self, x: Record) -> Newest
+    pub(crate) fn with(self, x: Record) -> Newest
         ensures { λ r. ⌜ r .of ≡ set (self .of) (x .transaction) x ⌝ }
     {
         let transaction = x.transaction;
@@ -74,7 +74,7 @@ fn byte(bytes: &[u8], at: usize) -> u8
 }
 
 impl RecordAnswer {
-    pub fn number(self) -> u8
+    pub(crate) fn number(self) -> u8
         ensures { λ r. ⌜ r ≡ recordNumber self ⌝ }
     {
         match self {
@@ -151,7 +151,7 @@ impl Record {
     }
 
     // The bytes as a record of a site, behind the newest record of each transaction.
-    pub fn read(bytes: &[u8], site: u8, newest: Newest) -> RecordAnswer
+    pub(crate) fn read(bytes: &[u8], site: u8, newest: Newest) -> RecordAnswer
         ensures { λ r. ⌜ r ≡ answerOn site (now (bytes .entry)) (recordIn (getD (newest .of) (recordFrom (now (bytes .entry)) .transaction) noRecord)) (recordFrom (now (bytes .entry))) ⌝ }
     {
         let record = Record::from_bytes(bytes);
@@ -224,7 +224,7 @@ impl Record {
     }
 
     // The record as one of a site, behind the newest one of its transaction: 23, 27, 28 and 24 in this order.
-    pub fn judged(self, site: u8, newest: Record) -> RecordAnswer
+    pub(crate) fn judged(self, site: u8, newest: Record) -> RecordAnswer
         ensures { λ r. ⌜ r ≡ answerOn site (bytesOf (recordIn self)) (recordIn newest) self ⌝ }
     {
         let kind = self.kind;
