@@ -1,4 +1,5 @@
 // The stable records of a site, as an image holds them.
+use crate::message::Parts;
 use crate::record::Newest;
 use crate::record::Record;
 use crate::record::RecordAnswer;
@@ -11,7 +12,7 @@ ghost use Rattle.codec.specs.Answers.{logIn, noLog};
 pub struct Log {
     pub site: u8,
     pub count: usize,
-    pub records: [Record; 24],
+    pub records: [Record; Log::COORDINATOR_MOST],
 }
 
 impl Log {
@@ -22,10 +23,9 @@ impl Log {
 
     pub const PAIR: usize = 4;
 
+    // Site 0; the others are those of the participants.
     pub const COORDINATOR: u8 = 0;
-
-    pub const LAST_SITE: u8 = 8;
-
+    // The most records of an image, at the coordinator and at a participant.
     pub const COORDINATOR_MOST: usize = 24;
 
     pub const PARTICIPANT_MOST: usize = 16;
@@ -36,7 +36,7 @@ impl Log {
         Log {
             site,
             count: 0,
-            records: [Record::NONE; 24],
+            records: [Record::NONE; Log::COORDINATOR_MOST],
         }
     }
 
@@ -44,7 +44,7 @@ impl Log {
     pub fn over_limit(site: u8, count: usize) -> bool
         ensures { λ r. ⌜ r ≡ overLimit site count ⌝ }
     {
-        if Log::LAST_SITE < site {
+        if Parts::LAST_PARTICIPANT < site {
             return true;
         }
         if site == Log::COORDINATOR {

@@ -28,7 +28,7 @@ struct Stepped {
 
 impl Stepped {
     // Transactions and participants are 8 each: from the first there are at most 7 steps.
-    const MOST: u8 = 7;
+    const MOST: u8 = Parts::LAST_TRANSACTION;
 
     // By subtracting. All 7 steps are tried: of a loop that ends at the first that is too long the compiler makes a division
     // (docs/DECISIONS.md, 2.02).

@@ -94,7 +94,7 @@ fn read_records(bytes: &[u8]) -> ImageAnswer
 {
     let site = bytes[4];
     let count = bytes[5] as usize;
-    let mut records = [Record::NONE; 24];
+    let mut records = [Record::NONE; Log::COORDINATOR_MOST];
     let mut newest = Newest::none();
     let mut at = Log::FIXED + Log::PAIR * count;
     let mut i = 0;

@@ -1,4 +1,6 @@
 // One log record: its fields, its length, and the tests on it (refusals 23, 27, 28 and 24).
+use crate::log::Log;
+use crate::message::Parts;
 use crate::sets::minus;
 use crate::sets::part;
 ghost use mathlib.Core.Path.{_≡_};
@@ -17,7 +19,7 @@ pub struct Record {
 
 // The newest record of each transaction among some records, NONE where there is none.
 pub struct Newest {
-    pub of: [Record; 8],
+    pub of: [Record; Parts::LAST_TRANSACTION as usize + 1],
 }
 
 impl Newest {
@@ -25,7 +27,7 @@ impl Newest {
         ensures { λ r. ⌜ r .of ≡ replicate 8 noRecord ⌝ }
     {
         Newest {
-            of: [Record::NONE; 8],
+            of: [Record::NONE; Parts::LAST_TRANSACTION as usize + 1],
         }
     }
 
@@ -34,7 +36,7 @@ impl Newest {
         ensures { λ r. ⌜ r ≡ getD (self .of) (x .transaction) noRecord ⌝ }
     {
         let transaction = x.transaction;
-        if Record::LAST_TRANSACTION < transaction {
+        if Parts::LAST_TRANSACTION < transaction {
             return Record::NONE;
         }
         self.of[transaction as usize]
@@ -45,7 +47,7 @@ impl Newest {
         ensures { λ r. ⌜ r .of ≡ set (self .of) (x .transaction) x ⌝ }
     {
         let transaction = x.transaction;
-        if Record::LAST_TRANSACTION < transaction {
+        if Parts::LAST_TRANSACTION < transaction {
             return self;
         }
         let mut newest = self;
@@ -102,7 +104,9 @@ impl Record {
 
     pub const ABORTED: u8 = 7;
 
-    pub const LAST_TRANSACTION: u8 = 7;
+    pub const LAST_KIND: u8 = Record::ABORTED;
+    // A record 5's field is 0 or 1.
+    const LAST_PRESUMPTION: u8 = 1;
     // Kind 0 is no record.
     pub const NONE: Record = Record {
         kind: 0,
@@ -111,16 +115,16 @@ impl Record {
         second: 0,
     };
     // Length by kind.
-    const LENGTHS: [u8; 8] = [0, 4, 4, 2, 2, 3, 2, 2];
+    const LENGTHS: [u8; Record::LAST_KIND as usize + 1] = [0, 4, 4, 2, 2, 3, 2, 2];
     // The kinds that may stand behind a kind of their transaction, as a mask, bit k for kind k: first any, behind 1 2 and 4,
     // behind 2 3, behind 5 6 and 7.
-    const NEXT: [u8; 8] = [0xFE, 0x14, 0x08, 0, 0, 0xC0, 0, 0];
+    const NEXT: [u8; Record::LAST_KIND as usize + 1] = [0xFE, 0x14, 0x08, 0, 0, 0xC0, 0, 0];
 
     // How many bytes a record of a kind has; 0 for what is no kind.
     pub fn length_of(kind: u8) -> usize
         ensures { λ r. ⌜ r ≡ lengthOf kind ⌝ }
     {
-        if Record::ABORTED < kind {
+        if Record::LAST_KIND < kind {
             return 0;
         }
         Record::LENGTHS[kind as usize] as usize
@@ -167,8 +171,8 @@ impl Record {
         ensures { λ r. ⌜ r ≡ recordKindAt site kind ⌝ }
     {
         match kind {
-            1..=4 => site == 0,
-            5..=7 => site != 0,
+            Record::INIT..=Record::ABORT_END => site == Log::COORDINATOR,
+            Record::PREPARED..=Record::ABORTED => site != Log::COORDINATOR,
             _ => false,
         }
     }
@@ -183,7 +187,7 @@ impl Record {
         match kind {
             Record::INIT => (1 <= first) & part(second, first) & (second != 0),
             Record::COMMIT => (1 <= first) & part(second, first),
-            Record::PREPARED => first <= 1,
+            Record::PREPARED => first <= Record::LAST_PRESUMPTION,
             Record::COMMIT_END | Record::ABORT_END | Record::COMMITTED | Record::ABORTED => true,
             _ => false,
         }
@@ -209,10 +213,10 @@ impl Record {
     {
         let before = newest.kind;
         let kind = self.kind;
-        if Record::ABORTED < before {
+        if Record::LAST_KIND < before {
             return false;
         }
-        if Record::ABORTED < kind {
+        if Record::LAST_KIND < kind {
             return false;
         }
         if (before == Record::COMMIT) & (kind == Record::COMMIT_END) {
@@ -232,7 +236,7 @@ impl Record {
         if !Record::kind_at(site, kind) {
             return RecordAnswer::WrongKind;
         }
-        if Record::LAST_TRANSACTION < transaction {
+        if Parts::LAST_TRANSACTION < transaction {
             return RecordAnswer::WrongTransaction;
         }
         if !self.fields_in_range() {

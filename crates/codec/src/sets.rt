@@ -1,4 +1,5 @@
 // Sets of participants (01: boxes) as masks: bit p - 1 is participant p.
+use crate::message::Parts;
 ghost use mathlib.Core.Path.{_≡_};
 ghost use Rattle.codec.specs.Sets as sets;
 
@@ -6,7 +7,7 @@ ghost use Rattle.codec.specs.Sets as sets;
 pub fn member(participant: u8, mask: u8) -> bool
     ensures { λ r. ⌜ r ≡ sets.member participant mask ⌝ }
 {
-    if (participant < 1) | (8 < participant) {
+    if (participant < 1) | (Parts::LAST_PARTICIPANT < participant) {
         return false;
     }
     (mask >> (participant - 1)) % 2 == 1
@@ -16,7 +17,7 @@ pub fn member(participant: u8, mask: u8) -> bool
 pub fn only(participant: u8) -> u8
     ensures { λ r. ⌜ r ≡ sets.only participant ⌝ }
 {
-    if (participant < 1) | (8 < participant) {
+    if (participant < 1) | (Parts::LAST_PARTICIPANT < participant) {
         return 0;
     }
     1 << (participant - 1)

@@ -38,7 +38,7 @@ fn write_pair(offset: usize, length: usize, out: &mut [u8])
 }
 
 // The pair table of the first `count` records.
-fn write_pairs(records: [Record; 24], count: usize, out: &mut [u8])
+fn write_pairs(records: [Record; Log::COORDINATOR_MOST], count: usize, out: &mut [u8])
     requires { ⌜ (count ≤ 24) × (length (pairTable (headLength count) (bytesIn count records)) ≤ length (now out)) ⌝ }
     ensures { λ _. ⌜ now (out .exit) ≡ stored 0 (pairTable (headLength count) (bytesIn count records)) (now (out .entry)) ⌝ }
 {
@@ -71,7 +71,7 @@ fn write_record(x: Record, out: &mut [u8])
 }
 
 // The records, without gaps.
-fn write_records(records: [Record; 24], count: usize, out: &mut [u8])
+fn write_records(records: [Record; Log::COORDINATOR_MOST], count: usize, out: &mut [u8])
     requires { ⌜ (count ≤ 24) × (length (flatten (bytesIn count records)) ≤ length (now out)) ⌝ }
     ensures { λ _. ⌜ now (out .exit) ≡ stored 0 (flatten (bytesIn count records)) (now (out .entry)) ⌝ }
 {
@@ -86,7 +86,7 @@ fn write_records(records: [Record; 24], count: usize, out: &mut [u8])
 }
 
 // The length of the image of the first `count` records.
-fn size_of(records: [Record; 24], count: usize) -> usize
+fn size_of(records: [Record; Log::COORDINATOR_MOST], count: usize) -> usize
     requires { ⌜ count ≤ 24 ⌝ }
     ensures { λ r. ⌜ r ≡ headLength count + length (flatten (bytesIn count records)) ⌝ }
 {
@@ -109,7 +109,7 @@ fn write_front(log: Log, out: &mut [u8])
     let count = log.count;
     write_head(site, count as u8, out);
     let records = log.records;
-    write_pairs(records, count, &mut out[6..]);
+    write_pairs(records, count, &mut out[Log::FIXED..]);
     let at = Log::FIXED + Log::PAIR * count;
     write_records(records, count, &mut out[at..]);
 }

@@ -8,6 +8,7 @@ use crate::participant::ParticipantAnswer;
 use crate::phases::CoordinatorPhase;
 use crate::phases::ParticipantPhase;
 use crate::presumption::Outcome;
+use codec::log::Log;
 use codec::message::Parts;
 use codec::sets::member;
 use codec::sets::part;
@@ -133,7 +134,7 @@ fn participant_step(
     participant_result(site.step(kind), phase)
 }
 
-// One site's step; site 0 is the coordinator.
+// One site's step.
 #[no_mangle]
 pub extern "C" fn dpr_site_step(
     site: u8,
@@ -149,14 +150,14 @@ pub extern "C" fn dpr_site_step(
     ensures { λ r. ⌜ r ≡ numbers.packed (numbers.siteStep (argumentsIn site kind transaction participant presumption phase waiting members «presume_commit»)) ⌝ }
 {
     let wrong = (Parts::LAST_TRANSACTION < transaction)
-        | (4 < phase)
+        | (CoordinatorPhase::LAST < phase)
         | (members < 1)
         | !part(presume_commit, members);
     if wrong {
         return REFUSED;
     }
     match site {
-        0 => coordinator_step(
+        Log::COORDINATOR => coordinator_step(
             kind,
             participant,
             presumption,
@@ -165,7 +166,7 @@ pub extern "C" fn dpr_site_step(
             members,
             presume_commit,
         ),
-        1..=8 => {
+        1..=Parts::LAST_PARTICIPANT => {
             if (waiting != 0) | (participant != site) {
                 return REFUSED;
             }

@@ -16,6 +16,9 @@ pub enum CoordinatorPhase {
 }
 
 impl CoordinatorPhase {
+    // The largest number of a phase. A participant's phases are as many.
+    pub const LAST: u8 = 4;
+
     // What is no phase is Unknown.
     pub fn from_numbers(phase: u8, waiting: u8) -> CoordinatorPhase
         ensures { λ r. ⌜ coordinatorIn r ≡ coordinatorOf phase waiting ⌝ }
