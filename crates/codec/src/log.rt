@@ -29,6 +29,14 @@ impl Log {
     pub const COORDINATOR_MOST: usize = 24;
 
     pub const PARTICIPANT_MOST: usize = 16;
+    // The numbers that refuse an image as a whole, and the one that refuses a lent buffer.
+    pub const NO_OPENING: u8 = 20;
+
+    pub const OVER_LIMIT: u8 = 21;
+
+    pub const TABLE_NOT_EXACT: u8 = 22;
+
+    pub const NO_ROOM: u8 = 25;
 
     pub fn new(site: u8) -> Log
         ensures { λ r. ⌜ r ≡ noLog site ⌝ }
@@ -60,7 +68,7 @@ impl Log {
         let site = self.site;
         let count = self.count;
         if Log::over_limit(site, count) {
-            return 21;
+            return Log::OVER_LIMIT;
         }
         let records = self.records;
         let mut newest = Newest::none();

@@ -126,15 +126,15 @@ pub fn read_image(bytes: &[u8]) -> ImageAnswer
     ensures { λ r. ⌜ imageValues r ≡ values (readImage (now (bytes .entry))) ⌝ }
 {
     if !opens(bytes) {
-        return ImageAnswer::refused(20, 0);
+        return ImageAnswer::refused(Log::NO_OPENING, 0);
     }
     let site = bytes[4];
     let count = bytes[5] as usize;
     if Log::over_limit(site, count) {
-        return ImageAnswer::refused(21, 0);
+        return ImageAnswer::refused(Log::OVER_LIMIT, 0);
     }
     if !table_exact(bytes) {
-        return ImageAnswer::refused(22, 0);
+        return ImageAnswer::refused(Log::TABLE_NOT_EXACT, 0);
     }
     read_records(bytes)
 }

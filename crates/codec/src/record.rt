@@ -76,15 +76,24 @@ fn byte(bytes: &[u8], at: usize) -> u8
 }
 
 impl RecordAnswer {
+    // The numbers that refuse a record.
+    pub const WRONG_KIND: u8 = 23;
+
+    pub const WRONG_TRANSACTION: u8 = 27;
+
+    pub const WRONG_FIELD: u8 = 28;
+
+    pub const OUT_OF_SEQUENCE: u8 = 24;
+
     pub(crate) fn number(self) -> u8
         ensures { λ r. ⌜ r ≡ recordNumber self ⌝ }
     {
         match self {
             RecordAnswer::Accepted(_) => 0,
-            RecordAnswer::WrongKind => 23,
-            RecordAnswer::WrongTransaction => 27,
-            RecordAnswer::WrongField => 28,
-            RecordAnswer::OutOfSequence => 24,
+            RecordAnswer::WrongKind => RecordAnswer::WRONG_KIND,
+            RecordAnswer::WrongTransaction => RecordAnswer::WRONG_TRANSACTION,
+            RecordAnswer::WrongField => RecordAnswer::WRONG_FIELD,
+            RecordAnswer::OutOfSequence => RecordAnswer::OUT_OF_SEQUENCE,
         }
     }
 }

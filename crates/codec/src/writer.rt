@@ -122,10 +122,10 @@ fn place(log: Log, buffer: &mut [u8], at: usize) -> u8
     let records = log.records;
     let size = size_of(records, log.count);
     if buffer.len() < at {
-        return 25;
+        return Log::NO_ROOM;
     }
     if buffer.len() - at < size {
-        return 25;
+        return Log::NO_ROOM;
     }
     write_front(log, &mut buffer[at..]);
     0
