@@ -11,7 +11,7 @@ use borrow.Author.Tests.{le-leb}
 use Rattle.codec.specs.Sets.{member, empty, without, both, only}
 use Rattle.codec.specs.laws.Masks.{those-below}
 use Rattle.site.specs.Presumption.{Outcome, commit, abort, silence, sameOutcome, Presumption, acks, presumptionNumber}
-use Rattle.site.specs.Cohort.{Cohort, presumptionOf, owing, masksOf}
+use Rattle.site.specs.Cohort.{Cohort, masksOf, writesInit, presumptionOf, owing}
 use Rattle.site.specs.Step.{Message, prepare, voteYes, voteNo, tell, ack, messages, messageKind, Effect, append, force, enter, send, given, Input, begin, timer, received, Row}
 use Rattle.site.specs.Coordinator.{ordered, tellAll, inOrder, preparing, committing, aborting, telling, endRecord, voted, onYes, onNo, coordinatorTimer, acked, ackedIf, onAck, onBegin, coordinatorStep, Coordinator}
 use Rattle.site.specs.Participant.{outcomeRecord, voting, promising, onPrepare, acking, finish, acknowledging, ackingIf, onTell, participantTimer, participantStep, Participant, working, prepared, decided}
@@ -122,7 +122,7 @@ module _ (a : Arguments) where
 
   preparing-done : a .cohort .members < 256 → done a (summary (preparing (a .cohort) .effects)) ≡ preparing (a .cohort) .effects
   unfolding preparing appending fieldsOf given entryOf goFirst messageKind
-  preparing-done h = rw (sym (ordered-by-turn (a .cohort .members))) (by (not (empty (a .cohort .presumeCommit))))
+  preparing-done h = rw (sym (ordered-by-turn (a .cohort .members))) (by (writesInit (a .cohort)))
     where
       by : (b : Bool) → done a (summary (given b (append 1 (masksOf (a .cohort)) ∷ force ∷ []) ++ map (send prepare) (ordered 0 (a .cohort .members))))
           ≡ given b (append 1 (masksOf (a .cohort)) ∷ force ∷ []) ++ map (send prepare) (ordered 0 (a .cohort .members))
@@ -131,7 +131,7 @@ module _ (a : Arguments) where
 
   aborting-done : (to : ℕ) → to < 256 → done a (summary (aborting (a .cohort) to .effects)) ≡ aborting (a .cohort) to .effects
   unfolding aborting tellAll inOrder appending given entryOf
-  aborting-done to h = by (empty (both to (owing (a .cohort) abort)) && not (empty (a .cohort .presumeCommit)))
+  aborting-done to h = by (empty (both to (owing (a .cohort) abort)) && writesInit (a .cohort))
     where
       by : (b : Bool) → done a (summary (enter abort ∷ map (send (tell abort)) (ordered (owing (a .cohort) abort) to) ++ given b (append 4 [] ∷ [])))
           ≡ enter abort ∷ map (send (tell abort)) (ordered (owing (a .cohort) abort) to) ++ given b (append 4 [] ∷ [])

@@ -1,8 +1,8 @@
 -- The participants of one transaction, with their presumptions.
 use Prim.Native.Nat.{ℕ}
-use mathlib.Core.Bool.{cond, _&&_}
+use mathlib.Core.Bool.{Bool, cond, not, _&&_}
 use mathlib.Core.List.{List, [], _∷_}
-use Rattle.codec.specs.Sets.{member, those}
+use Rattle.codec.specs.Sets.{member, empty, those}
 use Rattle.site.specs.Presumption.{Outcome, Presumption, presumedAbort, presumedCommit, acks}
 
 -- the members, and those of them that presume commit (01: PC)
@@ -13,6 +13,10 @@ pub record Cohort : Type 0 where
 -- the fields of the records 1 and 2 behind the transaction
 unfoldable pub masksOf : Cohort → List ℕ
 masksOf g = g .members ∷ g .presumeCommit ∷ []
+
+-- Init is written at begin: PC is not empty
+abbrev pub writesInit : Cohort → Bool
+writesInit g = not (empty (g .presumeCommit))
 
 unfoldable pub presumptionOf : Cohort → ℕ → Presumption
 presumptionOf g p = cond (member p (g .presumeCommit)) presumedCommit presumedAbort

@@ -6,7 +6,7 @@ use mathlib.Core.Option.{Option, none, some}
 use Rattle.codec.specs.Lists.{select}
 use Rattle.codec.specs.Sets.{member, empty, listed, without, both}
 use Rattle.site.specs.Presumption.{Outcome, commit, abort, sameOutcome, silence}
-use Rattle.site.specs.Cohort.{Cohort, masksOf, presumptionOf, owing}
+use Rattle.site.specs.Cohort.{Cohort, masksOf, writesInit, presumptionOf, owing}
 use Rattle.site.specs.Step.{prepare, voteYes, voteNo, tell, ack, Input, begin, timer, received, Effect, append, force, enter, send, Row, given}
 
 -- `initial` is 01's Open, `awaitingAcks commit` its Committing, `awaitingAcks abort` its Aborting. The number is the set still waited for.
@@ -50,7 +50,7 @@ module _ (g : Cohort) where
   unfoldable pub preparing : Row Coordinator
   preparing =
       record {
-        effects = given (not (empty (g .presumeCommit))) (append 1 (masksOf g) ∷ force ∷ []) ++ map (send prepare) (inTurn (g .members));
+        effects = given (writesInit g) (append 1 (masksOf g) ∷ force ∷ []) ++ map (send prepare) (inTurn (g .members));
         phase = collecting (g .members);
       }
 
@@ -88,7 +88,7 @@ module _ (g : Cohort) where
   aborting to =
       let w = both to (owing g abort) in
       record {
-        effects = enter abort ∷ tellAll abort to ++ given (empty w && not (empty (g .presumeCommit))) (append 4 [] ∷ []);
+        effects = enter abort ∷ tellAll abort to ++ given (empty w && writesInit g) (append 4 [] ∷ []);
         phase = untilAcked abort w;
       }
 

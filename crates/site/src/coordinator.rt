@@ -80,17 +80,23 @@ impl Coordinator {
         }
     }
 
+    // Whether Init is written at begin.
+    fn writes_init(self) -> bool
+        ensures { λ r. ⌜ r ≡ cohort.writesInit (cohortIn self) ⌝ }
+    {
+        self.presume_commit != 0
+    }
+
     fn preparing(self) -> CoordinatorRow
         ensures { λ r. ⌜ coordinatorRowIn r ≡ coordinator.preparing (cohortIn self) ⌝ }
     {
         let members = self.members;
-        let presume_commit = self.presume_commit;
-        let forced = presume_commit != 0;
+        let forced = self.writes_init();
         CoordinatorRow {
             effects: Effects {
                 appended: if forced { Record::INIT } else { 0 },
                 first: members,
-                second: presume_commit,
+                second: self.presume_commit,
                 forced: forced,
                 entered: 0,
                 message: Parts::PREPARE,
@@ -142,7 +148,7 @@ impl Coordinator {
     {
         let owing = self.owing(Outcome::Abort);
         let waiting = both(to, owing);
-        let ended = (waiting == 0) & (self.presume_commit != 0);
+        let ended = (waiting == 0) & self.writes_init();
         CoordinatorRow {
             effects: Effects {
                 appended: 0,

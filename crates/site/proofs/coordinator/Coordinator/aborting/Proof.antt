@@ -1,4 +1,4 @@
-use mathlib.Core.Bool.{not, _&&_}
+use mathlib.Core.Bool.{_&&_}
 use mathlib.Core.Logic.{inl, inr, ⊎-elim}
 use lib.Dec.{eqb}
 use Rattle.site.specs.Answers.{effectsIn, sending}
@@ -16,16 +16,19 @@ owing-requires c κs = tt
 both-requires : tie.Need-both-requires
 both-requires c κs = tt
 
+writes-init-requires : tie.Need-writes-init-requires
+writes-init-requires c κs = tt
+
 until-acked-requires : tie.Need-until-acked-requires
 until-acked-requires c κs = tt
 
 returns : tie.Need-returns
 unfolding aborting tellAll inOrder empty effectsIn appending entryOf sending messages given
 returns c =
-    let s = c .before .before .before .before .args in
-    let w = c .before .before .both .result in
-    let closed = abort-closed (eqb w 0 && not (eqb (s .self .«presume_commit») 0)) (c .before .if1 .t18) (sending 4 (c .before .before .before .owing .result) (s .to)) (⊎-elim (λ h. inl (h .0 .taken, h .1)) (λ h. inr (h .0 .left, h .1)) (c .before .if1 .came)) in
-    rw (c .until-acked .ensures, closed, c .before .before .both .ensures, c .before .before .before .owing .ensures)
+    let init = c .before .before in
+    let made = init .before in
+    let closed = abort-closed (eqb (made .both .result) 0 && init .writes-init .result) (c .before .if1 .t18) (sending 4 (made .before .owing .result) (made .before .before .args .to)) (⊎-elim (λ h. inl (h .0 .taken, h .1)) (λ h. inr (h .0 .left, h .1)) (c .before .if1 .came)) in
+    rw (c .until-acked .ensures, closed, init .writes-init .ensures, made .both .ensures, made .before .owing .ensures)
 
 pub aborting-spec : {M : Type 1} → statement M
-aborting-spec = tie.close (tie.spec owing-requires both-requires until-acked-requires returns)
+aborting-spec = tie.close (tie.spec owing-requires both-requires writes-init-requires until-acked-requires returns)

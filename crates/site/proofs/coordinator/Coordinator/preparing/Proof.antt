@@ -1,21 +1,24 @@
+use mathlib.Core.Path.{sym, _∙_}
 use Rattle.site.specs.Answers.{effectsIn, closing, sending}
 use Rattle.site.specs.Numbers.{appending, entryOf}
 use Rattle.codec.specs.Records.{lengths, lengthOf}
 use Rattle.site.specs.Step.{messages, given}
 use Rattle.site.specs.Cohort.{masksOf}
-use Rattle.codec.specs.Sets.{empty}
 use Rattle.site.specs.Coordinator.{preparing}
 use Rattle.site.proofs.Sent.{ordered-by-turn}
 use Rattle.site.proofs.coordinator.Coordinator.preparing.Statement.{statement}
 use Rattle.site.proofs.coordinator.Coordinator.preparing.Tie as tie
 
+writes-init-requires : tie.Need-writes-init-requires
+writes-init-requires c κs = tt
+
 returns : tie.Need-returns
-unfolding preparing empty masksOf effectsIn appending entryOf closing sending lengths lengthOf messages given
-returns c = rw (c .if1 .taken, ordered-by-turn (c .before .args .self .members))
+unfolding preparing masksOf effectsIn appending entryOf closing sending lengths lengthOf messages given
+returns c = rw (c .if1 .taken, sym (c .before .writes-init .ensures) ∙ c .if1 .taken, ordered-by-turn (c .before .before .args .self .members))
 
 returns-2 : tie.Need-returns-2
-unfolding preparing empty masksOf effectsIn appending entryOf closing sending lengths lengthOf messages given
-returns-2 c = rw (c .if1 .left, ordered-by-turn (c .before .args .self .members))
+unfolding preparing masksOf effectsIn appending entryOf closing sending lengths lengthOf messages given
+returns-2 c = rw (c .if1 .left, sym (c .before .writes-init .ensures) ∙ c .if1 .left, ordered-by-turn (c .before .before .args .self .members))
 
 pub preparing-spec : {M : Type 1} → statement M
-preparing-spec = tie.close (tie.spec returns returns-2)
+preparing-spec = tie.close (tie.spec writes-init-requires returns returns-2)
