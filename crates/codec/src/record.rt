@@ -127,7 +127,7 @@ impl Record {
     const LENGTHS: [u8; Record::LAST_KIND as usize + 1] = [0, 4, 4, 2, 2, 3, 2, 2];
     // The kinds that may stand behind a kind of their transaction, as a mask, bit k for kind k: first any, behind 1 2 and 4,
     // behind 2 3, behind 5 6 and 7.
-    const NEXT: [u8; Record::LAST_KIND as usize + 1] = [0xFE, 0x14, 0x08, 0, 0, 0xC0, 0, 0];
+    const NEXT: [u16; Record::LAST_KIND as usize + 1] = [0xFE, 0x14, 0x08, 0, 0, 0xC0, 0, 0];
 
     // How many bytes a record of a kind has; 0 for what is no kind.
     pub fn length_of(kind: u8) -> usize

@@ -21,8 +21,14 @@ returns-3 c = let a = c .before .before .before .before .args in
 cast-tabled : tie.Need-cast-tabled
 cast-tabled c = search needs
 
+mul-tabled : tie.Need-mul-tabled
+mul-tabled c = search needs
+
 array-read-tabled : tie.Need-array-read-tabled
 array-read-tabled c = search needs
+
+cast-tabled-2 : tie.Need-cast-tabled-2
+cast-tabled-2 c = search needs
 
 shr-tabled : tie.Need-shr-tabled
 shr-tabled c = search needs
@@ -43,6 +49,8 @@ follows-spec =
     awaits-acks-requires
     returns-3
     cast-tabled
+    mul-tabled
     array-read-tabled
+    cast-tabled-2
     shr-tabled
     returns-4)
