@@ -144,13 +144,9 @@ lined-end {bytes} {n} {i} l h = omega (arith, l .all, ap length (lines-end i n b
 
 -- ---- the line of a transaction
 
--- HANDOVER and a space
-abbrev pub word : List ℕ
-word = 72 ∷ 65 ∷ 78 ∷ 68 ∷ 79 ∷ 86 ∷ 69 ∷ 82 ∷ 32 ∷ []
-
-pub word-text : ascii "HANDOVER" ++ (space ∷ []) ≡ word
-unfolding ascii space
-word-text = refl
+-- what stands before its letters
+abbrev pub head : ℕ → List ℕ
+head t = 72 ∷ 65 ∷ 78 ∷ 68 ∷ 79 ∷ 86 ∷ 69 ∷ 82 ∷ 32 ∷ (48 + t) ∷ 32 ∷ []
 
 abbrev sites : List ℕ
 sites = 0 ∷ 1 ∷ 2 ∷ 3 ∷ 4 ∷ 5 ∷ 6 ∷ 7 ∷ 8 ∷ []
@@ -172,10 +168,9 @@ module _ (r : Run) (t : ℕ) where
       let numbered : getD sites s 0 ≡ s = eqb-true _ _ (true-of _ (below-at 9 (λ i. eqb (getD sites i 0) i) tt s h)) in
       sym (any-default (map f sites) s 0 (f 0) h ∙ List·getD-map f sites s 0 ∙ ap f numbered)
 
-  -- what stands behind the word
-  pub word-next : t < 8 → Next (transactionLine r t) (ascii "HANDOVER" ++ (space ∷ [])) ((48 + t) ∷ 32 ∷ letters r t ++ (10 ∷ []))
+  pub head-next : t < 8 → Next (transactionLine r t) (head t) (letters r t ++ (10 ∷ []))
   unfolding transactionLine ascii decimal space newline letters
-  word-next h = record { split = rw (mod-eq-of-lt {n = t} {m = 10} (omega (arith, h))) }
+  head-next h = record { split = rw (mod-eq-of-lt {n = t} {m = 10} (omega (arith, h))) }
 
   pub transaction-length : length (transactionLine r t) ≡ 21
   unfolding transactionLine ascii decimal participants

@@ -7,7 +7,7 @@ ghost use Prim.Native.Nat.{_+_, _*_, _<_, _≤_};
 ghost use lib.ListN.{length};
 ghost use Rattle.codec.specs.Image.{stored};
 ghost use Rattle.joint.specs.Drill as drill;
-ghost use Rattle.joint.specs.Drill.{decimal, ascii, space, entryLetter, transactionLine};
+ghost use Rattle.joint.specs.Drill.{decimal, entryLetter, transactionLine};
 ghost use Rattle.joint.specs.Stand.{runIn};
 ghost use Rattle.drill_text.specs.Inside.{two, lineAt, linesOf, letters, openedIn, transactionLines};
 
@@ -52,13 +52,24 @@ fn line_size(number: usize, answers: &[u8], from: usize) -> usize
         + 5
 }
 
+fn write_bytes(bytes: &[u8], out: &mut [u8], at: usize)
+    requires { ⌜ at + length (now bytes) ≤ length (now out) ⌝ }
+    ensures { λ _. ⌜ now (out .exit) ≡ stored at (now (bytes .entry)) (now (out .entry)) ⌝ }
+{
+    let mut i: usize = 0;
+    while i < bytes.len() {
+        out[at + i] = bytes[i];
+        i += 1;
+    }
+}
+
 // A number's tens and ones.
 fn write_two(n: usize, out: &mut [u8], at: usize)
     requires { ⌜ at + 2 ≤ length (now out) ⌝ }
     ensures { λ _. ⌜ now (out .exit) ≡ stored at (two n) (now (out .entry)) ⌝ }
 {
-    out[at] = (48 + n / 10 % 10) as u8;
-    out[at + 1] = (48 + n % 10) as u8;
+    let two = [(48 + n / 10 % 10) as u8, (48 + n % 10) as u8];
+    write_bytes(&two, out, at);
 }
 
 // Writes a number of one or two digits from `at` on. Each of these functions says where what it wrote ends.
@@ -190,25 +201,13 @@ fn write_letters(run: Run, transaction: u8, out: &mut [u8], at: usize)
     }
 }
 
-fn write_word(out: &mut [u8], at: usize)
-    requires { ⌜ at + 9 ≤ length (now out) ⌝ }
-    ensures { λ _. ⌜ now (out .exit) ≡ stored at (ascii "HANDOVER" ++ (space ∷ [])) (now (out .entry)) ⌝ }
-{
-    let word = *b"HANDOVER ";
-    let mut i: usize = 0;
-    while i < 9 {
-        out[at + i] = word[i];
-        i += 1;
-    }
-}
-
 fn write_transaction(run: Run, transaction: u8, out: &mut [u8], at: usize)
     requires { ⌜ (transaction < 8) × (at + 21 ≤ length (now out)) ⌝ }
     ensures { λ _. ⌜ now (out .exit) ≡ stored at (transactionLine (runIn run) transaction) (now (out .entry)) ⌝ }
 {
-    write_word(out, at);
-    out[at + 9] = 48 + transaction;
-    out[at + 10] = b' ';
+    let mut head = *b"HANDOVER 0 ";
+    head[9] += transaction;
+    write_bytes(&head, out, at);
     write_letters(run, transaction, out, at + 11);
     out[at + 20] = b'\n';
 }
