@@ -16,7 +16,8 @@ use Rattle.codec.specs.laws.Tests.{below-at, true-of}
 use Rattle.joint.specs.State.{Run, opened}
 use Rattle.joint.specs.Plan.{transactions}
 use Rattle.joint.specs.Drill.{decimal, line, space, newline, eventLines, ascii, entryLetter, transactionLine}
-use Rattle.drill_text.specs.Inside.{two, answersIn, lineAt, linesOf, letters}
+use Rattle.drill_text.specs.declared.text.LastFour.{LastFour}
+use Rattle.drill_text.specs.Inside.{two, Shows, answersIn, lineAt, linesOf, letters}
 use Rattle.codec.specs.Image.{stored}
 use Rattle.codec.specs.laws.Stored.{Left, left-start, Next, left-next}
 
@@ -65,6 +66,17 @@ decimal-hundreds n a b =
     decimal-ends n (omega arith) b
     ∙ ap (_++ ((48 + n % 10) ∷ [])) tens
     ∙ append-assoc (decimal 5 (n / 100)) ((48 + n / 10 % 10) ∷ []) ((48 + n % 10) ∷ [])
+
+-- four digits, where they are counted: up to 10000 the thousands tell
+pub shown : (d : LastFour) (n : ℕ) → Shows d n → n ≤ 10000 → (d .thousands ≡ 48 → ⊥) → decimal 5 n ≡ d .thousands ∷ d .hundreds ∷ d .tens ∷ d .ones ∷ []
+shown d n h most some =
+    let a : 1000 ≤ n = omega arith in
+    let b : n < 10000 = omega arith in
+    let thousands : 48 + n / 100 / 10 % 10 ≡ d .thousands = omega arith in
+    let hundreds : 48 + n / 100 % 10 ≡ d .hundreds = omega arith in
+    let tens : 48 + n / 10 % 10 ≡ d .tens = omega arith in
+    let ones : 48 + n % 10 ≡ d .ones = omega arith in
+    decimal-hundreds n (omega arith) (omega arith) ∙ rw (decimal-two (n / 100) (omega arith) (omega arith), thousands, hundreds, tens, ones)
 
 -- the hundreds are stored
 pub ones-left : (n : ℕ) (out : List ℕ) (at : ℕ) → 100 ≤ n → n < 1000000 → at + length (decimal 5 n) ≤ length out

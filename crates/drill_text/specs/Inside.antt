@@ -1,5 +1,6 @@
 -- What the program's inner functions promise each other. No reader has to believe it: proofs/ shows what it has to do with 01.
-use Prim.Native.Nat.{ℕ, zero, suc, _+_, _/_, _%_}
+use Prim.Native.Nat.{ℕ, zero, suc, _+_, _*_, _/_, _%_, _≤_}
+use mathlib.Core.Path.{_≡_}
 use mathlib.Core.List.{List, [], _∷_, _++_, map, flatten}
 use lib.ListN.{drop, getD}
 use Rattle.codec.specs.Lists.{select}
@@ -8,10 +9,20 @@ use Rattle.joint.specs.State.{Run, opened}
 use Rattle.joint.specs.Plan.{transactions}
 use Rattle.joint.specs.Run.{Answer}
 use Rattle.joint.specs.Drill.{line, eventLines, entryLetter, transactionLine}
+use Rattle.drill_text.specs.declared.text.LastFour.{LastFour}
 
 -- the tens and the ones of a number, as characters
 abbrev pub two : ℕ → List ℕ
 two n = (48 + n / 10 % 10) ∷ (48 + n % 10) ∷ []
+
+-- a character that is a digit
+abbrev pub Digit : ℕ → Type 0
+Digit c = (48 ≤ c) × (c ≤ 57)
+
+-- d is the last four digits of n, as characters
+pub record Shows (d : LastFour) (n : ℕ) : Type 0 where
+  pub digits : Digit (d .thousands) × Digit (d .hundreds) × Digit (d .tens) × Digit (d .ones)
+  pub value : 1000 * d .thousands + 100 * d .hundreds + 10 * d .tens + d .ones ≡ 48 * 1111 + n % 10000
 
 -- n answers of four bytes each
 unfoldable pub answersIn : ℕ → List ℕ → List Answer

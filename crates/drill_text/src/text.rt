@@ -3,13 +3,13 @@ use joint::run::Run;
 use site::presumption::Outcome;
 ghost use mathlib.Core.Path.{_≡_};
 ghost use mathlib.Core.List.{[], _∷_, _++_};
-ghost use Prim.Native.Nat.{_+_, _*_, _<_, _≤_};
+ghost use Prim.Native.Nat.{ℕ, _+_, _*_, _<_, _≤_};
 ghost use lib.ListN.{length};
 ghost use Rattle.codec.specs.Image.{stored};
 ghost use Rattle.joint.specs.Drill as drill;
 ghost use Rattle.joint.specs.Drill.{decimal, entryLetter, transactionLine};
 ghost use Rattle.joint.specs.Stand.{runIn};
-ghost use Rattle.drill_text.specs.Inside.{two, lineAt, linesOf, letters, openedIn, transactionLines};
+ghost use Rattle.drill_text.specs.Inside.{two, Shows, lineAt, linesOf, letters, openedIn, transactionLines};
 
 // How many decimal digits a number has.
 fn digits(n: usize) -> usize
@@ -114,6 +114,55 @@ fn write_field(n: usize, end: u8, out: &mut [u8], at: usize) -> usize
     last + 1
 }
 
+// The last four digits of a number, as characters.
+struct LastFour {
+    ones: u8,
+    tens: u8,
+    hundreds: u8,
+    thousands: u8,
+}
+
+impl LastFour {
+    fn next(mut self) -> Self
+        ensures { λ r. ⌜ ((n : ℕ) → Shows self n → Shows r (n + 1)) ⌝ }
+    {
+        if self.ones < b'9' {
+            self.ones += 1;
+            return self;
+        }
+        self.ones = b'0';
+        if self.tens < b'9' {
+            self.tens += 1;
+            return self;
+        }
+        self.tens = b'0';
+        if self.hundreds < b'9' {
+            self.hundreds += 1;
+            return self;
+        }
+        self.hundreds = b'0';
+        if self.thousands < b'9' {
+            self.thousands += 1;
+            return self;
+        }
+        self.thousands = b'0';
+        self
+    }
+}
+
+// A line's number, at most 10000, and a space. Where its thousands are not 0 it has four digits, and nothing is divided.
+fn write_counted(number: usize, last: LastFour, out: &mut [u8], at: usize) -> usize
+    requires { ⌜ ((number ≤ 10000) × Shows last number) × (at + length (decimal 5 number ++ (32 ∷ [])) ≤ length (now out)) ⌝ }
+    ensures { λ r. ⌜ (r ≡ at + length (decimal 5 number ++ (32 ∷ []))) × (now (out .exit) ≡ stored at (decimal 5 number ++ (32 ∷ [])) (now (out .entry))) ⌝ }
+{
+    if last.thousands == b'0' {
+        return write_field(number, b' ', out, at);
+    }
+    let four = [last.thousands, last.hundreds, last.tens, last.ones, b' '];
+    write_bytes(&four, out, at);
+    at + 5
+}
+
 // Most answers and counts have one digit.
 fn write_byte(b: u8, end: u8, out: &mut [u8], at: usize) -> usize
     requires { ⌜ at + length (decimal 5 b ++ (end ∷ [])) ≤ length (now out) ⌝ }
@@ -128,11 +177,18 @@ fn write_byte(b: u8, end: u8, out: &mut [u8], at: usize) -> usize
 }
 
 // The locals are where a field starts.
-fn write_line(number: usize, answers: &[u8], from: usize, out: &mut [u8], at: usize) -> usize
-    requires { ⌜ ((number < 1000000) × (from + 4 ≤ length (now answers))) × (at + length (lineAt number (now answers) from) ≤ length (now out)) ⌝ }
+fn write_line(
+    number: usize,
+    last: LastFour,
+    answers: &[u8],
+    from: usize,
+    out: &mut [u8],
+    at: usize,
+) -> usize
+    requires { ⌜ (((number ≤ 10000) × Shows last number) × (from + 4 ≤ length (now answers))) × (at + length (lineAt number (now answers) from) ≤ length (now out)) ⌝ }
     ensures { λ r. ⌜ (r ≡ at + length (lineAt number (now (answers .entry)) from)) × (now (out .exit) ≡ stored at (lineAt number (now (answers .entry)) from) (now (out .entry))) ⌝ }
 {
-    let answer = write_field(number, b' ', out, at);
+    let answer = write_counted(number, last, out, at);
     let records = write_byte(answers[from], b' ', out, answer);
     let forces = write_byte(answers[from + 1], b' ', out, records);
     let sends = write_byte(answers[from + 2], b' ', out, forces);
@@ -158,9 +214,16 @@ pub(crate) fn write_lines(answers: &[u8], count: usize, out: &mut [u8]) -> usize
     ensures { λ r. ⌜ (r ≡ length (linesOf count (now (answers .entry)))) × (now (out .exit) ≡ stored 0 (linesOf count (now (answers .entry))) (now (out .entry))) ⌝ }
 {
     let mut at: usize = 0;
+    let mut last = LastFour {
+        ones: b'0',
+        tens: b'0',
+        hundreds: b'0',
+        thousands: b'0',
+    };
     let mut i: usize = 0;
     while i < count {
-        at = write_line(i + 1, answers, 4 * i, out, at);
+        last = last.next();
+        at = write_line(i + 1, last, answers, 4 * i, out, at);
         i += 1;
     }
     at

@@ -26,10 +26,10 @@ answers s = getD (s .args .answers .now) (s .args .from) 0
 none : (s : tie.Start) → LeftOf s (s .args .number ∷ answers s ∷ byte s 1 ∷ byte s 2 ∷ byte s 3 ∷ []) (s .args .at) (s .args .out .now)
 none s = left-start (s .pre .1)
 
-number : (c : tie.After-write-field)
+number : (c : tie.After-write-counted)
     → let s = c .before .before .before .before in
-    LeftOf s (answers s ∷ byte s 1 ∷ byte s 2 ∷ byte s 3 ∷ []) (c .write-field .result) (c .write-field .last .1 .1 .0)
-number c = let e = c .write-field .ensures in
+    LeftOf s (answers s ∷ byte s 1 ∷ byte s 2 ∷ byte s 3 ∷ []) (c .write-counted .result) (c .write-counted .last .1 .1 .0)
+number c = let e = c .write-counted .ensures in
     left-next (none (c .before .before .before .before)) (field-next _ _ _) _ (e .0) _ (e .1)
 
 answer : (c : tie.After-write-byte)
@@ -52,8 +52,8 @@ forces c = let e = c .write-byte3 .ensures in
 
 -- ---- needs
 
-write-field-requires : tie.Need-write-field-requires
-write-field-requires c κs = let s = c .before .before .before in (s .pre .0 .0, left-room (none s) (field-next _ _ _))
+write-counted-requires : tie.Need-write-counted-requires
+write-counted-requires c κs = let s = c .before .before .before in (s .pre .0 .0, left-room (none s) (field-next _ _ _))
 
 shared-slice-read-write-byte : tie.Need-shared-slice-read-write-byte
 shared-slice-read-write-byte c = search needs
@@ -102,7 +102,7 @@ pub write-line-spec : {M : Type 1} → statement M
 write-line-spec =
     tie.close
     (tie.spec
-    write-field-requires
+    write-counted-requires
     shared-slice-read-write-byte
     write-byte-requires
     add-write-byte

@@ -2,20 +2,25 @@ use Prim.Native.Nat.{_-_, _≤_}
 use mathlib.Core.Path.{ap}
 use native.Mathlib.Omega.{arith}
 use lib.ListN.{length}
-use Rattle.drill_text.specs.Inside.{linesOf}
+use borrow.Author.Needs.{needs}
+use Rattle.drill_text.specs.Inside.{linesOf, Shows}
 use Rattle.codec.specs.laws.Stored.{Left, left-start, left-end, left-room, left-next}
 use Rattle.drill_text.proofs.Texts.{linesFrom, lines-start, lines-next, lines-end}
 use Rattle.drill_text.proofs.text.write_lines.Statement.{statement}
 use Rattle.drill_text.proofs.text.write_lines.Tie as tie
 
 abbrev Inv-loop : tie.InvT-loop
-Inv-loop answers count out₀ at₀ i₀ out at i = (i ≤ count) × Left 0 (linesOf count answers) out₀ at (linesFrom i count answers) out
+Inv-loop answers count out₀ at₀ last₀ i₀ out at last i =
+    ((i ≤ count) × Shows last i) × Left 0 (linesOf count answers) out₀ at (linesFrom i count answers) out
 
 abbrev μ-loop : tie.MeasureT-loop
-μ-loop answers count out₀ at₀ i₀ out at i = count - i
+μ-loop answers count out₀ at₀ last₀ i₀ out at last i = count - i
 
 loop-holds : tie.Need-loop-holds Inv-loop μ-loop
-loop-holds c = let s = c .before .before in (omega arith, rw lines-start (left-start (omega (arith, s .pre .1))))
+loop-holds c = let s = c .before .before in ((omega arith, search needs), rw lines-start (left-start (omega (arith, s .pre .1))))
+
+next-requires : tie.Need-next-requires Inv-loop μ-loop
+next-requires c κs = tt
 
 add-write-line : tie.Need-add-write-line Inv-loop μ-loop
 add-write-line c = omega arith
@@ -25,8 +30,10 @@ mul-write-line c = omega arith
 
 write-line-requires : tie.Need-write-line-requires Inv-loop μ-loop
 write-line-requires c κs =
-    let w = c .before .before .loop in
-    ((omega arith, omega arith), left-room (w .inv .1) (lines-next (w .i) _ _ (c .before .loop-test .taken)))
+    let w = c .before .before .before .loop in (
+      ((omega arith, c .before .next .ensures (w .i) (w .inv .0 .1)), omega arith),
+      left-room (w .inv .1) (lines-next (w .i) _ _ (c .before .before .loop-test .taken)),
+    )
 
 add-i : tie.Need-add-i Inv-loop μ-loop
 add-i c = omega arith
@@ -36,9 +43,12 @@ loop-less c = omega arith
 
 loop-again : tie.Need-loop-again Inv-loop μ-loop
 loop-again c =
-    let w = c .before .before .before .before .before in
-    let e = c .before .before .write-line .ensures in
-    (omega arith, left-next (w .loop .inv .1) (lines-next (w .loop .i) _ _ (c .before .before .before .before .loop-test .taken)) _ (e .0) _ (e .1))
+    let n = c .before .before .before .before in
+    let w = n .before .before .loop in
+    let e = c .before .before .write-line .ensures in (
+      (omega arith, n .next .ensures (w .i) (w .inv .0 .1)),
+      left-next (w .inv .1) (lines-next (w .i) _ _ (n .before .loop-test .taken)) _ (e .0) _ (e .1),
+    )
 
 same-length : tie.Need-same-length Inv-loop μ-loop
 same-length c = c .before .loop .inv .1 .same
@@ -57,6 +67,7 @@ write-lines-spec =
     Inv-loop
     μ-loop
     loop-holds
+    next-requires
     add-write-line
     mul-write-line
     write-line-requires
