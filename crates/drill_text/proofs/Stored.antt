@@ -13,7 +13,7 @@ use Rattle.codec.specs.laws.Stored.{Left, left-start, left-end, left-next, set-
 -- ---- one byte
 
 module _ {from : ℕ} {all start : List ℕ} {at : ℕ} {b : ℕ} {rest buffer : List ℕ} (l : Left from all start at (b ∷ rest) buffer) where
-  pub byte-room : at < length buffer
+  byte-room : at < length buffer
   byte-room = omega (arith, l .room)
 
   pub byte-next : (next : ℕ) → next ≡ at + 1 → Left from all start next rest (set buffer at b)

@@ -110,6 +110,13 @@ pub field-last : (n : ℕ) → Next (line (n ∷ [])) (decimal 5 n ++ (10 ∷ []
 unfolding line newline
 field-last n = record { split = sym (append-nil (decimal 5 n ++ (10 ∷ []))) }
 
+-- four fields of one digit each
+pub line-short : (a b c d : ℕ) → a + b + c + d < 10
+    → line (a ∷ b ∷ c ∷ d ∷ []) ≡ (48 + a) ∷ 32 ∷ (48 + b) ∷ 32 ∷ (48 + c) ∷ 32 ∷ (48 + d) ∷ 10 ∷ []
+unfolding line space newline
+line-short a b c d h =
+    rw (decimal-one 5 a (omega arith), decimal-one 5 b (omega arith), decimal-one 5 c (omega arith), decimal-one 5 d (omega arith))
+
 pub line-length : (a b c d e : ℕ)
     → length (decimal 5 a) + length (decimal 5 b) + length (decimal 5 c) + length (decimal 5 d) + length (decimal 5 e) + 5
     ≡ length (line (a ∷ b ∷ c ∷ d ∷ e ∷ []))

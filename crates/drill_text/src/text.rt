@@ -7,7 +7,7 @@ ghost use Prim.Native.Nat.{ℕ, _+_, _*_, _<_, _≤_};
 ghost use lib.ListN.{length};
 ghost use Rattle.codec.specs.Image.{stored};
 ghost use Rattle.joint.specs.Drill as drill;
-ghost use Rattle.joint.specs.Drill.{decimal, entryLetter, transactionLine};
+ghost use Rattle.joint.specs.Drill.{decimal, line, entryLetter, transactionLine};
 ghost use Rattle.joint.specs.Stand.{runIn};
 ghost use Rattle.drill_text.specs.Inside.{two, Shows, lineAt, linesOf, letters, openedIn, transactionLines};
 
@@ -163,20 +163,31 @@ fn write_counted(number: usize, last: LastFour, out: &mut [u8], at: usize) -> us
     at + 5
 }
 
-// Most answers and counts have one digit.
-fn write_byte(b: u8, end: u8, out: &mut [u8], at: usize) -> usize
-    requires { ⌜ at + length (decimal 5 b ++ (end ∷ [])) ≤ length (now out) ⌝ }
-    ensures { λ r. ⌜ (r ≡ at + length (decimal 5 b ++ (end ∷ []))) × (now (out .exit) ≡ stored at (decimal 5 b ++ (end ∷ [])) (now (out .entry))) ⌝ }
+// The four numbers of an answer. Where their sum is below 10, as it mostly is, each has one digit.
+fn write_answer(number: u8, records: u8, forces: u8, sends: u8, out: &mut [u8], at: usize) -> usize
+    requires { ⌜ at + length (line (number ∷ records ∷ forces ∷ sends ∷ [])) ≤ length (now out) ⌝ }
+    ensures { λ r. ⌜ (r ≡ at + length (line (number ∷ records ∷ forces ∷ sends ∷ []))) × (now (out .exit) ≡ stored at (line (number ∷ records ∷ forces ∷ sends ∷ [])) (now (out .entry))) ⌝ }
 {
-    if b < 10 {
-        out[at] = 48 + b;
-        out[at + 1] = end;
-        return at + 2;
+    if (number as usize) + (records as usize) + (forces as usize) + (sends as usize) < 10 {
+        let short = [
+            48 + number,
+            b' ',
+            48 + records,
+            b' ',
+            48 + forces,
+            b' ',
+            48 + sends,
+            b'\n',
+        ];
+        write_bytes(&short, out, at);
+        return at + 8;
     }
-    write_field(b as usize, end, out, at)
+    let next = write_field(number as usize, b' ', out, at);
+    let next = write_field(records as usize, b' ', out, next);
+    let next = write_field(forces as usize, b' ', out, next);
+    write_field(sends as usize, b'\n', out, next)
 }
 
-// The locals are where a field starts.
 fn write_line(
     number: usize,
     last: LastFour,
@@ -188,11 +199,15 @@ fn write_line(
     requires { ⌜ (((number ≤ 10000) × Shows last number) × (from + 4 ≤ length (now answers))) × (at + length (lineAt number (now answers) from) ≤ length (now out)) ⌝ }
     ensures { λ r. ⌜ (r ≡ at + length (lineAt number (now (answers .entry)) from)) × (now (out .exit) ≡ stored at (lineAt number (now (answers .entry)) from) (now (out .entry))) ⌝ }
 {
-    let answer = write_counted(number, last, out, at);
-    let records = write_byte(answers[from], b' ', out, answer);
-    let forces = write_byte(answers[from + 1], b' ', out, records);
-    let sends = write_byte(answers[from + 2], b' ', out, forces);
-    write_byte(answers[from + 3], b'\n', out, sends)
+    let next = write_counted(number, last, out, at);
+    write_answer(
+        answers[from],
+        answers[from + 1],
+        answers[from + 2],
+        answers[from + 3],
+        out,
+        next,
+    )
 }
 
 // The length of the lines of `count` answers, four bytes each.
