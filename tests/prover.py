@@ -12,7 +12,7 @@ CRATES = {
 TYPES = {
     "Image": ["Reading", "accepted", "refused", "Written"],
     "Presumption": ["Outcome", "commit", "abort"],
-    "Coordinator": ["Coordinator", "initial", "collecting", "awaitingAcks"],
+    "Coordinator": ["CoordinatorPhase", "initial", "collecting", "awaitingAcks"],
     "State": ["Run"],
     "Step": ["force"],
     "Safety": ["Moment", "Safe"],

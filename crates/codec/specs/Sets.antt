@@ -1,6 +1,6 @@
 -- Sets of participants (01: boxes) as masks: bit p - 1 is participant p. The participants are 1 to 8.
 use Prim.Native.Nat.{ℕ, _+_, _-_, _*_, _/_, _%_, _^_}
-use mathlib.Core.Bool.{Bool, cond, not, _&&_}
+use mathlib.Core.Bool.{Bool, cond, not, _&&_, _||_}
 use mathlib.Core.List.{List, [], _∷_}
 use lib.Dec.{eqb}
 use Rattle.codec.specs.Lists.{select}
@@ -36,6 +36,10 @@ without q mask = those λ p. member p mask && not (eqb p q)
 
 unfoldable pub both : ℕ → ℕ → ℕ
 both a b = those λ p. member p a && member p b
+
+-- the members of a or of b
+unfoldable pub either : ℕ → ℕ → ℕ
+either a b = those λ p. member p a || member p b
 
 -- the members of a that are not in b
 unfoldable pub minus : ℕ → ℕ → ℕ

@@ -1,6 +1,7 @@
 // Sets of participants (01: boxes) as masks: bit p - 1 is participant p.
 use crate::message::Parts;
 ghost use mathlib.Core.Path.{_≡_};
+ghost use lib.ListN.{length, take};
 ghost use Rattle.codec.specs.Sets as sets;
 
 // Whether a participant is a member.
@@ -49,4 +50,34 @@ pub fn part(a: u8, b: u8) -> bool
     ensures { λ r. ⌜ r ≡ sets.part a b ⌝ }
 {
     a & b == a
+}
+
+// The members of `a` or `b`.
+pub fn either(a: u8, b: u8) -> u8
+    ensures { λ r. ⌜ r ≡ sets.either a b ⌝ }
+{
+    a | b
+}
+
+// How many members there are.
+pub fn size(mask: u8) -> u8
+    ensures { λ r. ⌜ r ≡ length (sets.listed mask) ⌝ }
+{
+    u32::count_ones(mask as u32) as u8
+}
+
+// The `most` lowest members.
+pub fn lowest(mask: u8, most: u8) -> u8
+    ensures { λ r. ⌜ sets.listed r ≡ take most (sets.listed mask) ⌝ }
+{
+    if size(mask) <= most {
+        return mask;
+    }
+    let mut rest = mask;
+    let mut i: u8 = 0;
+    while i < most {
+        rest = both(rest, rest - 1);
+        i += 1;
+    }
+    minus(mask, rest)
 }

@@ -6,13 +6,13 @@ ghost use mathlib.Core.Path.{_≡_};
 ghost use Prim.Native.Nat.{_≤_};
 ghost use lib.ListN.{length, take};
 ghost use Rattle.io.specs.Counts.{Counts};
-ghost use Rattle.joint.specs.Drill as plain;
+ghost use Rattle.joint.specs.Drill as drill;
 
 // The lines of the drill, all of them, at the front of a text that is long enough: 10,000 lines of at most 22 bytes, and 8 of 21.
 fn lines(input: &[u8], text: &mut [u8]) -> usize
     requires { ⌜ 220168 ≤ length (now text) ⌝ }
     ensures { λ r. ⌜ Counts r (now (text .exit)) ⌝ }
-    ensures { λ r. ⌜ take r (now (text .exit)) ≡ plain.drill (now (input .entry)) ⌝ }
+    ensures { λ r. ⌜ take r (now (text .exit)) ≡ drill.drill (now (input .entry)) ⌝ }
 {
     drill(input, text)
 }

@@ -15,7 +15,7 @@ use Rattle.joint.specs.State.{Run, fresh}
 use Rattle.joint.specs.Run.{Answer, after, answers}
 use Rattle.joint.specs.Drill.{eventsIn, answerBytes, Replayed, replayed, decimal, line, eventLines, drill, textInto}
 use Rattle.drill_text.specs.Inside.{answersIn, linesOf, openedIn, transactionLines, textOf}
-use Rattle.joint.specs.Stand.{runIn, replayIn}
+use Rattle.joint.specs.Answers.{runIn, replayIn}
 use Rattle.joint.specs.declared.replay.Ran.{Ran}
 use Rattle.codec.specs.laws.Stored.{length-stored, stored-two, stored-part}
 use Rattle.drill_text.proofs.Texts.{text-length}

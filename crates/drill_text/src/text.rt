@@ -1,4 +1,5 @@
 // The lines of a drill, as bytes.
+use codec::message::Parts;
 use joint::run::Run;
 use site::presumption::Outcome;
 ghost use mathlib.Core.Path.{_≡_};
@@ -8,7 +9,7 @@ ghost use lib.ListN.{length};
 ghost use Rattle.codec.specs.Image.{stored};
 ghost use Rattle.joint.specs.Drill as drill;
 ghost use Rattle.joint.specs.Drill.{decimal, line, entryLetter, transactionLine};
-ghost use Rattle.joint.specs.Stand.{runIn};
+ghost use Rattle.joint.specs.Answers.{runIn};
 ghost use Rattle.drill_text.specs.Inside.{two, Shows, lineAt, linesOf, letters, openedIn, transactionLines};
 
 // How many decimal digits a number has.
@@ -273,7 +274,7 @@ fn write_letters(run: Run, transaction: u8, out: &mut [u8], at: usize)
     ensures { λ _. ⌜ now (out .exit) ≡ stored at (letters (runIn run) transaction) (now (out .entry)) ⌝ }
 {
     let mut site: u8 = 0;
-    while site < 9 {
+    while site <= Run::LAST_SITE {
         out[at + (site as usize)] = entry_letter(run, transaction, site);
         site += 1;
     }
@@ -295,7 +296,7 @@ pub fn opened_count(run: Run) -> usize
 {
     let mut count: usize = 0;
     let mut i: u8 = 0;
-    while i < 8 {
+    while i <= Parts::LAST_TRANSACTION {
         if run.members(i) != 0 {
             count += 1;
         }
@@ -311,7 +312,7 @@ pub(crate) fn write_transactions(run: Run, out: &mut [u8])
 {
     let mut at: usize = 0;
     let mut i: u8 = 0;
-    while i < 8 {
+    while i <= Parts::LAST_TRANSACTION {
         if run.members(i) != 0 {
             write_transaction(run, i, out, at);
             at += 21;

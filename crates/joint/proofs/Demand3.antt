@@ -11,14 +11,14 @@ use Rattle.codec.specs.laws.Tests.{true-of, of-true}
 use Rattle.site.specs.Presumption.{Outcome, commit, abort, sameOutcome, silence}
 use Rattle.site.specs.Cohort.{Cohort, presumptionOf}
 use Rattle.site.specs.Step.{prepare}
-use Rattle.site.specs.Coordinator.{Coordinator}
+use Rattle.site.specs.Coordinator.{CoordinatorPhase}
 use Rattle.joint.specs.State.{Run, Site, fresh, holds}
 use Rattle.joint.specs.Run.{event, after}
 use Rattle.joint.specs.Safety.{Moment, happened, history, along, isEntry, isVote, isReply, inDoubt, commitStable, outcome, Happens, Safe, Demand3}
-use Rattle.joint.proofs.History.{history-snoc}
-use Rattle.joint.proofs.Lists.{any-found, any-more, any-middle}
-use Rattle.joint.proofs.Moments.{placed, moment-start, moment-cohort}
-use Rattle.joint.proofs.EventMoments.{reply-silence}
+use Rattle.joint.proofs.base.History.{history-snoc}
+use Rattle.joint.proofs.base.Lists.{any-found, any-more, any-middle}
+use Rattle.joint.proofs.base.Moments.{placed, moment-start, moment-cohort}
+use Rattle.joint.proofs.base.EventMoments.{reply-silence}
 use Rattle.joint.proofs.view.View.{View, siteView, isEntryAt, view}
 use Rattle.joint.proofs.view.Acts.{holds-select}
 use Rattle.joint.proofs.safety.Tables.{Status, stableKinds, has, doubtful, conforms, isWorking, Stage, done, mayEnter}
@@ -116,14 +116,14 @@ votes es earlier m h t k (suc n) b =
 pub data Resting : Standing → Type 0 where
   rests : (o : Outcome) (b : Bool) (l : Log) → Resting (decided o (resting b) l)
 
-abbrev pub isUnknown : Coordinator → Bool
-isUnknown Coordinator.initial = false
-isUnknown (Coordinator.collecting w) = false
-isUnknown (Coordinator.awaitingAcks o w) = false
-isUnknown Coordinator.unknown = true
+abbrev pub isUnknown : CoordinatorPhase → Bool
+isUnknown CoordinatorPhase.initial = false
+isUnknown (CoordinatorPhase.collecting w) = false
+isUnknown (CoordinatorPhase.awaitingAcks o w) = false
+isUnknown CoordinatorPhase.unknown = true
 
 resting-only : {t : ℕ} {v : View} (h : Standing) → Inv t h v → (p : ℕ) → T (member p (cohortOf v .members)) → v .site 0 .up ≡ true
-    → v .transaction .coordinator ≡ Coordinator.unknown → Resting h
+    → v .transaction .coordinator ≡ CoordinatorPhase.unknown → Resting h
 resting-only {v} (never u) inv p m up c = absurd (empty-none (cohortOf v .members) p (of-true (sym (inv .mid .sound .opened))) m)
 resting-only (initial b) inv p m up c = absurd (true≢false (sym (ap isUnknown (sym (inv .phase) ∙ c))))
 resting-only (collecting w b) inv p m up c = absurd (true≢false (sym (ap isUnknown (sym (inv .phase) ∙ c))))
@@ -183,7 +183,7 @@ outcome-is t es x abort d = go (any (commitStable t) (along fresh es)) refl
     go false e = refl
 
 reply-decided : (t : ℕ) (es : List (List ℕ)) (p : ℕ) → T (member p (after fresh es .transaction t .cohort .members))
-    → after fresh es .site 0 .up ≡ true → after fresh es .transaction t .coordinator ≡ Coordinator.unknown
+    → after fresh es .site 0 .up ≡ true → after fresh es .transaction t .coordinator ≡ CoordinatorPhase.unknown
     → T (inDoubt (after fresh es) t p) → T (hasDecided (tracked t es .standing) (silence (presumptionOf (after fresh es .transaction t .cohort) p)))
 unfolding view siteView
 reply-decided t es zero m up c d = absurd (no-zero (after fresh es .transaction t .cohort .members) m)
@@ -192,7 +192,7 @@ reply-decided t es (suc n) m up c d =
     silence-decided t es (x .standing) (x .inv) (resting-only (x .standing) (x .inv) (suc n) m up c) n m d
 
 replies : (es : List (List ℕ)) (earlier : List Moment) (m : Moment) → Happens es earlier m → (t p : ℕ) (o : Outcome) → T (isReply t p o m)
-    → m .start .transaction t .coordinator ≡ Coordinator.unknown → T (inDoubt (m .start) t p) → o ≡ outcome es t
+    → m .start .transaction t .coordinator ≡ CoordinatorPhase.unknown → T (inDoubt (m .start) t p) → o ≡ outcome es t
 replies es earlier m h t p o r c d =
     let x = placed es earlier m h in
     let at = moment-start (after fresh (x .before)) (x .event) (x .seen) m (x .rest) (x .moments) in

@@ -8,7 +8,7 @@ use Rattle.codec.specs.Lists.{any, all}
 use Rattle.codec.specs.Sets.{member}
 use Rattle.codec.specs.laws.Tests.{and-left, and-right}
 use Rattle.site.specs.Presumption.{Outcome, commit, abort}
-use Rattle.site.specs.Coordinator.{Coordinator, initial, collecting, awaitingAcks}
+use Rattle.site.specs.Coordinator.{CoordinatorPhase, initial, collecting, awaitingAcks}
 use Rattle.joint.specs.State.{fresh}
 use Rattle.joint.specs.Drill.{eventsIn}
 use Rattle.joint.specs.Safety.{Moment, moments, happened, history, leaves, along, enters, sends, isEntry, isReply, inDoubt, commitStable, outcome, Happens}
@@ -16,7 +16,7 @@ use Rattle.codec.specs.Open.{codec-opens}
 use Rattle.site.specs.Open.{site-opens}
 use Rattle.joint.proofs.Open.{joint-opens}
 use Rattle.joint.proofs.Cases.{hex}
-use Rattle.joint.proofs.Moments.{any-placed}
+use Rattle.joint.proofs.base.Moments.{any-placed}
 use Rattle.joint.proofs.Demand3.{isUnknown}
 use Rattle.joint.proofs.view.View.{isEntryAt}
 
@@ -61,8 +61,8 @@ abort-entered = tt
 abbrev pub bothMembers : Moment → Bool
 bothMembers m = all (λ p. member p (m .before .transaction 0 .cohort .members)) (1 ∷ 2 ∷ [])
 
-pub votes-asked : Some (entering commit) (λ m. T (isEntry 0 commit m) × T (bothMembers m))
-votes-asked =
+pub votes-met : Some (entering commit) (λ m. T (isEntry 0 commit m) × T (bothMembers m))
+votes-met =
     some-passes (entering commit) (λ m. isEntry 0 commit m && bothMembers m) (λ m. T (isEntry 0 commit m) × T (bothMembers m))
     (λ m h. (and-left (isEntry 0 commit m) (bothMembers m) h, and-right (isEntry 0 commit m) (bothMembers m) h))
     (unfold safety-opens in tt)
@@ -78,28 +78,28 @@ replying abort =
     eventsIn (hex "00 00 01 00 FF 00 / 01 00 00 00 FF 00 / 02 00 01 00 FF 00 / 06 00 00 00 FF 00 / 07 00 00 00 FF 00 / 02 00 01 01 FF 00")
 
 -- what `replies` asks of a moment, for transaction 0 and participant 1
-abbrev pub Asked : Outcome → Moment → Type 0
-Asked o m = T (isReply 0 1 o m) × (m .start .transaction 0 .coordinator ≡ Coordinator.unknown) × T (inDoubt (m .start) 0 1)
+abbrev pub Replied : Outcome → Moment → Type 0
+Replied o m = T (isReply 0 1 o m) × (m .start .transaction 0 .coordinator ≡ CoordinatorPhase.unknown) × T (inDoubt (m .start) 0 1)
 
-is-unknown : (c : Coordinator) → T (isUnknown c) → c ≡ Coordinator.unknown
+is-unknown : (c : CoordinatorPhase) → T (isUnknown c) → c ≡ CoordinatorPhase.unknown
 is-unknown initial h = absurd h
 is-unknown (collecting w) h = absurd h
 is-unknown (awaitingAcks o w) h = absurd h
-is-unknown Coordinator.unknown h = refl
+is-unknown CoordinatorPhase.unknown h = refl
 
-asked : Outcome → Moment → Bool
-asked o m = isReply 0 1 o m && (isUnknown (m .start .transaction 0 .coordinator) && inDoubt (m .start) 0 1)
+replied : Outcome → Moment → Bool
+replied o m = isReply 0 1 o m && (isUnknown (m .start .transaction 0 .coordinator) && inDoubt (m .start) 0 1)
 
-is-asked : (o : Outcome) (m : Moment) → T (asked o m) → Asked o m
-unfolding asked
-is-asked o m h =
+is-replied : (o : Outcome) (m : Moment) → T (replied o m) → Replied o m
+unfolding replied
+is-replied o m h =
     let unknown = isUnknown (m .start .transaction 0 .coordinator) in
     let doubt = inDoubt (m .start) 0 1 in
     let k = and-right (isReply 0 1 o m) (unknown && doubt) h in
     (and-left (isReply 0 1 o m) (unknown && doubt) h, is-unknown _ (and-left unknown doubt k), and-right unknown doubt k)
 
-reply-found : (o : Outcome) → T (any (asked o) (history fresh (replying o)))
-unfolding safety-opens asked
+reply-found : (o : Outcome) → T (any (replied o) (history fresh (replying o)))
+unfolding safety-opens replied
 reply-found commit = tt
 reply-found abort = tt
 
@@ -108,5 +108,5 @@ unfolding safety-opens
 reply-outcome commit = refl
 reply-outcome abort = refl
 
-pub replies-asked : (o : Outcome) → (es : List (List ℕ)) × Some es (Asked o) × (outcome es 0 ≡ o)
-replies-asked o = (replying o, some-passes (replying o) (asked o) (Asked o) (is-asked o) (reply-found o), reply-outcome o)
+pub replies-met : (o : Outcome) → (es : List (List ℕ)) × Some es (Replied o) × (outcome es 0 ≡ o)
+replies-met o = (replying o, some-passes (replying o) (replied o) (Replied o) (is-replied o) (reply-found o), reply-outcome o)

@@ -3,27 +3,38 @@ use Prim.Native.Nat.{ℕ, _≤_}
 use mathlib.Core.Path.{_≡_, refl, sym, ap, _∙_}
 use mathlib.Core.List.{List, map, map-append}
 use Rattle.codec.specs.Image.{accepted, readImage}
+use Rattle.joint.specs.State as plain
 use Rattle.joint.specs.State.{fresh}
-use Rattle.joint.specs.Run as plain
-use Rattle.joint.specs.Stand.{runIn, answerIn, Told, told, nextIn}
-use Rattle.joint.specs.Program.{Execution, begun, goes, Demand3OfProgram}
+use Rattle.joint.specs.Run as run
+use Rattle.joint.specs.Answers.{runIn, answerIn, Seen, seen, nextIn}
+use Rattle.joint.specs.Program.{Takes, Execution, begun, goes, Demand3OfProgram}
 use Rattle.joint.specs.declared.answers.Answer.{Answer}
 use Rattle.joint.specs.declared.run.Run.{Run}
-use Rattle.joint.proofs.History.{after-snoc}
+use Rattle.joint.specs.declared.run.Next.{Next}
+use Rattle.joint.proofs.base.History.{after-snoc}
 use Rattle.joint.proofs.Demand3.{demand3}
 use Rattle.joint.proofs.Reachable.{images-read}
-use Rattle.joint.proofs.stand.Replays.{answers-snoc}
+use Rattle.joint.proofs.engine.Replays.{answers-snoc}
+use Rattle.joint.proofs.engine.Rooms.{has-room}
 
-same-run : {es : List (List ℕ)} {given : List Answer} {r : Run} → Execution es given r → runIn r ≡ plain.after fresh es
-unfolding plain.after told nextIn
+-- in a run that events reach the logs have room, and so the promise of `Run::event` has no condition left
+pub takes-always : (es : List (List ℕ)) (r : Run) (bytes : List ℕ) (next : Next) → runIn r ≡ run.after fresh es → Takes r bytes next
+    → nextIn next ≡ seen (run.event (run.after fresh es) bytes)
+takes-always es r bytes next stands h =
+    h (rw stands (has-room es bytes)) ∙ ap (λ (p : plain.Run). seen (run.event p bytes)) stands
+
+same-run : {es : List (List ℕ)} {given : List Answer} {r : Run} → Execution es given r → runIn r ≡ run.after fresh es
+unfolding run.after seen nextIn
 same-run (begun b) = b
-same-run (goes {es} x bytes next h) = ap (λ (t : Told). t .run) (h es (same-run x)) ∙ sym (after-snoc fresh es bytes)
+same-run (goes {es} {given} {r} x bytes next h) =
+    let before : runIn r ≡ run.after fresh es = same-run x in
+    ap (λ (t : Seen). t .run) (takes-always es r bytes next before h) ∙ sym (after-snoc fresh es bytes)
 
-same-answers : {es : List (List ℕ)} {given : List Answer} {r : Run} → Execution es given r → map answerIn given ≡ plain.answers fresh es
-unfolding plain.answers told nextIn
+same-answers : {es : List (List ℕ)} {given : List Answer} {r : Run} → Execution es given r → map answerIn given ≡ run.answers fresh es
+unfolding run.answers seen nextIn
 same-answers (begun b) = refl
-same-answers (goes {es} x bytes next h) =
-    let one : answerIn (next .answer) ≡ plain.answerOf (plain.event (plain.after fresh es) bytes) = ap (λ (t : Told). t .answer) (h es (same-run x)) in
+same-answers (goes {es} {given} {r} x bytes next h) =
+    let one : answerIn (next .answer) ≡ run.answerOf (run.event (run.after fresh es) bytes) = ap (λ (t : Seen). t .answer) (takes-always es r bytes next (same-run x) h) in
     rw (map-append, same-answers x, one, answers-snoc)
 
 pub program : Demand3OfProgram
@@ -31,5 +42,5 @@ program es given r x = record { answers = same-answers x; run = same-run x; safe
 
 -- and the image of each site's log is accepted, and reads back as its stable records
 pub program-images : {es : List (List ℕ)} {given : List Answer} {r : Run} → Execution es given r → (s : ℕ) → s ≤ 8
-    → readImage (plain.siteImage (runIn r) s) ≡ accepted s (runIn r .site s .stable)
+    → readImage (run.siteImage (runIn r) s) ≡ accepted s (runIn r .site s .stable)
 program-images {es} x s small = rw (same-run x) (images-read es s small)

@@ -14,7 +14,7 @@ use Rattle.joint.specs.State.{Run, fresh, opened}
 use Rattle.joint.specs.Run.{after, siteImage}
 use Rattle.joint.specs.Safety.{history}
 use Rattle.joint.proofs.view.View.{view}
-use Rattle.joint.proofs.Lists.{Each, each-at, each-back, each-map}
+use Rattle.joint.proofs.base.Lists.{Each, each-at, each-back, each-map}
 use Rattle.joint.proofs.safety.Invariant.{Inv}
 use Rattle.joint.proofs.safety.Tracked.{tracked}
 use Rattle.joint.proofs.logs.Counts.{no-record, each-transaction, counted-most}

@@ -1,43 +1,58 @@
 -- What the program's inner functions promise each other. No reader has to believe it: proofs/ shows what it has to do with 01.
-use Prim.Native.Nat.{ℕ, zero, suc, _+_, _-_, _≤_}
+use Prim.Native.Nat.{ℕ, zero, suc, _+_, _-_, _*_, _≤_, min}
 use mathlib.Core.Bool.{Bool, true, false, cond, not, _&&_, _||_}
 use mathlib.Core.List.{List, [], _∷_, _++_}
 use mathlib.Core.Option.{Option, none, some}
 use mathlib.Core.Path.{_≡_}
-use lib.ListN.{length, take, getD}
+use lib.ListN.{length, take, drop, getD, set}
 use lib.Dec.{eqb, leb}
-use Rattle.codec.specs.Lists.{select, any, first}
-use Rattle.codec.specs.Sets.{member, empty, listed}
-use Rattle.codec.specs.Records.{LogRecord, ofTransaction}
-use Rattle.site.specs.Step.{prepare, messages, messageKind, receiver, Input, Effect, append, force, enter, send, Row}
-use Rattle.site.specs.Cohort.{presumptionOf}
-use Rattle.site.specs.Coordinator.{coordinatorStep, coordinatorRestart}
-use Rattle.site.specs.Participant.{Participant, participantStep, participantRestart}
+use Rattle.codec.specs.Lists.{select}
+use Rattle.codec.specs.Sets.{member}
+use Rattle.codec.specs.Image.{stored}
+use Rattle.codec.specs.Records.{LogRecord}
+use Rattle.codec.specs.declared.record.Record.{Record}
+use Rattle.site.specs.Step.{prepare, messages, messageKind, receiver, Effect, append, force, enter, send}
+use Rattle.site.specs.Participant.{ParticipantPhase}
 use Rattle.site.specs.Numbers.{inputOf, receives}
-use Rattle.site.specs.Answers.{effectsIn}
-use Rattle.joint.specs.State.{Run, Site, Transaction, appended, forced, withEntered, withSent, withCoordinator, withParticipant, update, stopped, forgotten, down, opened, performAll}
-use Rattle.joint.specs.Event.{Event, eventOf, bytesInRange, cutInRange, cutAt, cutOf, Parsed}
-use Rattle.joint.specs.Refusals.{isDown, refusals}
-use Rattle.joint.specs.Plan.{Plan, plan, step, orNothing, openedAs, closes, newest, trimmed, remembers, restartAll, transactions}
-use Rattle.joint.specs.Run.{isAppend, isForce, isSend, count, Answer, carryUnless}
-use Rattle.joint.specs.Stand.{siteIn, transactionIn, transactionsIn, answerIn, refusalNumber, Told, told}
-use Rattle.joint.specs.declared.progress.Progress.{Progress}
-use Rattle.joint.specs.declared.moves.Move.{Move}
-use Rattle.joint.specs.declared.power.Change.{Change}
-use Rattle.joint.specs.declared.restarts.Again as resumed
+use Rattle.site.specs.Answers.{effectsIn, coordinatorIn, participantIn, cohortIn, hasKind}
+use Rattle.site.specs.declared.effects.Effects.{Effects}
+use Rattle.joint.specs.State as plain
+use Rattle.joint.specs.State.{appended, forced, stopped, withEntered, withSent, withCoordinator, withParticipant, atSite, atTransaction, update, holds, opened, down, performAll}
+use Rattle.joint.specs.Event as event
+use Rattle.joint.specs.Event.{opening, beginning, delivery, timeout, forcing, discarding, cutAt, Parsed}
+use Rattle.joint.specs.Plan.{Plan, step, orNothing, acting, openedAs, trimmed, forgottenUnless, restartAll, transactions}
+use Rattle.joint.specs.Run as run
+use Rattle.joint.specs.Run.{isSend, count, eventParsed, answerOf}
+use Rattle.joint.specs.Drill.{chunks}
+use Rattle.joint.specs.laws.Events.{bytesOf}
+use Rattle.joint.specs.Answers.{siteFrom, transactionsIn, answerIn, runIn, Seen, seen}
+use Rattle.joint.specs.Program.{hasRoom}
+use Rattle.joint.specs.declared.sites.Site.{Site}
+use Rattle.joint.specs.declared.rows.Then.{Then}
+use Rattle.joint.specs.declared.rows.Then.the-variants as follows
+use Rattle.joint.specs.declared.rows.Row.{Row}
+use Rattle.joint.specs.declared.rows.Found.{Found}
+use Rattle.joint.specs.declared.rows.Found.the-variants as found
+use Rattle.joint.specs.declared.changes.Change.{Change}
+use Rattle.joint.specs.declared.changes.Change.the-variants as change
+use Rattle.joint.specs.declared.events.Step.{Step}
+use Rattle.joint.specs.declared.events.Step.the-variants as steps
+use Rattle.joint.specs.declared.events.Event.{Event}
+use Rattle.joint.specs.declared.events.Event.the-variants as events
+use Rattle.joint.specs.declared.restarts.Resumed.{Resumed}
 use Rattle.joint.specs.declared.restarts.Restarted.{Restarted}
-use Rattle.joint.specs.declared.asked.Asked.{Asked}
+use Rattle.joint.specs.declared.replay.Ran.{Ran}
 
 -- ---- effects on one site and one transaction
 
-unfoldable pub siteAfter : ℕ → List Effect → Site → Site
+unfoldable pub siteAfter : ℕ → List Effect → plain.Site → plain.Site
 siteAfter t [] a = a
 siteAfter t (append k fs ∷ es) a = siteAfter t es (appended (record { kind = k; transaction = t; fields = fs }) a)
 siteAfter t (force ∷ es) a = siteAfter t es (forced a)
 siteAfter t (enter o ∷ es) a = siteAfter t es a
 siteAfter t (send m p ∷ es) a = siteAfter t es a
 
-unfoldable pub transactionAfter : ℕ → List Effect → Transaction → Transaction
+unfoldable pub transactionAfter : ℕ → List Effect → plain.Transaction → plain.Transaction
 transactionAfter s [] x = x
 transactionAfter s (append k fs ∷ es) x = transactionAfter s es x
 transactionAfter s (force ∷ es) x = transactionAfter s es x
@@ -47,310 +62,217 @@ transactionAfter s (send m p ∷ es) x = transactionAfter s es (withSent p (mess
 unfoldable pub counted : (Effect → Bool) → List Effect → ℕ
 counted f es = length (select f es)
 
--- ---- effects as long as power lasts: `left` more may happen
-
--- a site and a transaction in the midst of their effects, and how many have happened
-pub record Doing : Type 0 where
-  pub site : Site
-  pub transaction : Transaction
-  pub left : ℕ
-  pub records : ℕ
-  pub forces : ℕ
-  pub sends : ℕ
-
-unfoldable pub progressIn : Progress → Doing
-progressIn d =
-    record {
-      site = siteIn (d .site);
-      transaction = transactionIn (d .transaction);
-      left = d .left;
-      records = d .records;
-      forces = d .forces;
-      sends = d .sends;
-    }
-
-abbrev pub starting : Site → Transaction → ℕ → Doing
-starting a x n = record { site = a; transaction = x; left = n; records = 0; forces = 0; sends = 0 }
-
--- the effects es of transaction t at site s
-unfoldable pub progressed : ℕ → ℕ → List Effect → Doing → Doing
-progressed s t es d =
-    let happen = take (d .left) es in
-    record {
-      site = siteAfter t happen (d .site);
-      transaction = transactionAfter s happen (d .transaction);
-      left = d .left - length es;
-      records = d .records + counted isAppend happen;
-      forces = d .forces + counted isForce happen;
-      sends = d .sends + counted isSend happen;
-    }
-
--- no count can pass a byte
-pub record Counted (d : Doing) : Type 0 where
-  pub records : d .records + d .left ≤ 255
-  pub forces : d .forces + d .left ≤ 255
-  pub sends : d .sends + d .left ≤ 255
+-- ---- a site's log
 
 -- how many records a log has
-unfoldable pub size : Site → ℕ
+unfoldable pub size : plain.Site → ℕ
 size a = length (a .stable ++ a .unforced)
+
+-- a log has room for the records that effects append
+abbrev pub Fits : List Effect → plain.Site → Type 0
+Fits es a = size a + counted run.isAppend es ≤ 24
 
 -- where the oldest record that passes a test stands; behind the last one where none does
 unfoldable pub oldestAt : (LogRecord → Bool) → List LogRecord → ℕ
 oldestAt f [] = 0
 oldestAt f (x ∷ xs) = cond (f x) 0 (suc (oldestAt f xs))
 
--- a log has room for the records that effects append
-abbrev pub Fits : List Effect → Site → Type 0
-Fits es a = size a + counted isAppend es ≤ 24
+-- by its counts: how many of a site's 24 records are stable, and how many are of the log
+abbrev pub stableOf : Site → ℕ
+stableOf x = min (x .stable) 24
 
--- ---- a transaction
+abbrev pub countOf : Site → ℕ
+countOf x = min (x .stable + x .unforced) 24
 
--- site s takes part in it
-unfoldable pub partIn : Transaction → ℕ → Bool
-partIn x zero = true
-partIn x (suc n) = member (suc n) (x .cohort .members)
+-- a record put at n; kind 0 is none
+unfoldable pub putAt : ℕ → Record → List Record → List Record
+putAt n x rs = cond (eqb (x .kind) 0) rs (set rs n x)
 
--- ---- one site's move in a transaction: whether there is a row; its effects; the transaction with the phase after them
+-- a row's first record and its last, of transaction t, behind the first n
+unfoldable pub putRow : ℕ → ℕ → Effects → List Record → List Record
+putRow n t e rs =
+    putAt (n + cond (eqb (e .appended) 0) 0 1) (record { kind = e .last; transaction = t; first = 0; second = 0 })
+    (putAt n (record { kind = e .appended; transaction = t; first = e .first; second = e .second }) rs)
 
-pub record Moved : Type 0 where
-  pub found : Bool
-  pub effects : List Effect
-  pub transaction : Transaction
+-- the counts are those of a site of a run
+abbrev pub Here : Site → plain.Run → ℕ → Type 0
+Here x w s = (rs : List Record) × ((length rs ≡ 24) × (siteFrom x rs ≡ w .site s))
 
-unfoldable pub moveIn : Move → Moved
-moveIn m = record { found = m .found; effects = effectsIn (m .effects); transaction = transactionIn (m .transaction) }
+-- ---- rows: their effects, and what follows these
 
-unfoldable pub moved : {P : Type 0} → (P → Transaction → Transaction) → Transaction → Option (Row P) → Moved
-moved g x none = record { found = false; effects = []; transaction = x }
-moved g x (some row) = record { found = true; effects = row .effects; transaction = g (row .phase) x }
+unfoldable pub thenIn : ℕ → ℕ → Then → plain.Run → plain.Run
+thenIn s t follows.Same = λ r. r
+thenIn s t (follows.Coordinator c) = atTransaction t (withCoordinator (coordinatorIn c))
+thenIn s t (follows.Participant c) = atTransaction t (withParticipant s (participantIn c))
+thenIn s t (follows.Opened c) = atTransaction t (openedAs (cohortIn c))
+thenIn s t (follows.Discarded last) = λ r. forgottenUnless (not last) t s (atSite s (trimmed t) r)
+thenIn s t (follows.Down keep) = down s keep
+
+-- the same on the site, and on the transaction
+unfoldable pub thenSite : ℕ → Then → plain.Site → plain.Site
+thenSite t follows.Same a = a
+thenSite t (follows.Coordinator c) a = a
+thenSite t (follows.Participant c) a = a
+thenSite t (follows.Opened c) a = a
+thenSite t (follows.Discarded last) a = trimmed t a
+thenSite t (follows.Down keep) a = stopped keep a
+
+unfoldable pub thenTransaction : ℕ → Then → plain.Transaction → plain.Transaction
+thenTransaction s follows.Same x = x
+thenTransaction s (follows.Coordinator c) x = withCoordinator (coordinatorIn c) x
+thenTransaction s (follows.Participant c) x = withParticipant s (participantIn c) x
+thenTransaction s (follows.Opened c) x = openedAs (cohortIn c) x
+thenTransaction s (follows.Discarded last) x = cond last (withParticipant s ParticipantPhase.unknown x) x
+thenTransaction s (follows.Down keep) x = x
+
+unfoldable pub goesDown : Then → Bool
+goesDown follows.Same = false
+goesDown (follows.Coordinator c) = false
+goesDown (follows.Participant c) = false
+goesDown (follows.Opened c) = false
+goesDown (follows.Discarded last) = false
+goesDown (follows.Down keep) = true
+
+unfoldable pub drops : Then → Bool
+drops follows.Same = false
+drops (follows.Coordinator c) = false
+drops (follows.Participant c) = false
+drops (follows.Opened c) = false
+drops (follows.Discarded last) = true
+drops (follows.Down keep) = false
+
+-- a row appends a record or drops one
+unfoldable pub writesLog : Row → Bool
+writesLog x = not (eqb (x .effects .appended) 0) || not (eqb (x .effects .last) 0) || drops (x .then)
+
+-- a site after a row of transaction t
+unfoldable pub rowSite : ℕ → Row → plain.Site → plain.Site
+rowSite t x a = thenSite t (x .then) (siteAfter t (effectsIn (x .effects)) a)
+
+-- the plan that a row of site s in transaction t is
+abbrev pub planIn : ℕ → ℕ → Row → Plan
+planIn s t x = record { site = s; acts = acting t (effectsIn (x .effects)); settle = thenIn s t (x .then) }
+
+unfoldable pub foundIn : ℕ → ℕ → Found → Option Plan
+foundIn s t (found.Row x) = some (planIn s t x)
+foundIn s t found.None = none
 
 -- what site s receives: a participant its own messages, the coordinator those of members
-unfoldable pub MayReceive : Transaction → ℕ → ℕ → ℕ → Type 0
+unfoldable pub MayReceive : plain.Transaction → ℕ → ℕ → ℕ → Type 0
 MayReceive x zero kind p = (receives 0 kind && (leb 16 kind || member p (x .cohort .members))) ≡ true
 MayReceive x (suc n) kind p = (suc n ≤ 8) × ((p ≡ suc n) × (receives 1 kind ≡ true))
-
--- no row
-abbrev pub nowhere : Transaction → Moved
-nowhere x = record { found = false; effects = []; transaction = x }
-
--- of site s
-unfoldable pub stepMove : Transaction → ℕ → Input → Moved
-stepMove x zero i = moved withCoordinator x (coordinatorStep (x .cohort) i (x .coordinator))
-stepMove x (suc n) i =
-    moved (withParticipant (suc n)) x (participantStep (presumptionOf (x .cohort) (suc n)) (suc n) i (x .participant (suc n)))
-
-unfoldable pub restartMove : Transaction → ℕ → (ℕ → Bool) → Moved
-restartMove x zero has = moved withCoordinator x (some (coordinatorRestart (x .cohort) has))
-restartMove x (suc n) has =
-    moved (withParticipant (suc n)) x (some (participantRestart (presumptionOf (x .cohort) (suc n)) (suc n) has))
-
--- ---- the run
-
--- a run with site s and transaction t as they are in the midst of effects
-unfoldable pub placed : ℕ → ℕ → Doing → Run → Run
-placed s t d r = record { site = update s (λ _. d .site) (r .site); transaction = update t (λ _. d .transaction) (r .transaction) }
-
-abbrev pub refusedBy : ℕ → Run → Told
-refusedBy n r = record { answer = refusalNumber n; run = r }
-
-abbrev pub acceptedAs : Answer → Run → Told
-acceptedAs a r = record { answer = a; run = r }
-
--- r was before the event, r′ is after its effects, `left` more could have happened; the answer is a unless it is 9.
--- Power goes at `cut`, 255 for none
-unfoldable pub ended : Run → Run → ℕ → ℕ → Answer → ℕ → ℕ → Told
-ended r r′ s left a cut keep =
-    cond (eqb cut 255) (acceptedAs a r′)
-    (cond (eqb left 0 && leb keep (length (r′ .site s .unforced))) (acceptedAs a (down s keep r′)) (refusedBy 9 r))
-
--- the answer with the counts of the effects that happened
-abbrev pub counts : Doing → Answer
-counts d = record { number = 0; records = d .records; forces = d .forces; sends = d .sends }
-
--- a move of site s in transaction t
-unfoldable pub movedTo : Run → ℕ → ℕ → Moved → ℕ → ℕ → Told
-movedTo r s t m cut keep =
-    let d = progressed s t (m .effects) (starting (r .site s) (m .transaction) cut) in
-    ended r (placed s t d r) s (d .left) (counts d) cut keep
-
--- the plan of a step; begin and timer are refused where there is no row, and a message has no effect then
-unfoldable pub uponInput : Run → ℕ → ℕ → ℕ → ℕ → Option Plan
-uponInput r t s kind p =
-    let found = step r t s (inputOf kind p) in
-    cond (leb 16 kind) found (some (orNothing s found))
-
--- the log of a plan's site has room for the records that it appends
-unfoldable pub FitsPlan : Run → Option Plan → Type 0
-FitsPlan r o = (p : Plan) → o ≡ some p → size (r .site (p .site)) + count isAppend (p .acts) ≤ 24
-
--- ---- what an event does to its site and its transaction alone
-
--- the answer, both after the event, and whether the site went down
-pub record Changed : Type 0 where
-  pub answer : Answer
-  pub site : Site
-  pub transaction : Transaction
-  pub down : Bool
-
-unfoldable pub changeIn : Change → Changed
-changeIn c = record { answer = answerIn (c .answer); site = siteIn (c .site); transaction = transactionIn (c .transaction); down = c .down }
-
--- in the whole run: where site s went down, its phases in all transactions are forgotten
-abbrev pub fallen : Bool → ℕ → Run → Run
-fallen true s r = record { site = r .site; transaction = λ t. forgotten s (r .transaction t) }
-fallen false s r = r
-
-unfoldable pub applied : Run → ℕ → ℕ → Changed → Told
-applied r s t c =
-    record {
-      answer = c .answer;
-      run = fallen (c .down) s (record { site = update s (λ _. c .site) (r .site); transaction = update t (λ _. c .transaction) (r .transaction) });
-    }
-
--- a is the site, x the transaction before the event
-abbrev pub refusedAs : ℕ → Site → Transaction → Changed
-refusedAs n a x = record { answer = refusalNumber n; site = a; transaction = x; down = false }
-
-unfoldable pub endedAs : Site → Transaction → Doing → ℕ → ℕ → Changed
-endedAs a x d cut keep =
-    cond (eqb cut 255) (record { answer = counts d; site = d .site; transaction = d .transaction; down = false })
-    (cond (eqb (d .left) 0 && leb keep (length (d .site .unforced)))
-    (record { answer = counts d; site = stopped keep (d .site); transaction = d .transaction; down = true })
-    (refusedAs 9 a x))
-
-unfoldable pub movedAs : Site → Transaction → ℕ → ℕ → Moved → ℕ → ℕ → Changed
-movedAs a x s t m cut keep = endedAs a x (progressed s t (m .effects) (starting a (m .transaction) cut)) cut keep
-
--- begin or timer without a row
-abbrev pub unasked : ℕ → Moved → Bool
-unasked kind m = leb 16 kind && not (m .found)
-
-unfoldable pub stepAs : Site → Transaction → ℕ → ℕ → ℕ → ℕ → ℕ → ℕ → Changed
-stepAs a x t s kind p cut keep =
-    let m = stepMove x s (inputOf kind p) in
-    cond (unasked kind m) (refusedAs 8 a x) (movedAs a x s t m cut keep)
-
--- the site's log has room for the step's records
-unfoldable pub StepFits : Site → Transaction → ℕ → ℕ → ℕ → Type 0
-StepFits a x s kind p =
-    let m = stepMove x s (inputOf kind p) in
-    unasked kind m ≡ false → Fits (m .effects) a
-
--- site s is asked something that it receives, if p takes part
-abbrev pub Asking : Transaction → ℕ → ℕ → ℕ → Type 0
-Asking x s kind p = not (partIn x p) ≡ false → MayReceive x s kind p
-
-unfoldable pub askAs : Site → Transaction → ℕ → ℕ → ℕ → ℕ → ℕ → ℕ → Changed
-askAs a x t s kind p cut keep =
-    cond (empty (x .cohort .members)) (refusedAs 3 a x)
-    (cond (not (partIn x p)) (refusedAs 4 a x)
-    (cond (not (a .up)) (refusedAs 5 a x)
-    (cond (leb kind 6 && not (x .sent p kind)) (refusedAs 7 a x)
-    (stepAs a x t s kind p cut keep))))
-
--- room, where no refusal strikes
-unfoldable pub AskFits : Site → Transaction → ℕ → ℕ → ℕ → Type 0
-AskFits a x s kind p =
-    empty (x .cohort .members) ≡ false → not (partIn x p) ≡ false → not (a .up) ≡ false → (leb kind 6 && not (x .sent p kind)) ≡ false
-    → StepFits a x s kind p
-
-unfoldable pub openAs : Site → Transaction → Bool → ℕ → ℕ → Changed
-openAs a x up M C =
-    cond (not (empty (x .cohort .members))) (refusedAs 2 a x)
-    (cond (not up) (refusedAs 5 a x)
-    (record { answer = refusalNumber 0; site = a; transaction = openedAs (record { members = M; presumeCommit = C }) x; down = false }))
-
-unfoldable pub forceAs : Site → Transaction → Changed
-forceAs a x =
-    cond (not (a .up)) (refusedAs 5 a x)
-    (record { answer = record { number = 0; records = 0; forces = 1; sends = 0 }; site = forced a; transaction = x; down = false })
-
--- the oldest record of t is dropped; with the last one gone a participant is Unknown
-unfoldable pub discardedAs : Site → Transaction → ℕ → ℕ → Changed
-discardedAs a x t s =
-    record {
-      answer = refusalNumber 0;
-      site = trimmed t a;
-      transaction = cond (eqb s 0 || remembers t (trimmed t a)) x (withParticipant s Participant.unknown x);
-      down = false;
-    }
-
-unfoldable pub discardAs : Site → Transaction → ℕ → ℕ → Changed
-discardAs a x t s =
-    cond (empty (x .cohort .members)) (refusedAs 3 a x)
-    (cond (not (partIn x s)) (refusedAs 4 a x)
-    (cond (not (a .up)) (refusedAs 5 a x)
-    (cond (not (newest closes (select (ofTransaction t) (a .stable)))) (refusedAs 8 a x)
-    (discardedAs a x t s))))
-
-unfoldable pub crashAs : Site → Transaction → ℕ → Changed
-crashAs a x keep = cond (not (a .up)) (refusedAs 5 a x) (endedAs a x (starting a x 0) 0 keep)
-
--- ---- restart
-
--- the run after the restart's effects, how many more could have happened, and the answer
-pub record Again : Type 0 where
-  pub run : Run
-  pub left : ℕ
-  pub answer : Answer
-
--- a run with site s and all transactions as they are
-abbrev pub withAll : ℕ → Site → (ℕ → Transaction) → Run → Run
-withAll s a f r = record { site = update s (λ _. a) (r .site); transaction = f }
-
-unfoldable pub againIn : ℕ → Run → resumed.Again → Again
-againIn s r x =
-    record {
-      run = withAll s (siteIn (x .progress .site)) (transactionsIn (x .transactions)) r;
-      left = x .progress .left;
-      answer = record { number = 0; records = x .progress .records; forces = x .progress .forces; sends = x .progress .sends };
-    }
-
-unfoldable pub restartedIn : ℕ → Run → Restarted → Told
-restartedIn s r x = record { answer = answerIn (x .answer); run = withAll s (siteIn (x .site)) (transactionsIn (x .transactions)) r }
-
-unfoldable pub restarted : Run → ℕ → ℕ → Again
-restarted r s cut =
-    let p = restartAll r s (select (opened r) transactions) in
-    let happen = take cut (p .acts) in
-    record {
-      run = p .settle (performAll s happen r);
-      left = cut - length (p .acts);
-      answer = record { number = 0; records = count isAppend happen; forces = count isForce happen; sends = count isSend happen };
-    }
 
 -- ---- events
 
 -- an event that refusal 1 does not strike
-unfoldable pub taken : Run → Event → Option (ℕ × ℕ) → Told
-taken r e c = told (carryUnless (first (refusals r e)) r (record { event = e; cut = c }))
+unfoldable pub taken : plain.Run → event.Event → Option (ℕ × ℕ) → Seen
+taken r e c = seen (eventParsed r (some (record { event = e; cut = c })))
 
 -- 255 for no cut
 abbrev pub cutFrom : ℕ → ℕ → Option (ℕ × ℕ)
 cutFrom cut keep = cutAt false (eqb cut 255) cut keep
 
--- where an event is not refused, the log of its site has room for the records that it appends
-unfoldable pub Roomy : Run → Event → Type 0
-Roomy r e = first (refusals r e) ≡ 0 → FitsPlan r (plan r e)
+-- begin, a timer or a message, by the number of its kind
+unfoldable pub inputEvent : ℕ → ℕ → ℕ → event.Event
+inputEvent kind t p = cond (eqb kind 16) (beginning t) (cond (eqb kind 17) (timeout t p) (delivery t p (getD messages kind prepare)))
 
--- the site that an event is at: the coordinator at open and begin, the receiver of a message
-unfoldable pub siteOf : ℕ → ℕ → ℕ → ℕ
-siteOf code y z = getD (0 ∷ 0 ∷ receiver (getD messages z prepare) y ∷ []) code y
+-- what an event asks of site s, by the number of its kind, with participant p
+pub data Asks : event.Event → ℕ → ℕ → ℕ → ℕ → Type 0 where
+  begins : (t : ℕ) → Asks (beginning t) t 0 16 0
+  delivers : (t kind p : ℕ) → kind ≤ 6 → 1 ≤ p → p ≤ 8 → Asks (delivery t p (getD messages kind prepare)) t (receiver (getD messages kind prepare) p) kind p
+  times : (t s : ℕ) → s ≤ 8 → Asks (timeout t s) t s 17 s
 
--- what an open asks of the sites
-abbrev pub UpFor : Run → ℕ → ℕ → Bool → Type 0
-UpFor r code y up = code ≡ 0 → up ≡ not (any (isDown r) (0 ∷ listed y))
+-- the plan of a step; begin and timer are refused where there is no row, and a message has no effect then
+unfoldable pub uponInput : plain.Run → ℕ → ℕ → ℕ → ℕ → Option Plan
+uponInput r t s kind p =
+    let found = step r t s (inputOf kind p) in
+    cond (leb 16 kind) found (some (orNothing s found))
 
--- the bytes of an event, read
-abbrev pub Well : Asked → Type 0
-Well a = (bytesInRange (a .code) (a .x) (a .y) (a .z) && cutInRange (a .code) (a .cut) (a .keep)) ≡ true
+abbrev pub stepSite : Step → ℕ
+stepSite (steps.Open e) = 0
+stepSite (steps.Input e) = e .site
+stepSite (steps.Force s) = s
+stepSite (steps.Discard e) = e .site
+stepSite (steps.Crash e) = e .site
 
-abbrev pub eventIn : Asked → Event
-eventIn a = eventOf (a .code) (a .x) (a .y) (a .z)
+abbrev pub stepTransaction : Step → ℕ
+stepTransaction (steps.Open e) = e .transaction
+stepTransaction (steps.Input e) = e .transaction
+stepTransaction (steps.Force s) = 0
+stepTransaction (steps.Discard e) = e .transaction
+stepTransaction (steps.Crash e) = 0
 
-abbrev pub cutIn : Asked → Option (ℕ × ℕ)
-cutIn a = cutOf (a .code) (a .cut) (a .keep)
+unfoldable pub stepIn : Step → Parsed
+stepIn (steps.Open e) = record { event = opening (e .transaction) (e .members) (e .«presume_commit»); cut = none }
+stepIn (steps.Input e) = record { event = inputEvent (e .kind) (e .transaction) (e .participant); cut = cutFrom (e .cut) (e .keep) }
+stepIn (steps.Force s) = record { event = forcing s; cut = none }
+stepIn (steps.Discard e) = record { event = discarding (e .transaction) (e .site); cut = none }
+stepIn (steps.Crash e) = record { event = event.crash (e .site); cut = some (0, e .keep) }
 
-unfoldable pub askedIn : Asked → Option Parsed
-askedIn a = cond (a .malformed) none (some (record { event = eventIn a; cut = cutIn a }))
+unfoldable pub eventIn : Event → Option Parsed
+eventIn events.Malformed = none
+eventIn (events.Step e) = some (stepIn e)
+eventIn (events.Restart e) = some (record { event = event.restart (e .site); cut = cutFrom (e .cut) (e .keep) })
+
+abbrev pub StepInRange : Step → Type 0
+StepInRange (steps.Open e) = e .transaction ≤ 7
+StepInRange (steps.Input e) =
+    (e .transaction ≤ 7) × ((e .site ≤ 8) × Asks (inputEvent (e .kind) (e .transaction) (e .participant)) (e .transaction) (e .site) (e .kind) (e .participant))
+StepInRange (steps.Force s) = s ≤ 8
+StepInRange (steps.Discard e) = (e .transaction ≤ 7) × (e .site ≤ 8)
+StepInRange (steps.Crash e) = e .site ≤ 8
+
+abbrev pub InRange : Event → Type 0
+InRange events.Malformed = Unit {0}
+InRange (events.Step e) = StepInRange e
+InRange (events.Restart e) = e .site ≤ 8
+
+-- ---- changes
+
+-- in run w, of site s and transaction t
+unfoldable pub changeIn : plain.Run → ℕ → ℕ → Change → Seen
+changeIn w s t (change.Refused a) = record { answer = answerIn a; run = w }
+changeIn w s t (change.Happens x) = seen (run.carry w (planIn s t x) none)
+
+-- ---- restart
+
+-- the kinds of the stable records of each transaction at site s
+abbrev pub KindsOf : List ℕ → plain.Run → ℕ → Type 0
+KindsOf kinds w s = (t k : ℕ) → t ≤ 7 → k ≤ 7 → hasKind (getD kinds t 0) k ≡ holds t k (w .site s .stable)
+
+-- the transactions after the restart's effects up to the cut, how many more could have happened, and the sends
+pub record Resumption : Type 0 where
+  pub transaction : ℕ → plain.Transaction
+  pub left : ℕ
+  pub sends : ℕ
+
+unfoldable pub resumedIn : Resumed → Resumption
+resumedIn x = record { transaction = transactionsIn (x .transactions); left = x .left; sends = x .sends }
+
+unfoldable pub resumed : plain.Run → ℕ → ℕ → Resumption
+resumed r s cut =
+    let p = restartAll r s (select (opened r) transactions) in
+    let happen = take cut (p .acts) in
+    record { transaction = p .settle (performAll s happen r) .transaction; left = cut - length (p .acts); sends = count isSend happen }
+
+-- in run r, whose site s has the records rs
+unfoldable pub restartedIn : ℕ → plain.Run → List Record → Restarted → Seen
+restartedIn s r rs x =
+    record {
+      answer = answerIn (x .answer);
+      run = record { site = update s (λ _. siteFrom (x .site) rs) (r .site); transaction = transactionsIn (x .transactions) };
+    }
+
+-- ---- events one after the other
+
+-- the logs have room along a list
+unfoldable pub roomAlong : plain.Run → List (List ℕ) → Bool
+roomAlong r [] = true
+roomAlong r (e ∷ es) = hasRoom r e && roomAlong (run.event r e .run) es
+
+-- n events in bytes, from the run r: `before` and `now` are what the buffer of answers holds
+pub record Goes (r : plain.Run) (n : ℕ) (bytes before now : List ℕ) (x : Ran) : Type 0 where
+  pub count : x .count ≡ n
+  pub leaves : roomAlong r (chunks n bytes) ≡ true → runIn (x .run) ≡ run.after r (chunks n bytes)
+  pub answers : roomAlong r (chunks n bytes) ≡ true → now ≡ stored 0 (bytesOf (run.answers r (chunks n bytes))) before
+  pub last : roomAlong r (chunks n bytes) ≡ true → (m : ℕ) → n ≡ suc m → answerIn (x .answer) ≡ answerOf (run.event (run.after r (chunks m bytes)) (take 6 (drop (6 * m) bytes)))

@@ -5,7 +5,7 @@ pub mod Plan
 pub mod Run
 pub mod Drill
 pub mod Safety
-pub mod Stand
+pub mod Answers
 pub mod Program
 pub mod Inside
 pub mod laws

@@ -9,8 +9,8 @@ use Rattle.codec.specs.Sets.{member}
 use Rattle.codec.specs.Records.{LogRecord, ofTransaction, awaitsAcks}
 use Rattle.site.specs.Step.{receiver, Input, begin, timer, received, Effect, force, Row}
 use Rattle.site.specs.Cohort.{Cohort, presumptionOf}
-use Rattle.site.specs.Coordinator.{Coordinator, coordinatorStep, coordinatorRestart}
-use Rattle.site.specs.Participant.{Participant, participantStep, participantRestart}
+use Rattle.site.specs.Coordinator.{CoordinatorPhase, coordinatorStep, coordinatorRestart}
+use Rattle.site.specs.Participant.{ParticipantPhase, participantStep, participantRestart}
 use Rattle.joint.specs.State.{Run, Site, Transaction, Act, atSite, atTransaction, opened, holds, started, withCoordinator, withParticipant}
 use Rattle.joint.specs.Event.{Event, opening, beginning, delivery, timeout, forcing, discarding, crash, restart}
 
@@ -57,8 +57,8 @@ unfoldable pub openedAs : Cohort → Transaction → Transaction
 openedAs g x =
     record {
       cohort = g;
-      coordinator = Coordinator.initial;
-      participant = λ p. cond (member p (g .members)) Participant.working (x .participant p);
+      coordinator = CoordinatorPhase.initial;
+      participant = λ p. cond (member p (g .members)) ParticipantPhase.working (x .participant p);
       sent = x .sent;
       entered = x .entered;
     }
@@ -93,7 +93,7 @@ remembers t x = any (ofTransaction t) (x .stable ++ x .unforced)
 -- with the last one gone a participant is Unknown: whether one is left, or the site is the coordinator
 unfoldable pub forgottenUnless : Bool → ℕ → ℕ → Run → Run
 forgottenUnless true t s r = r
-forgottenUnless false t s r = atTransaction t (withParticipant s Participant.unknown) r
+forgottenUnless false t s r = atTransaction t (withParticipant s ParticipantPhase.unknown) r
 
 unfoldable pub discard : ℕ → ℕ → Run → Run
 discard t s r =

@@ -1,14 +1,43 @@
 -- Demand 3 of the program: what it answers and stores along any list of events is the plain run's, and the plain run is safe.
-use Prim.Native.Nat.{ℕ}
+use Prim.Native.Nat.{ℕ, _+_}
 use mathlib.Core.Path.{_≡_}
+use mathlib.Core.Bool.{Bool, true, not, _||_}
 use mathlib.Core.List.{List, [], _∷_, _++_, map}
+use mathlib.Core.Option.{Option, none, some}
+use lib.ListN.{length}
+use lib.Dec.{eqb, leb}
+use Rattle.codec.specs.Lists.{first}
+use Rattle.joint.specs.State as plain
 use Rattle.joint.specs.State.{fresh}
-use Rattle.joint.specs.Run as plain
+use Rattle.joint.specs.Event.{Event, Parsed, parse}
+use Rattle.joint.specs.Refusals.{refusals}
+use Rattle.joint.specs.Plan.{Plan, plan}
+use Rattle.joint.specs.Run as run
+use Rattle.joint.specs.Run.{isAppend, count}
 use Rattle.joint.specs.Safety.{Safe}
-use Rattle.joint.specs.Stand.{runIn, answerIn, told, nextIn}
+use Rattle.joint.specs.Answers.{runIn, answerIn, seen, nextIn}
 use Rattle.joint.specs.declared.answers.Answer.{Answer}
 use Rattle.joint.specs.declared.run.Run.{Run}
 use Rattle.joint.specs.declared.run.Next.{Next}
+
+-- ---- room: the program's logs hold 24 records each
+
+unfoldable pub roomForPlan : plain.Run → Option Plan → Bool
+roomForPlan r none = true
+roomForPlan r (some p) =
+    let a = r .site (p .site) in
+    leb (length (a .stable ++ a .unforced) + count isAppend (p .acts)) 24
+
+-- where an event is not refused, the log of its site has room for the records that it appends
+unfoldable pub roomFor : plain.Run → Event → Bool
+roomFor r e = not (eqb (first (refusals r e)) 0) || roomForPlan r (plan r e)
+
+unfoldable pub roomParsed : plain.Run → Option Parsed → Bool
+roomParsed r none = true
+roomParsed r (some e) = roomFor r (e .event)
+
+unfoldable pub hasRoom : plain.Run → List ℕ → Bool
+hasRoom r bytes = roomParsed r (parse bytes)
 
 -- ---- what the program promises, in the words that its functions cite
 
@@ -16,9 +45,9 @@ use Rattle.joint.specs.declared.run.Next.{Next}
 abbrev pub Begins : Run → Type 0
 Begins r = runIn r ≡ fresh
 
--- `Run::event` in src/events.rt: where r stands for the run that some list leaves, answer, counts and next run are the plain run's
+-- `Run::event` in src/replay.rt: where the run's logs have room, answer, counts and next run are the plain event's
 abbrev pub Takes : Run → List ℕ → Next → Type 0
-Takes r bytes next = (es : List (List ℕ)) → runIn r ≡ plain.after fresh es → nextIn next ≡ told (plain.event (plain.after fresh es) bytes)
+Takes r bytes next = hasRoom (runIn r) bytes ≡ true → nextIn next ≡ seen (run.event (runIn r) bytes)
 
 -- ---- the program along a list of events, of any bytes
 
@@ -33,9 +62,9 @@ pub data Execution : List (List ℕ) → List Answer → Run → Type 0 where
 
 pub record Faithful (es : List (List ℕ)) (given : List Answer) (r : Run) : Type 0 where
   -- the program's answers and counts are the plain run's
-  pub answers : map answerIn given ≡ plain.answers fresh es
+  pub answers : map answerIn given ≡ run.answers fresh es
   -- so are its records, messages, phases and entries: what can be seen of r is promised of `runIn r`
-  pub run : runIn r ≡ plain.after fresh es
+  pub run : runIn r ≡ run.after fresh es
   -- and the plain run's list keeps the three sentences
   pub safe : Safe es
 

@@ -14,7 +14,7 @@ unopened r t = not (opened r t)
 
 -- 4: participant no member
 unfoldable pub stranger : Run → ℕ → ℕ → Bool
-stranger r t s = not (takesPart r t s)
+stranger r t s = not (takesPart (r .transaction t) s)
 
 -- 5: needed site down
 unfoldable pub isDown : Run → ℕ → Bool

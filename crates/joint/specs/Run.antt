@@ -8,7 +8,7 @@ use lib.Dec.{leb}
 use Rattle.codec.specs.Lists.{every, select, first}
 use Rattle.codec.specs.Image.{image}
 use Rattle.site.specs.Step.{Effect, append, force, enter, send}
-use Rattle.joint.specs.State.{Run, Act, down, performAll}
+use Rattle.joint.specs.State.{Run, Act, mayKeep, down, performAll}
 use Rattle.joint.specs.Event.{Parsed, parse}
 use Rattle.joint.specs.Refusals.{refusals}
 use Rattle.joint.specs.Plan.{Plan, plan}
@@ -29,7 +29,7 @@ partly r p n = performAll (p .site) (take n (p .acts)) r
 
 -- there are n effects, and k unforced records after them
 unfoldable pub canCut : Run → Plan → ℕ → ℕ → Bool
-canCut r p n k = every (leb n (length (p .acts)) ∷ leb k (length (partly r p n .site (p .site) .unforced)) ∷ [])
+canCut r p n k = every (leb n (length (p .acts)) ∷ mayKeep k (partly r p n .site (p .site) .unforced) ∷ [])
 
 -- cut: the first n effects happen, then the site is down, with k unforced records kept. 9: cut above the effects, keep above the unforced records then there
 unfoldable pub cutShort : Bool → Run → Plan → ℕ → ℕ → Result

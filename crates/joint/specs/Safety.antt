@@ -10,7 +10,7 @@ use Rattle.codec.specs.Lists.{any, every, same}
 use Rattle.codec.specs.Sets.{member}
 use Rattle.site.specs.Presumption.{Outcome, commit, abort, sameOutcome}
 use Rattle.site.specs.Step.{Message, voteYes, tell, messageKind, Effect, append, force, enter, send}
-use Rattle.site.specs.Coordinator.{Coordinator}
+use Rattle.site.specs.Coordinator.{CoordinatorPhase}
 use Rattle.joint.specs.State.{Run, Act, fresh, holds, perform}
 use Rattle.joint.specs.Run.{event}
 
@@ -117,7 +117,7 @@ pub record Safe (es : List (List ℕ)) : Type 0 where
   -- each reply from a coordinator in Unknown to a participant in doubt is the outcome; both are taken just before the event
   pub replies : (earlier : List Moment) (m : Moment) → Happens es earlier m
       → (t p : ℕ) (o : Outcome) → T (isReply t p o m)
-      → m .start .transaction t .coordinator ≡ Coordinator.unknown → T (inDoubt (m .start) t p) → o ≡ outcome es t
+      → m .start .transaction t .coordinator ≡ CoordinatorPhase.unknown → T (inDoubt (m .start) t p) → o ≡ outcome es t
 
 -- every list of events, of any bytes
 abbrev pub Demand3 : Type 0

@@ -3,16 +3,16 @@
 use Prim.Native.Nat.{ℕ, zero, suc}
 use mathlib.Core.Bool.{Bool, true, false, cond, not, _&&_, _||_}
 use mathlib.Core.List.{List, [], _∷_, _++_}
-use lib.ListN.{take}
-use lib.Dec.{eqb}
+use lib.ListN.{length, take}
+use lib.Dec.{eqb, leb}
 use Rattle.codec.specs.Lists.{any}
 use Rattle.codec.specs.Sets.{member, empty}
 use Rattle.codec.specs.Records.{LogRecord, ofTransaction}
 use Rattle.site.specs.Presumption.{Outcome, sameOutcome}
 use Rattle.site.specs.Cohort.{Cohort}
 use Rattle.site.specs.Step.{messageKind, Effect, append, force, enter, send}
-use Rattle.site.specs.Coordinator.{Coordinator}
-use Rattle.site.specs.Participant.{Participant}
+use Rattle.site.specs.Coordinator.{CoordinatorPhase}
+use Rattle.site.specs.Participant.{ParticipantPhase}
 
 -- a site's log: its stable part first, then the unforced records
 pub record Site : Type 0 where
@@ -24,8 +24,8 @@ pub record Site : Type 0 where
 -- `sent p k`: a message of kind k, to participant p or from it, was sent. `entered s o`: site s entered outcome o
 pub record Transaction : Type 0 where
   pub cohort : Cohort
-  pub coordinator : Coordinator
-  pub participant : ℕ → Participant
+  pub coordinator : CoordinatorPhase
+  pub participant : ℕ → ParticipantPhase
   pub sent : ℕ → ℕ → Bool
   pub entered : ℕ → Outcome → Bool
 
@@ -42,8 +42,8 @@ fresh =
       transaction =
           λ t. record {
             cohort = record { members = 0; presumeCommit = 0 };
-            coordinator = Coordinator.unknown;
-            participant = λ p. Participant.unknown;
+            coordinator = CoordinatorPhase.unknown;
+            participant = λ p. ParticipantPhase.unknown;
             sent = λ p k. false;
             entered = λ s o. false;
           };
@@ -63,9 +63,9 @@ unfoldable pub opened : Run → ℕ → Bool
 opened r t = not (empty (r .transaction t .cohort .members))
 
 -- the coordinator takes part in each transaction, a participant in those that it is a member of
-unfoldable pub takesPart : Run → ℕ → ℕ → Bool
-takesPart r t zero = true
-takesPart r t (suc n) = member (suc n) (r .transaction t .cohort .members)
+unfoldable pub takesPart : Transaction → ℕ → Bool
+takesPart x zero = true
+takesPart x (suc n) = member (suc n) (x .cohort .members)
 
 -- a log has a record of kind k of transaction t
 unfoldable pub holds : ℕ → ℕ → List LogRecord → Bool
@@ -80,20 +80,28 @@ appended x s = record { up = s .up; stable = s .stable; unforced = s .unforced +
 unfoldable pub forced : Site → Site
 forced s = record { up = s .up; stable = s .stable ++ s .unforced; unforced = [] }
 
--- down: the first `keep` unforced records become stable, the rest are lost
+-- which of the unforced records survive where the site goes down: the first `keep`
+abbrev pub survivors : ℕ → List LogRecord → List LogRecord
+survivors keep unforced = take keep unforced
+
+-- what `keep` may be then: at most their number
+abbrev pub mayKeep : ℕ → List LogRecord → Bool
+mayKeep keep unforced = leb keep (length unforced)
+
+-- down: the survivors become stable, the rest is lost
 unfoldable pub stopped : ℕ → Site → Site
-stopped keep s = record { up = false; stable = s .stable ++ take keep (s .unforced); unforced = [] }
+stopped keep s = record { up = false; stable = s .stable ++ survivors keep (s .unforced); unforced = [] }
 
 unfoldable pub started : Site → Site
 started s = record { up = true; stable = s .stable; unforced = s .unforced }
 
 -- ---- changes of a transaction
 
-unfoldable pub withCoordinator : Coordinator → Transaction → Transaction
+unfoldable pub withCoordinator : CoordinatorPhase → Transaction → Transaction
 withCoordinator c x =
     record { cohort = x .cohort; coordinator = c; participant = x .participant; sent = x .sent; entered = x .entered }
 
-unfoldable pub withParticipant : ℕ → Participant → Transaction → Transaction
+unfoldable pub withParticipant : ℕ → ParticipantPhase → Transaction → Transaction
 withParticipant p c x =
     record {
       cohort = x .cohort;
@@ -127,8 +135,8 @@ withEntered s o x =
 
 -- the phase at site s is Unknown
 unfoldable pub forgotten : ℕ → Transaction → Transaction
-forgotten zero x = withCoordinator Coordinator.unknown x
-forgotten (suc n) x = withParticipant (suc n) Participant.unknown x
+forgotten zero x = withCoordinator CoordinatorPhase.unknown x
+forgotten (suc n) x = withParticipant (suc n) ParticipantPhase.unknown x
 
 -- ---- site s goes down: all phases there are Unknown
 

@@ -1,12 +1,11 @@
 // The joint run: events, power cuts, crashes, restart and trimming, over the promises of codec and site.
 pub mod answers;
-mod asked;
+mod changes;
 mod events;
-mod moves;
-mod power;
-mod progress;
+mod records;
 pub mod replay;
 mod restarts;
+mod rows;
 pub mod run;
 mod sites;
 mod transactions;

@@ -1,71 +1,99 @@
-// Restart of a site, in each opened transaction.
+// Restart of a site, in each opened transaction; and power that goes at a site.
 use crate::answers::Answer;
-use crate::moves::Move;
-use crate::power::end;
-use crate::power::forget_all;
-use crate::progress::Progress;
+use crate::answers::Counts;
+use crate::events::Restart;
+use crate::records::Kinds;
+use crate::records::Records;
+use crate::rows::Row;
 use crate::run::Run;
 use crate::sites::Site;
 use crate::transactions::Transaction;
+use site::effects::less;
 ghost use mathlib.Core.Path.{_≡_};
 ghost use Prim.Native.Nat.{_≤_};
 ghost use Rattle.joint.specs.State as plain;
-ghost use Rattle.joint.specs.Event.{restart};
-ghost use Rattle.joint.specs.Stand.{siteIn, transactionsIn};
-ghost use Rattle.joint.specs.Inside.{againIn, restarted, restartedIn, taken, cutFrom};
+ghost use Rattle.joint.specs.State.{forgotten};
+ghost use Rattle.joint.specs.Event as event;
+ghost use Rattle.joint.specs.Answers.{siteFrom, transactionsIn};
+ghost use Rattle.joint.specs.Inside.{KindsOf, resumedIn, resumed, restartedIn, taken, cutFrom};
 
-// All transactions after the effects, and the site with the counts.
-pub struct Again {
-    pub transactions: [Transaction; 8],
-    pub progress: Progress,
+// All transactions after a restart's effects; how many more could have happened, and how many messages were sent.
+pub struct Resumed {
+    pub transactions: [Transaction; Run::TRANSACTIONS],
+    pub left: u8,
+    pub sends: u8,
 }
 
 // A restart's answer, and the site and all transactions after it.
 pub struct Restarted {
     pub answer: Answer,
     pub site: Site,
-    pub transactions: [Transaction; 8],
+    pub transactions: [Transaction; Run::TRANSACTIONS],
 }
 
-// Site `number` is up again: its restart in each opened transaction, in rising order, up to the cut.
-fn resume_all(site: Site, transactions: [Transaction; 8], number: usize, cut: u8) -> Again
-    requires { ⌜ number ≤ 8 ⌝ }
-    ensures { λ r. ⌜ ((x : plain.Run) → siteIn site ≡ x .site number → transactionsIn transactions ≡ x .transaction → againIn number x r ≡ restarted x number cut) ⌝ }
+// The phase at a site is Unknown in every transaction.
+pub(crate) fn forget_all(
+    transactions: [Transaction; Run::TRANSACTIONS],
+    site: usize,
+) -> [Transaction; Run::TRANSACTIONS]
+    requires { ⌜ site ≤ 8 ⌝ }
+    ensures { λ r. ⌜ transactionsIn r ≡ (λ t. forgotten site (transactionsIn transactions t)) ⌝ }
 {
     let mut transactions = transactions;
-    let mut progress = Progress::start(site, Transaction::new(), cut);
     let mut i: usize = 0;
-    while i < 8 {
+    while i < Run::TRANSACTIONS {
+        let transaction = transactions[i];
+        transactions[i] = transaction.forget(site);
+        i += 1;
+    }
+    transactions
+}
+
+// The restart of a site in each opened transaction, in rising order, up to the cut. It appends and forces nothing.
+fn resume_all(
+    transactions: [Transaction; Run::TRANSACTIONS],
+    kinds: Kinds,
+    site: u8,
+    cut: u8,
+) -> Resumed
+    requires { ⌜ site ≤ 8 ⌝ }
+    ensures { λ r. ⌜ ((x : plain.Run) → transactionsIn transactions ≡ x .transaction → KindsOf (kinds .of) x site → resumedIn r ≡ resumed x site cut) ⌝ }
+{
+    let kinds = kinds.of;
+    let mut transactions = transactions;
+    let mut left = cut;
+    let mut sends: u8 = 0;
+    let mut i: usize = 0;
+    while i < Run::TRANSACTIONS {
         let at = i;
         i += 1;
         let transaction = transactions[at];
         if transaction.opened() {
-            let next = Move::restart(transaction, number as u8, site.kinds(at as u8));
-            let moved = next.transaction;
-            let effects = next.effects;
-            progress.transaction = moved;
-            progress = progress.row(number, at as u8, effects);
-            let changed = progress.transaction;
-            transactions[at] = changed;
+            let row = Row::restart(transaction, site, kinds[at]);
+            let effects = row.effects;
+            let then = row.then;
+            let happened = effects.cut(left);
+            let after = transaction.after(site, happened);
+            transactions[at] = after.settle(site, then);
+            left = less(left, effects.count());
+            sends += happened.sends();
         }
     }
-    let changed = progress.site;
-    progress.site = changed.start();
-    Again {
+    Resumed {
         transactions,
-        progress,
+        left,
+        sends,
     }
 }
 
-pub(crate) fn restart_site(
+pub(crate) fn restart(
     site: Site,
-    transactions: [Transaction; 8],
-    number: u8,
-    cut: u8,
-    keep: u8,
+    records: Records,
+    transactions: [Transaction; Run::TRANSACTIONS],
+    e: Restart,
 ) -> Restarted
-    requires { ⌜ number ≤ 8 ⌝ }
-    ensures { λ r. ⌜ ((x : plain.Run) → siteIn site ≡ x .site number → transactionsIn transactions ≡ x .transaction → restartedIn number x r ≡ taken x (restart number) (cutFrom cut keep)) ⌝ }
+    requires { ⌜ e .site ≤ 8 ⌝ }
+    ensures { λ r. ⌜ ((x : plain.Run) → siteFrom site (records .of) ≡ x .site (e .site) → transactionsIn transactions ≡ x .transaction → restartedIn (e .site) x (records .of) r ≡ taken x (event.restart (e .site)) (cutFrom (e .cut) (e .keep))) ⌝ }
 {
     if site.up {
         return Restarted {
@@ -74,31 +102,35 @@ pub(crate) fn restart_site(
             transactions,
         };
     }
-    let at = number as usize;
-    let again = resume_all(site, transactions, at, cut);
-    let progress = again.progress;
-    let change = end(site, progress.transaction, progress, cut, keep);
-    let answer = change.answer;
-    let after = change.site;
-    if cut == Run::WHOLE {
-        let changed = again.transactions;
+    let resumed = resume_all(
+        transactions,
+        records.kinds(site.stable_count()),
+        e.site,
+        e.cut,
+    );
+    let after = resumed.transactions;
+    let answer = Answer::Accepted(Counts {
+        records: 0,
+        forces: 0,
+        sends: resumed.sends,
+    });
+    if e.cut == Run::NO_CUT {
         return Restarted {
             answer,
-            site: after,
-            transactions: changed,
+            site: site.start(),
+            transactions: after,
         };
     }
-    if change.down {
-        let changed = again.transactions;
+    if (resumed.left != 0) | (site.unforced_count() < (e.keep as usize)) {
         return Restarted {
-            answer,
-            site: after,
-            transactions: forget_all(changed, at),
+            answer: Answer::CutTooFar,
+            site,
+            transactions,
         };
     }
     Restarted {
         answer,
-        site: after,
-        transactions,
+        site: site.stop(e.keep),
+        transactions: forget_all(after, e.site as usize),
     }
 }

@@ -1,7 +1,10 @@
 // The joint run: its state, and what can be seen of it.
 use crate::answers::Answer;
+use crate::records::Records;
 use crate::sites::Site;
 use crate::transactions::Transaction;
+use codec::log::Log;
+use codec::message::Parts;
 use site::phases::CoordinatorPhase;
 use site::phases::ParticipantPhase;
 use site::presumption::Outcome;
@@ -9,13 +12,14 @@ ghost use mathlib.Core.Path.{_≡_};
 ghost use Rattle.codec.specs.Image.{writeImage};
 ghost use Rattle.codec.specs.Answers.{written};
 ghost use Rattle.site.specs.Answers.{coordinatorIn, participantIn, outcomeIn};
-ghost use Rattle.joint.specs.Stand.{transactionIn, runIn};
+ghost use Rattle.joint.specs.Answers.{transactionIn, runIn};
 ghost use Rattle.joint.specs.Program.{Begins};
 
-// Sites by number, 0 the coordinator; transactions by number.
+// Sites and their records by number, 0 the coordinator; transactions by number.
 pub struct Run {
-    pub(crate) sites: [Site; 9],
-    pub(crate) transactions: [Transaction; 8],
+    pub(crate) sites: [Site; Run::SITES],
+    pub(crate) records: [Records; Run::SITES],
+    pub(crate) transactions: [Transaction; Run::TRANSACTIONS],
 }
 
 // An event's answer, and the run that it leaves.
@@ -25,9 +29,14 @@ pub struct Next {
 }
 
 impl Run {
-    pub const SITES: usize = 9;
+    pub const LAST_SITE: u8 = Parts::LAST_PARTICIPANT;
 
-    pub const TRANSACTIONS: usize = 8;
+    pub const SITES: usize = Run::LAST_SITE as usize + 1;
+
+    pub const TRANSACTIONS: usize = Parts::LAST_TRANSACTION as usize + 1;
+
+    // Of messages.
+    pub const KINDS: usize = Parts::LAST_KIND as usize + 1;
 
     pub const EVENT_LENGTH: usize = 6;
     // Codes of events.
@@ -47,23 +56,16 @@ impl Run {
 
     pub const RESTART: u8 = 7;
     // No cut.
-    pub const WHOLE: u8 = 255;
-    // By code: the largest x, the least and the largest y, the largest z.
-    pub const LAST_X: [u8; 8] = [7, 7, 7, 7, 0, 7, 0, 0];
-
-    pub const FIRST_Y: [u8; 8] = [1, 0, 1, 0, 0, 0, 0, 0];
-
-    pub const LAST_Y: [u8; 8] = [255, 0, 8, 8, 8, 8, 8, 8];
-
-    pub const LAST_Z: [u8; 8] = [255, 0, 6, 0, 0, 0, 0, 0];
+    pub const NO_CUT: u8 = 255;
 
     // Every site up, each phase Unknown, no record and no message.
     pub fn new() -> Run
         ensures { λ r. ⌜ Begins r ⌝ }
     {
         Run {
-            sites: [Site::new(); 9],
-            transactions: [Transaction::new(); 8],
+            sites: [Site::NEW; Run::SITES],
+            records: [Records::new(); Run::SITES],
+            transactions: [Transaction::new(); Run::TRANSACTIONS],
         }
     }
 
@@ -72,7 +74,7 @@ impl Run {
     pub fn up(self, site: u8) -> bool
         ensures { λ r. ⌜ r ≡ runIn self .site site .up ⌝ }
     {
-        if 8 < site {
+        if Run::LAST_SITE < site {
             return true;
         }
         let at = site as usize;
@@ -83,7 +85,7 @@ impl Run {
     fn transaction(self, transaction: u8) -> Transaction
         ensures { λ r. ⌜ transactionIn r ≡ runIn self .transaction transaction ⌝ }
     {
-        if 7 < transaction {
+        if Parts::LAST_TRANSACTION < transaction {
             return Transaction::new();
         }
         let at = transaction as usize;
@@ -140,11 +142,12 @@ impl Run {
     pub fn write_log(self, site: u8, buffer: &mut [u8], at: usize) -> u8
         ensures { λ r. ⌜ written r (now (buffer .exit)) ≡ writeImage site (runIn self .site site .stable) at (now (buffer .entry)) ⌝ }
     {
-        if 8 < site {
-            return 21;
+        if Run::LAST_SITE < site {
+            return Log::OVER_LIMIT;
         }
         let i = site as usize;
         let found = self.sites[i];
-        found.write_log(site, buffer, at)
+        let records = self.records[i];
+        records.write_log(site, found.stable_count(), buffer, at)
     }
 }

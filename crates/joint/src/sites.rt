@@ -1,118 +1,109 @@
-// A site: whether it is up, and its log.
+// A site: whether it is up, and how many records its log has. The records stand apart (src/records.rt).
+use crate::rows::Row;
+use crate::rows::Then;
 use codec::log::Log;
-use codec::record::Record;
-use codec::sets::minus;
-use codec::writer::write_image;
+use site::effects::Effects;
 ghost use mathlib.Core.Path.{_≡_};
-ghost use mathlib.Core.Bool.{_||_};
-ghost use mathlib.Core.List.{map};
-ghost use Prim.Native.Nat.{ℕ, _≤_, _<_};
-ghost use lib.Dec.{eqb};
-ghost use lib.ListN.{length, take};
-ghost use Rattle.codec.specs.Lists.{select};
-ghost use Rattle.codec.specs.Records.{ofTransaction};
-ghost use Rattle.codec.specs.Answers.{recordIn, written};
-ghost use Rattle.codec.specs.Image.{writeImage};
-ghost use Rattle.site.specs.Answers.{hasKind};
-ghost use Rattle.joint.specs.State.{appended, forced, stopped, started, holds};
-ghost use Rattle.joint.specs.Plan as plan;
-ghost use Rattle.joint.specs.Stand.{siteIn, noSite};
-ghost use Rattle.joint.specs.Inside.{size, oldestAt};
+ghost use mathlib.Core.Bool.{false};
+ghost use mathlib.Core.List.{List, [], _∷_};
+ghost use Prim.Native.Nat.{ℕ, _-_};
+ghost use lib.ListN.{length};
+ghost use Rattle.codec.specs.Answers.{recordIn};
+ghost use Rattle.codec.specs.declared.record.Record.{Record};
+ghost use Rattle.site.specs.Step.{force, given};
+ghost use Rattle.site.specs.Numbers.{appending};
+ghost use Rattle.site.specs.Answers.{effectsIn};
+ghost use Rattle.joint.specs.State.{forced, stopped, started};
+ghost use Rattle.joint.specs.Answers.{siteFrom};
+ghost use Rattle.joint.specs.Inside.{stableOf, countOf, putAt, putRow, siteAfter, rowSite, writesLog, Fits};
 
-// The first `stable` of `records` are stable, and the next `unforced` are not; what stands behind these is no record of the log.
+// The first `stable` of its records are stable, and the next `unforced` are not; what stands behind these is no record of the log.
 pub struct Site {
     pub up: bool,
     pub stable: u8,
     pub unforced: u8,
-    pub records: [Record; 24],
-}
-
-// With one kind more in a set of kinds, bit k for kind k.
-pub(crate) fn with_kind(kinds: u8, kind: u8) -> u8
-    requires { ⌜ kind ≤ 7 ⌝ }
-    ensures { λ r. ⌜ ((k : ℕ) → hasKind r k ≡ (eqb k kind || hasKind kinds k)) ⌝ }
-{
-    kinds | (1 << kind)
-}
-
-// Whether a record closes its transaction at its site: 3, 4, or 2 without PrA members; 6 or 7.
-fn closes(x: Record) -> bool
-    ensures { λ r. ⌜ r ≡ plan.closes (recordIn x) ⌝ }
-{
-    if x.kind == Record::COMMIT {
-        return minus(x.first, x.second) == 0;
-    }
-    (Record::COMMIT_END <= x.kind) & (x.kind <= Record::ABORTED) & (x.kind != Record::PREPARED)
 }
 
 impl Site {
-    pub const MOST: usize = 24;
-
-    pub fn new() -> Site
-        ensures { λ r. ⌜ r ≡ noSite ⌝ }
-    {
-        Site {
-            up: true,
-            stable: 0,
-            unforced: 0,
-            records: [Record::NONE; 24],
-        }
-    }
+    pub const NEW: Site = Site {
+        up: true,
+        stable: 0,
+        unforced: 0,
+    };
 
     // How many records are stable, and how many there are.
-    fn stable_count(self) -> usize
-        ensures { λ r. ⌜ (r ≡ length (siteIn self .stable)) × (r ≤ 24) ⌝ }
+    pub fn stable_count(self) -> usize
+        ensures { λ r. ⌜ r ≡ stableOf self ⌝ }
     {
         let stable = self.stable as usize;
-        if Site::MOST < stable {
-            return Site::MOST;
+        if Log::COORDINATOR_MOST < stable {
+            return Log::COORDINATOR_MOST;
         }
         stable
     }
 
-    fn count(self) -> usize
-        ensures { λ r. ⌜ (r ≡ size (siteIn self)) × (r ≤ 24) ⌝ }
+    pub fn count(self) -> usize
+        ensures { λ r. ⌜ r ≡ countOf self ⌝ }
     {
         let count = (self.stable as usize) + (self.unforced as usize);
-        if Site::MOST < count {
-            return Site::MOST;
+        if Log::COORDINATOR_MOST < count {
+            return Log::COORDINATOR_MOST;
         }
         count
     }
 
     pub fn unforced_count(self) -> usize
-        ensures { λ r. ⌜ r ≡ length (siteIn self .unforced) ⌝ }
+        ensures { λ r. ⌜ r ≡ countOf self - stableOf self ⌝ }
     {
         self.count() - self.stable_count()
     }
 
-    // A full log stays as it is; no log of a run that events reach is full when a record is appended.
-    pub(crate) fn append(self, x: Record) -> Site
-        ensures { λ r. ⌜ (size (siteIn self) < 24 → siteIn r ≡ appended (recordIn x) (siteIn self)) ⌝ }
+    // With a record of a kind more; kind 0 is none. A full log stays as it is: no log of a run that events reach is full when
+    // a record is appended.
+    fn append(self, kind: u8) -> Site
+        ensures { λ r. ⌜ ((rs : List Record) (x : Record) → x .kind ≡ kind → length rs ≡ 24 → Fits (appending kind (recordIn x .fields)) (siteFrom self rs) → siteFrom r (putAt (countOf self) x rs) ≡ siteAfter (x .transaction) (appending kind (recordIn x .fields)) (siteFrom self rs)) ⌝ }
     {
-        let at = (self.stable as usize) + (self.unforced as usize);
-        if Site::MOST <= at {
+        if (kind == 0) | (Log::COORDINATOR_MOST <= self.count()) {
             return self;
         }
-        let mut site = self;
-        site.records[at] = x;
-        site.unforced += 1;
-        site
+        Site {
+            up: self.up,
+            stable: self.stable,
+            unforced: self.unforced + 1,
+        }
     }
 
-    pub fn force(self) -> Site
-        ensures { λ r. ⌜ siteIn r ≡ forced (siteIn self) ⌝ }
+    fn force(self) -> Site
+        ensures { λ r. ⌜ ((rs : List Record) → length rs ≡ 24 → siteFrom r rs ≡ forced (siteFrom self rs)) ⌝ }
     {
-        let count = self.count();
-        let mut site = self;
-        site.stable = count as u8;
-        site.unforced = 0;
-        site
+        Site {
+            up: self.up,
+            stable: self.count() as u8,
+            unforced: 0,
+        }
+    }
+
+    fn force_if(self, forced: bool) -> Site
+        ensures { λ r. ⌜ ((rs : List Record) (t : ℕ) → length rs ≡ 24 → siteFrom r rs ≡ siteAfter t (given forced (force ∷ [])) (siteFrom self rs)) ⌝ }
+    {
+        if forced {
+            return self.force();
+        }
+        self
+    }
+
+    // With a row's records and its force.
+    pub(crate) fn after(self, effects: Effects) -> Site
+        ensures { λ r. ⌜ ((rs : List Record) (t : ℕ) → length rs ≡ 24 → Fits (effectsIn effects) (siteFrom self rs) → siteFrom r (putRow (countOf self) t effects rs) ≡ siteAfter t (effectsIn effects) (siteFrom self rs)) ⌝ }
+    {
+        let first = self.append(effects.appended);
+        let forced = first.force_if(effects.forced);
+        forced.append(effects.last)
     }
 
     // The site goes down, and keeps so many of its unforced records.
-    pub fn stop(self, keep: u8) -> Site
-        ensures { λ r. ⌜ siteIn r ≡ stopped keep (siteIn self) ⌝ }
+    pub(crate) fn stop(self, keep: u8) -> Site
+        ensures { λ r. ⌜ ((rs : List Record) → length rs ≡ 24 → siteFrom r rs ≡ stopped keep (siteFrom self rs)) ⌝ }
     {
         let mut site = self;
         site.up = false;
@@ -122,110 +113,25 @@ impl Site {
         site.force()
     }
 
-    pub fn start(self) -> Site
-        ensures { λ r. ⌜ siteIn r ≡ started (siteIn self) ⌝ }
+    pub(crate) fn start(self) -> Site
+        ensures { λ r. ⌜ ((rs : List Record) → siteFrom r rs ≡ started (siteFrom self rs)) ⌝ }
     {
         let mut site = self;
         site.up = true;
         site
     }
 
-    // The kinds of the stable records of a transaction, bit k for kind k.
-    pub fn kinds(self, transaction: u8) -> u8
-        ensures { λ r. ⌜ ((k : ℕ) → k ≤ 7 → hasKind r k ≡ holds transaction k (siteIn self .stable)) ⌝ }
+    // After a row that appends and drops no record.
+    pub(crate) fn settle(self, row: Row) -> Site
+        requires { ⌜ writesLog row ≡ false ⌝ }
+        ensures { λ r. ⌜ ((rs : List Record) (t : ℕ) → length rs ≡ 24 → siteFrom r rs ≡ rowSite t row (siteFrom self rs)) ⌝ }
     {
-        let records = self.records;
-        let count = self.stable_count();
-        let mut kinds = 0;
-        let mut i = 0;
-        while i < count {
-            let x = records[i];
-            i += 1;
-            if (x.transaction == transaction) & (x.kind <= Record::ABORTED) {
-                kinds = with_kind(kinds, x.kind);
-            }
+        let effects = row.effects;
+        let then = row.then;
+        let after = self.force_if(effects.forced);
+        match then {
+            Then::Down(keep) => after.stop(keep),
+            _ => after,
         }
-        kinds
-    }
-
-    // Whether the newest stable record of a transaction closes it.
-    pub fn may_discard(self, transaction: u8) -> bool
-        ensures { λ r. ⌜ r ≡ plan.newest plan.closes (select (ofTransaction transaction) (siteIn self .stable)) ⌝ }
-    {
-        let records = self.records;
-        let mut i = self.stable_count();
-        while 0 < i {
-            i -= 1;
-            let x = records[i];
-            if x.transaction == transaction {
-                return closes(x);
-            }
-        }
-        false
-    }
-
-    // Of the first `count` records: where the oldest one of a transaction stands; `count`, where there is none.
-    fn oldest(self, transaction: u8, count: usize) -> usize
-        requires { ⌜ count ≤ 24 ⌝ }
-        ensures { λ r. ⌜ r ≡ oldestAt (ofTransaction transaction) (take count (map recordIn (self .records))) ⌝ }
-    {
-        let records = self.records;
-        let mut i = 0;
-        while i < count {
-            let x = records[i];
-            if x.transaction == transaction {
-                return i;
-            }
-            i += 1;
-        }
-        count
-    }
-
-    // Without its oldest stable record of a transaction.
-    pub fn trim(self, transaction: u8) -> Site
-        ensures { λ r. ⌜ siteIn r ≡ plan.trimmed transaction (siteIn self) ⌝ }
-    {
-        let stable = self.stable_count();
-        let oldest = self.oldest(transaction, stable);
-        if stable <= oldest {
-            return self;
-        }
-        let count = self.count();
-        let last = count - 1;
-        let mut records = self.records;
-        let mut i = oldest;
-        while i < last {
-            let x = records[i + 1];
-            records[i] = x;
-            i += 1;
-        }
-        Site {
-            up: self.up,
-            stable: (stable - 1) as u8,
-            unforced: (count - stable) as u8,
-            records,
-        }
-    }
-
-    // Whether it has a record of a transaction.
-    pub fn remembers(self, transaction: u8) -> bool
-        ensures { λ r. ⌜ r ≡ plan.remembers transaction (siteIn self) ⌝ }
-    {
-        let count = self.count();
-        self.oldest(transaction, count) < count
-    }
-
-    // The image of its log, as site `number`, from `at` on: 0, or 21, 23, 27, 28, 24, 25 and the buffer as it was.
-    pub fn write_log(self, number: u8, buffer: &mut [u8], at: usize) -> u8
-        ensures { λ r. ⌜ written r (now (buffer .exit)) ≡ writeImage number (siteIn self .stable) at (now (buffer .entry)) ⌝ }
-    {
-        let count = self.stable_count();
-        let records = self.records;
-        let log = Log {
-            site: number,
-            count,
-            records,
-        };
-        write_image(log, buffer, at)
     }
 }

@@ -14,8 +14,8 @@ use Rattle.codec.specs.laws.Tests.{or-none, alike, alike-eq, bools-at, leb-ltb}
 use Rattle.site.specs.Presumption.{presumptionNumber}
 use Rattle.site.specs.Cohort.{presumptionOf}
 use Rattle.site.specs.Step.{Row, answerNumber, answered, answerIf}
-use Rattle.site.specs.Coordinator.{Coordinator}
-use Rattle.site.specs.Participant.{Participant}
+use Rattle.site.specs.Coordinator.{CoordinatorPhase}
+use Rattle.site.specs.Participant.{ParticipantPhase}
 use Rattle.site.specs.Numbers.{Arguments, kindsReceived, receives, coordinatorOf, participantOf, coordinatorAnswer, participantAnswer, waitingInRange, isMember, namesNone, inRangeAt, argumentsInRange, refusal, coordinatorValues, participantValues, coordinatorResult, participantResult, stepAt, siteStep}
 use Rattle.site.specs.Inside.{coordinatorNumbers, participantNumbers}
 
@@ -31,7 +31,7 @@ coordinator-test r w k n m q = alike-eq _ _ (bools-at side (r ∷ w ∷ k ∷ n 
         alike (b 0 && (b 1 && cond (not (b 2)) (b 3) (b 4 && b 5)))
         ((((b 2 && b 5) || (not (b 2) && b 3)) && b 1) && (b 0 && (not (b 2) || b 4)))
 
-result-if : (b : Bool) (phase w : ℕ) (o : Option (Row Coordinator)) → cond b (coordinatorResult phase w (answered o)) refusal ≡ coordinatorResult phase w (answerIf b o)
+result-if : (b : Bool) (phase w : ℕ) (o : Option (Row CoordinatorPhase)) → cond b (coordinatorResult phase w (answered o)) refusal ≡ coordinatorResult phase w (answerIf b o)
 unfolding coordinatorResult coordinatorValues answerNumber refusal answerIf
 result-if true phase w o = refl
 result-if false phase w o = refl
@@ -65,7 +65,7 @@ module _ (a : Arguments) where
 
 -- ---- a participant's
 
-own-result-if : (b : Bool) (phase : ℕ) (o : Option (Row Participant)) → cond b (participantResult phase (answered o)) refusal ≡ participantResult phase (answerIf b o)
+own-result-if : (b : Bool) (phase : ℕ) (o : Option (Row ParticipantPhase)) → cond b (participantResult phase (answered o)) refusal ≡ participantResult phase (answerIf b o)
 unfolding participantResult participantValues answerNumber refusal answerIf
 own-result-if true phase o = refl
 own-result-if false phase o = refl

@@ -13,8 +13,8 @@ use Rattle.codec.specs.laws.Masks.{those-below}
 use Rattle.site.specs.Presumption.{commit, abort, presumptionNumber}
 use Rattle.site.specs.Cohort.{Cohort, presumptionOf, owing}
 use Rattle.site.specs.Step.{prepare, messages, begin, timer, received, Row}
-use Rattle.site.specs.Coordinator.{Coordinator, coordinatorStep}
-use Rattle.site.specs.Participant.{Participant, participantStep}
+use Rattle.site.specs.Coordinator.{CoordinatorPhase, coordinatorStep}
+use Rattle.site.specs.Participant.{ParticipantPhase, participantStep}
 use Rattle.site.specs.Numbers.{Arguments, coordinatorOf, waitingSet, participantOf, inputOf, receives, waitingInRange, isMember, namesNone, inRangeAt, argumentsInRange, summary, done}
 use Rattle.site.proofs.Sent.{member-numbered}
 use Rattle.site.proofs.ByKind.{not-received}
@@ -78,7 +78,7 @@ sender a h r e = by (eqb (a .kind) 16) (eqb (a .kind) 17) (leb 16 (a .kind)) ref
         absurd (false≢true (sym (not-received (a .kind) (λ z. absurd (omega (arith, k, z))) (λ z. absurd (omega (arith, k, z))) (λ z. absurd (omega (arith, k, z))) (λ z. absurd (omega (arith, k, z))) (eqb-false (a .kind) 16 d) (eqb-false (a .kind) 17 f)) ∙ r))
     by false false false d f g q = member-numbered (a .participant) (a .cohort .members) h (and-eq-true-iff (member (a .participant) (a .cohort .members)) _ .0 q .0)
 
-pub coordinator-call : (a : Arguments) → argumentsInRange a ≡ true → a .site ≡ 0 → (r : Row Coordinator)
+pub coordinator-call : (a : Arguments) → argumentsInRange a ≡ true → a .site ≡ 0 → (r : Row CoordinatorPhase)
     → coordinatorStep (a .cohort) (inputOf (a .kind) (a .participant)) (coordinatorOf (a .phase) (a .waiting)) ≡ some r
     → done a (summary (r .effects)) ≡ r .effects
 unfolding inRangeAt
@@ -89,7 +89,7 @@ coordinator-call a ok z r e =
     let w = set-below (a .phase) (a .waiting) (waiting-below (a .cohort) (a .phase) (a .waiting) (q .0)) in
     coordinator-done a (x .byte) (inputOf (a .kind) (a .participant)) (coordinatorOf (a .phase) (a .waiting)) (sender a (x .byte) k (q .1)) w r e
 
-pub participant-call : (a : Arguments) → argumentsInRange a ≡ true → (n : ℕ) → a .site ≡ suc n → (r : Row Participant)
+pub participant-call : (a : Arguments) → argumentsInRange a ≡ true → (n : ℕ) → a .site ≡ suc n → (r : Row ParticipantPhase)
     → participantStep (presumptionOf (a .cohort) (suc n)) (suc n) (inputOf (a .kind) (suc n)) (participantOf (a .phase)) ≡ some r
     → done a (summary (r .effects)) ≡ r .effects
 unfolding inRangeAt isMember

@@ -13,8 +13,8 @@ use Rattle.codec.specs.laws.Masks.{those-below}
 use Rattle.site.specs.Presumption.{Outcome, commit, abort, silence, sameOutcome, Presumption, acks, presumptionNumber}
 use Rattle.site.specs.Cohort.{Cohort, masksOf, writesInit, presumptionOf, owing}
 use Rattle.site.specs.Step.{Message, prepare, voteYes, voteNo, tell, ack, messages, messageKind, Effect, append, force, enter, send, given, Input, begin, timer, received, Row}
-use Rattle.site.specs.Coordinator.{ordered, tellAll, inOrder, preparing, committing, aborting, telling, endRecord, voted, onYes, onNo, coordinatorTimer, acked, ackedIf, onAck, onBegin, coordinatorStep, Coordinator}
-use Rattle.site.specs.Participant.{outcomeRecord, voting, promising, onPrepare, acking, finish, acknowledging, ackingIf, onTell, participantTimer, participantStep, Participant, working, prepared, decided}
+use Rattle.site.specs.Coordinator.{ordered, tellAll, inOrder, preparing, committing, aborting, telling, endRecord, voted, onYes, onNo, coordinatorTimer, acked, ackedIf, onAck, onBegin, coordinatorStep, CoordinatorPhase}
+use Rattle.site.specs.Participant.{outcomeRecord, voting, promising, onPrepare, acking, finish, acknowledging, ackingIf, onTell, participantTimer, participantStep, ParticipantPhase, working, prepared, decided}
 use Rattle.site.specs.Numbers.{Arguments, waitingSet, Summary, summary, fieldsOf, goFirst, entryOf, appending, othersDone, done}
 use Rattle.site.specs.Inside.{Numbered}
 use Rattle.site.specs.laws.Sets.{ordered-none}
@@ -166,53 +166,53 @@ module _ (a : Arguments) (h : a .cohort .members < 256) where
   voted-done true w = committing-done a h
   voted-done false w = none-done a
 
-  yes-done : (p : ℕ) (c : Coordinator) → Numbered p → (r : Row Coordinator) → onYes (a .cohort) p c ≡ some r → done a (summary (r .effects)) ≡ r .effects
+  yes-done : (p : ℕ) (c : CoordinatorPhase) → Numbered p → (r : Row CoordinatorPhase) → onYes (a .cohort) p c ≡ some r → done a (summary (r .effects)) ≡ r .effects
   unfolding onYes telling
-  yes-done p Coordinator.initial q r e = cc
-  yes-done p (Coordinator.collecting w) q r e = is-row a e (voted-done (empty (without p w)) (without p w))
-  yes-done p (Coordinator.awaitingAcks o w) q r e = is-row a e (one-done a (tell o) p q (only-below p))
-  yes-done p Coordinator.unknown q r e = is-row a e (one-done a (tell (silence (presumptionOf (a .cohort) p))) p q (only-below p))
+  yes-done p CoordinatorPhase.initial q r e = cc
+  yes-done p (CoordinatorPhase.collecting w) q r e = is-row a e (voted-done (empty (without p w)) (without p w))
+  yes-done p (CoordinatorPhase.awaitingAcks o w) q r e = is-row a e (one-done a (tell o) p q (only-below p))
+  yes-done p CoordinatorPhase.unknown q r e = is-row a e (one-done a (tell (silence (presumptionOf (a .cohort) p))) p q (only-below p))
 
-  no-done : (p : ℕ) (c : Coordinator) (r : Row Coordinator) → onNo (a .cohort) p c ≡ some r → done a (summary (r .effects)) ≡ r .effects
+  no-done : (p : ℕ) (c : CoordinatorPhase) (r : Row CoordinatorPhase) → onNo (a .cohort) p c ≡ some r → done a (summary (r .effects)) ≡ r .effects
   unfolding onNo
-  no-done p Coordinator.initial r e = cc
-  no-done p (Coordinator.collecting w) r e = is-row a e (aborting-done a (without p (a .cohort .members)) (without-below p (a .cohort .members)))
-  no-done p (Coordinator.awaitingAcks o w) r e = cc
-  no-done p Coordinator.unknown r e = cc
+  no-done p CoordinatorPhase.initial r e = cc
+  no-done p (CoordinatorPhase.collecting w) r e = is-row a e (aborting-done a (without p (a .cohort .members)) (without-below p (a .cohort .members)))
+  no-done p (CoordinatorPhase.awaitingAcks o w) r e = cc
+  no-done p CoordinatorPhase.unknown r e = cc
 
-  timer-done : (c : Coordinator) → waitingSet c < 256 → (r : Row Coordinator) → coordinatorTimer (a .cohort) c ≡ some r → done a (summary (r .effects)) ≡ r .effects
+  timer-done : (c : CoordinatorPhase) → waitingSet c < 256 → (r : Row CoordinatorPhase) → coordinatorTimer (a .cohort) c ≡ some r → done a (summary (r .effects)) ≡ r .effects
   unfolding coordinatorTimer waitingSet
-  timer-done Coordinator.initial w r e = cc
-  timer-done (Coordinator.collecting m) w r e = is-row a e (aborting-done a (a .cohort .members) h)
-  timer-done (Coordinator.awaitingAcks o m) w r e = is-row a e (told-done a o m w)
-  timer-done Coordinator.unknown w r e = cc
+  timer-done CoordinatorPhase.initial w r e = cc
+  timer-done (CoordinatorPhase.collecting m) w r e = is-row a e (aborting-done a (a .cohort .members) h)
+  timer-done (CoordinatorPhase.awaitingAcks o m) w r e = is-row a e (told-done a o m w)
+  timer-done CoordinatorPhase.unknown w r e = cc
 
   acked-done : (o : Outcome) (b : Bool) (w : ℕ) → done a (summary (acked o b w .effects)) ≡ acked o b w .effects
   unfolding acked
   acked-done o true w = end-record-done a o
   acked-done o false w = none-done a
 
-  ack-if-done : (b : Bool) (o : Outcome) (w : ℕ) (r : Row Coordinator) → ackedIf b o w ≡ some r → done a (summary (r .effects)) ≡ r .effects
+  ack-if-done : (b : Bool) (o : Outcome) (w : ℕ) (r : Row CoordinatorPhase) → ackedIf b o w ≡ some r → done a (summary (r .effects)) ≡ r .effects
   unfolding ackedIf
   ack-if-done true o w r e = is-row a e (acked-done o (empty w) w)
   ack-if-done false o w r e = cc
 
-  ack-done : (o : Outcome) (p : ℕ) (c : Coordinator) (r : Row Coordinator) → onAck o p c ≡ some r → done a (summary (r .effects)) ≡ r .effects
+  ack-done : (o : Outcome) (p : ℕ) (c : CoordinatorPhase) (r : Row CoordinatorPhase) → onAck o p c ≡ some r → done a (summary (r .effects)) ≡ r .effects
   unfolding onAck
-  ack-done o p Coordinator.initial r e = cc
-  ack-done o p (Coordinator.collecting w) r e = cc
-  ack-done o p (Coordinator.awaitingAcks d w) r e = ack-if-done (sameOutcome o d) d (without p w) r e
-  ack-done o p Coordinator.unknown r e = cc
+  ack-done o p CoordinatorPhase.initial r e = cc
+  ack-done o p (CoordinatorPhase.collecting w) r e = cc
+  ack-done o p (CoordinatorPhase.awaitingAcks d w) r e = ack-if-done (sameOutcome o d) d (without p w) r e
+  ack-done o p CoordinatorPhase.unknown r e = cc
 
-  begin-done : (c : Coordinator) (r : Row Coordinator) → onBegin (a .cohort) c ≡ some r → done a (summary (r .effects)) ≡ r .effects
+  begin-done : (c : CoordinatorPhase) (r : Row CoordinatorPhase) → onBegin (a .cohort) c ≡ some r → done a (summary (r .effects)) ≡ r .effects
   unfolding onBegin
-  begin-done Coordinator.initial r e = is-row a e (preparing-done a h)
-  begin-done (Coordinator.collecting w) r e = cc
-  begin-done (Coordinator.awaitingAcks o w) r e = cc
-  begin-done Coordinator.unknown r e = cc
+  begin-done CoordinatorPhase.initial r e = is-row a e (preparing-done a h)
+  begin-done (CoordinatorPhase.collecting w) r e = cc
+  begin-done (CoordinatorPhase.awaitingAcks o w) r e = cc
+  begin-done CoordinatorPhase.unknown r e = cc
 
   -- each row of the coordinator
-  pub coordinator-done : (i : Input) (c : Coordinator) → Sender i → waitingSet c < 256 → (r : Row Coordinator) → coordinatorStep (a .cohort) i c ≡ some r
+  pub coordinator-done : (i : Input) (c : CoordinatorPhase) → Sender i → waitingSet c < 256 → (r : Row CoordinatorPhase) → coordinatorStep (a .cohort) i c ≡ some r
       → done a (summary (r .effects)) ≡ r .effects
   unfolding coordinatorStep
   coordinator-done begin c q w r e = begin-done c r e
@@ -252,39 +252,39 @@ module _ (a : Arguments) (presumption : Presumption) (stated : a .presumption �
   new-done false commit = alone-done a false 1 (omega arith) 6 refl
   new-done false abort = alone-done a false 2 (omega arith) 7 refl
 
-  prepare-done : (x : Participant) (r : Row Participant) → onPrepare presumption p x ≡ some r → done a (summary (r .effects)) ≡ r .effects
+  prepare-done : (x : ParticipantPhase) (r : Row ParticipantPhase) → onPrepare presumption p x ≡ some r → done a (summary (r .effects)) ≡ r .effects
   unfolding onPrepare voting
-  prepare-done Participant.working r e = is-row a e promising-done
-  prepare-done Participant.prepared r e = is-row a e (one-done a voteYes p q (only-below p))
-  prepare-done (Participant.decided commit) r e = cc
-  prepare-done (Participant.decided abort) r e = is-row a e (one-done a voteNo p q (only-below p))
-  prepare-done Participant.unknown r e = is-row a e (one-done a voteNo p q (only-below p))
+  prepare-done ParticipantPhase.working r e = is-row a e promising-done
+  prepare-done ParticipantPhase.prepared r e = is-row a e (one-done a voteYes p q (only-below p))
+  prepare-done (ParticipantPhase.decided commit) r e = cc
+  prepare-done (ParticipantPhase.decided abort) r e = is-row a e (one-done a voteNo p q (only-below p))
+  prepare-done ParticipantPhase.unknown r e = is-row a e (one-done a voteNo p q (only-below p))
 
-  again-done : (b : Bool) (o : Outcome) (r : Row Participant) → ackingIf presumption p b o ≡ some r → done a (summary (r .effects)) ≡ r .effects
+  again-done : (b : Bool) (o : Outcome) (r : Row ParticipantPhase) → ackingIf presumption p b o ≡ some r → done a (summary (r .effects)) ≡ r .effects
   unfolding ackingIf acknowledging acking
   again-done true o r e = is-row a e (acking-done (acks presumption o) o)
   again-done false o r e = cc
 
-  tell-done : (o : Outcome) (x : Participant) (r : Row Participant) → onTell presumption p o x ≡ some r → done a (summary (r .effects)) ≡ r .effects
+  tell-done : (o : Outcome) (x : ParticipantPhase) (r : Row ParticipantPhase) → onTell presumption p o x ≡ some r → done a (summary (r .effects)) ≡ r .effects
   unfolding onTell finish acknowledging acking
-  tell-done commit Participant.working r e = cc
-  tell-done abort Participant.working r e = is-row a e (new-done (acks presumption abort) abort)
-  tell-done commit Participant.prepared r e = is-row a e (new-done (acks presumption commit) commit)
-  tell-done abort Participant.prepared r e = is-row a e (new-done (acks presumption abort) abort)
-  tell-done commit (Participant.decided d) r e = again-done (sameOutcome commit d) commit r e
-  tell-done abort (Participant.decided d) r e = again-done (sameOutcome abort d) abort r e
-  tell-done commit Participant.unknown r e = is-row a e (acking-done (acks presumption commit) commit)
-  tell-done abort Participant.unknown r e = is-row a e (acking-done (acks presumption abort) abort)
+  tell-done commit ParticipantPhase.working r e = cc
+  tell-done abort ParticipantPhase.working r e = is-row a e (new-done (acks presumption abort) abort)
+  tell-done commit ParticipantPhase.prepared r e = is-row a e (new-done (acks presumption commit) commit)
+  tell-done abort ParticipantPhase.prepared r e = is-row a e (new-done (acks presumption abort) abort)
+  tell-done commit (ParticipantPhase.decided d) r e = again-done (sameOutcome commit d) commit r e
+  tell-done abort (ParticipantPhase.decided d) r e = again-done (sameOutcome abort d) abort r e
+  tell-done commit ParticipantPhase.unknown r e = is-row a e (acking-done (acks presumption commit) commit)
+  tell-done abort ParticipantPhase.unknown r e = is-row a e (acking-done (acks presumption abort) abort)
 
-  own-timer-done : (x : Participant) (r : Row Participant) → participantTimer presumption p x ≡ some r → done a (summary (r .effects)) ≡ r .effects
+  own-timer-done : (x : ParticipantPhase) (r : Row ParticipantPhase) → participantTimer presumption p x ≡ some r → done a (summary (r .effects)) ≡ r .effects
   unfolding participantTimer voting appending given entryOf
-  own-timer-done Participant.working r e = is-row a e (alone-done a false 2 (omega arith) 0 refl)
-  own-timer-done Participant.prepared r e = is-row a e (one-done a voteYes p q (only-below p))
-  own-timer-done (Participant.decided o) r e = cc
-  own-timer-done Participant.unknown r e = cc
+  own-timer-done ParticipantPhase.working r e = is-row a e (alone-done a false 2 (omega arith) 0 refl)
+  own-timer-done ParticipantPhase.prepared r e = is-row a e (one-done a voteYes p q (only-below p))
+  own-timer-done (ParticipantPhase.decided o) r e = cc
+  own-timer-done ParticipantPhase.unknown r e = cc
 
   -- each row of a participant
-  pub participant-done : (i : Input) (x : Participant) (r : Row Participant) → participantStep presumption p i x ≡ some r → done a (summary (r .effects)) ≡ r .effects
+  pub participant-done : (i : Input) (x : ParticipantPhase) (r : Row ParticipantPhase) → participantStep presumption p i x ≡ some r → done a (summary (r .effects)) ≡ r .effects
   unfolding participantStep
   participant-done begin x r e = cc
   participant-done timer x r e = own-timer-done x r e

@@ -4,6 +4,7 @@ mod Rows
 mod NoRow
 mod ByKind
 mod Summed
+mod Cut
 mod Accepted
 mod Done
 mod Called

@@ -5,12 +5,12 @@ use mathlib.Core.List.{List, [], _∷_, _++_, map}
 use lib.ListN.{take, getD}
 use lib.Dec.{eqb, leb}
 use Rattle.codec.specs.Records.{lengthOf}
-use Rattle.site.specs.Presumption as plain
+use Rattle.site.specs.Presumption as outcomes
 use Rattle.site.specs.Cohort.{Cohort}
 use Rattle.site.specs.Step.{prepare, messages, Effect, append, force, send, Row, given, Answer, refused, noRow, row}
-use Rattle.site.specs.Coordinator as plain-coordinator
+use Rattle.site.specs.Coordinator as coordinator-step
 use Rattle.site.specs.Coordinator.{ordered}
-use Rattle.site.specs.Participant as plain-participant
+use Rattle.site.specs.Participant as participant-step
 use Rattle.site.specs.Numbers as numbers
 use Rattle.site.specs.declared.presumption.Outcome.{Outcome}
 use Rattle.site.specs.declared.presumption.Outcome.the-variants as outcome
@@ -32,27 +32,27 @@ use Rattle.site.specs.declared.participant.ParticipantAnswer.the-variant
 
 -- ---- outcomes, presumptions, phases
 
-abbrev pub outcomeIn : Outcome → plain.Outcome
-outcomeIn outcome.Commit = plain.commit
-outcomeIn outcome.Abort = plain.abort
+abbrev pub outcomeIn : Outcome → outcomes.Outcome
+outcomeIn outcome.Commit = outcomes.commit
+outcomeIn outcome.Abort = outcomes.abort
 
-abbrev pub presumptionIn : Presumption → plain.Presumption
-presumptionIn presumption.Abort = plain.presumedAbort
-presumptionIn presumption.Commit = plain.presumedCommit
+abbrev pub presumptionIn : Presumption → outcomes.Presumption
+presumptionIn presumption.Abort = outcomes.presumedAbort
+presumptionIn presumption.Commit = outcomes.presumedCommit
 
-abbrev pub coordinatorIn : CoordinatorPhase → plain-coordinator.Coordinator
-coordinatorIn coordinator.Open = plain-coordinator.initial
-coordinatorIn (coordinator.Collecting w) = plain-coordinator.collecting w
-coordinatorIn (coordinator.Committing w) = plain-coordinator.awaitingAcks plain.commit w
-coordinatorIn (coordinator.Aborting w) = plain-coordinator.awaitingAcks plain.abort w
-coordinatorIn coordinator.Unknown = plain-coordinator.unknown
+abbrev pub coordinatorIn : CoordinatorPhase → coordinator-step.CoordinatorPhase
+coordinatorIn coordinator.Open = coordinator-step.initial
+coordinatorIn (coordinator.Collecting w) = coordinator-step.collecting w
+coordinatorIn (coordinator.Committing w) = coordinator-step.awaitingAcks outcomes.commit w
+coordinatorIn (coordinator.Aborting w) = coordinator-step.awaitingAcks outcomes.abort w
+coordinatorIn coordinator.Unknown = coordinator-step.unknown
 
-abbrev pub participantIn : ParticipantPhase → plain-participant.Participant
-participantIn participant.Working = plain-participant.working
-participantIn participant.Prepared = plain-participant.prepared
-participantIn participant.Committed = plain-participant.decided plain.commit
-participantIn participant.Aborted = plain-participant.decided plain.abort
-participantIn participant.Unknown = plain-participant.unknown
+abbrev pub participantIn : ParticipantPhase → participant-step.ParticipantPhase
+participantIn participant.Working = participant-step.working
+participantIn participant.Prepared = participant-step.prepared
+participantIn participant.Committed = participant-step.decided outcomes.commit
+participantIn participant.Aborted = participant-step.decided outcomes.abort
+participantIn participant.Unknown = participant-step.unknown
 
 abbrev pub cohortIn : Coordinator → Cohort
 cohortIn c = record { members = c .members; presumeCommit = c .«presume_commit» }
@@ -85,18 +85,18 @@ summaryIn x = record { appended = x .appended; forced = x .forced; entered = x .
 
 -- ---- rows and answers
 
-abbrev pub coordinatorRowIn : CoordinatorRow → Row plain-coordinator.Coordinator
+abbrev pub coordinatorRowIn : CoordinatorRow → Row coordinator-step.CoordinatorPhase
 coordinatorRowIn r = record { effects = effectsIn (r .effects); phase = coordinatorIn (r .phase) }
 
-abbrev pub participantRowIn : ParticipantRow → Row plain-participant.Participant
+abbrev pub participantRowIn : ParticipantRow → Row participant-step.ParticipantPhase
 participantRowIn r = record { effects = effectsIn (r .effects); phase = participantIn (r .phase) }
 
-abbrev pub coordinatorAnswerIn : CoordinatorAnswer → Answer plain-coordinator.Coordinator
+abbrev pub coordinatorAnswerIn : CoordinatorAnswer → Answer coordinator-step.CoordinatorPhase
 coordinatorAnswerIn (coordinator-answer.Row r) = row (coordinatorRowIn r)
 coordinatorAnswerIn coordinator-answer.NoRow = noRow
 coordinatorAnswerIn coordinator-answer.Refused = refused
 
-abbrev pub participantAnswerIn : ParticipantAnswer → Answer plain-participant.Participant
+abbrev pub participantAnswerIn : ParticipantAnswer → Answer participant-step.ParticipantPhase
 participantAnswerIn (participant-answer.Row r) = row (participantRowIn r)
 participantAnswerIn participant-answer.NoRow = noRow
 participantAnswerIn participant-answer.Refused = refused

@@ -2,19 +2,20 @@
 use Prim.Native.Nat.{ℕ, _≤_}
 use mathlib.Core.Bool.{cond, _&&_}
 use mathlib.Core.List.{List, _∷_}
+use lib.Dec.{eqb}
 use Rattle.site.specs.Presumption.{Outcome}
 use Rattle.site.specs.Cohort.{Cohort, presumptionOf, owing}
 use Rattle.site.specs.Step.{enter, Row, answered}
-use Rattle.site.specs.Coordinator.{Coordinator, untilAcked, tellAll}
+use Rattle.site.specs.Coordinator.{CoordinatorPhase, untilAcked, tellAll}
 use Rattle.site.specs.Participant.{participantStep}
 use Rattle.site.specs.Numbers.{Arguments, participantOf, inputOf, receives, isMember, inRangeAt, refusal, participantResult, stepAt}
 
 -- an outcome told to a set and nothing else, the phase as it is
-abbrev pub toldTo : Cohort → Outcome → ℕ → Coordinator → Row Coordinator
+abbrev pub toldTo : Cohort → Outcome → ℕ → CoordinatorPhase → Row CoordinatorPhase
 toldTo g o to c = record { effects = tellAll g o to; phase = c }
 
 -- at restart: an outcome entered again, and told to a set
-abbrev pub resuming : Cohort → Outcome → ℕ → Row Coordinator
+abbrev pub resuming : Cohort → Outcome → ℕ → Row CoordinatorPhase
 resuming g o to = record { effects = enter o ∷ tellAll g o to; phase = untilAcked o (owing g o) }
 
 -- a participant's number
@@ -31,3 +32,9 @@ participantNumbers a =
     (participantResult (a .phase)
     (answered (participantStep (presumptionOf (a .cohort) (a .participant)) (a .participant) (inputOf (a .kind) (a .participant)) (participantOf (a .phase)))))
     refusal
+
+-- ---- a row up to where power goes
+
+-- k, if any effect may still happen
+abbrev pub upTo : ℕ → ℕ → ℕ
+upTo n k = cond (eqb n 0) 0 k

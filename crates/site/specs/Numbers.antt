@@ -10,36 +10,36 @@ use Rattle.codec.specs.Sets.{participants, member, empty, part}
 use Rattle.site.specs.Presumption.{Outcome, commit, abort, Presumption, presumptionNumber}
 use Rattle.site.specs.Step.{prepare, messages, messageKind, given, Input, begin, timer, received, Effect, append, force, enter, send, Answer, refused, noRow, row, answerNumber, answered, answerIf}
 use Rattle.site.specs.Cohort.{Cohort, masksOf, presumptionOf, owing}
-use Rattle.site.specs.Coordinator.{Coordinator, ordered, initial, collecting, awaitingAcks, coordinatorStep}
-use Rattle.site.specs.Participant.{Participant, working, prepared, decided, participantStep, participantRestart}
+use Rattle.site.specs.Coordinator.{CoordinatorPhase, ordered, initial, collecting, awaitingAcks, coordinatorStep}
+use Rattle.site.specs.Participant.{ParticipantPhase, working, prepared, decided, participantStep, participantRestart}
 
 -- ---- phases, waiting sets and inputs as numbers
 
-unfoldable pub coordinatorPhase : Coordinator → ℕ
+unfoldable pub coordinatorPhase : CoordinatorPhase → ℕ
 coordinatorPhase initial = 0
 coordinatorPhase (collecting w) = 1
 coordinatorPhase (awaitingAcks commit w) = 2
 coordinatorPhase (awaitingAcks abort w) = 3
-coordinatorPhase Coordinator.unknown = 4
+coordinatorPhase CoordinatorPhase.unknown = 4
 
-unfoldable pub waitingSet : Coordinator → ℕ
+unfoldable pub waitingSet : CoordinatorPhase → ℕ
 waitingSet initial = 0
 waitingSet (collecting w) = w
 waitingSet (awaitingAcks o w) = w
-waitingSet Coordinator.unknown = 0
+waitingSet CoordinatorPhase.unknown = 0
 
-unfoldable pub coordinatorOf : ℕ → ℕ → Coordinator
-coordinatorOf phase w = getD (initial ∷ collecting w ∷ awaitingAcks commit w ∷ awaitingAcks abort w ∷ []) phase Coordinator.unknown
+unfoldable pub coordinatorOf : ℕ → ℕ → CoordinatorPhase
+coordinatorOf phase w = getD (initial ∷ collecting w ∷ awaitingAcks commit w ∷ awaitingAcks abort w ∷ []) phase CoordinatorPhase.unknown
 
-unfoldable pub participantPhase : Participant → ℕ
+unfoldable pub participantPhase : ParticipantPhase → ℕ
 participantPhase working = 0
 participantPhase prepared = 1
 participantPhase (decided commit) = 2
 participantPhase (decided abort) = 3
-participantPhase Participant.unknown = 4
+participantPhase ParticipantPhase.unknown = 4
 
-unfoldable pub participantOf : ℕ → Participant
-participantOf phase = getD (working ∷ prepared ∷ decided commit ∷ decided abort ∷ []) phase Participant.unknown
+unfoldable pub participantOf : ℕ → ParticipantPhase
+participantOf phase = getD (working ∷ prepared ∷ decided commit ∷ decided abort ∷ []) phase ParticipantPhase.unknown
 
 -- kind 16 is begin, 17 the timer
 unfoldable pub inputOf : ℕ → ℕ → Input
@@ -54,17 +54,17 @@ unfoldable pub receives : ℕ → ℕ → Bool
 receives s kind = any (eqb kind) (kindsReceived s)
 
 -- the step by the kind's number: refused are a kind that the coordinator never receives, and a message of what is no member
-unfoldable pub coordinatorAnswer : Cohort → ℕ → ℕ → Coordinator → Answer Coordinator
+unfoldable pub coordinatorAnswer : Cohort → ℕ → ℕ → CoordinatorPhase → Answer CoordinatorPhase
 coordinatorAnswer g kind p c =
     answerIf (receives 0 kind && (leb 16 kind || member p (g .members))) (coordinatorStep g (inputOf kind p) c)
 
 -- refused are a kind that a participant never receives, and what is no participant
-unfoldable pub participantAnswer : Presumption → ℕ → ℕ → Participant → Answer Participant
+unfoldable pub participantAnswer : Presumption → ℕ → ℕ → ParticipantPhase → Answer ParticipantPhase
 participantAnswer presumption p kind x =
     answerIf (receives 1 kind && any (eqb p) participants) (participantStep presumption p (inputOf kind p) x)
 
 -- restart: refused is what is no participant
-unfoldable pub participantRestarted : Presumption → ℕ → (ℕ → Bool) → Answer Participant
+unfoldable pub participantRestarted : Presumption → ℕ → (ℕ → Bool) → Answer ParticipantPhase
 participantRestarted presumption p has = answerIf (any (eqb p) participants) (some (participantRestart presumption p has))
 
 -- ---- the arguments, in the order of the call; the last are members and PC
@@ -163,20 +163,20 @@ unfoldable pub noValues : List ℕ
 noValues = 0 ∷ 0 ∷ 0 ∷ 0 ∷ 0 ∷ 0 ∷ 0 ∷ []
 
 -- no row: phase and waiting set as they came
-unfoldable pub coordinatorValues : ℕ → ℕ → Answer Coordinator → List ℕ
+unfoldable pub coordinatorValues : ℕ → ℕ → Answer CoordinatorPhase → List ℕ
 coordinatorValues phase w refused = noValues
 coordinatorValues phase w noRow = rowValues phase w []
 coordinatorValues phase w (row r) = rowValues (coordinatorPhase (r .phase)) (waitingSet (r .phase)) (r .effects)
 
-unfoldable pub participantValues : ℕ → Answer Participant → List ℕ
+unfoldable pub participantValues : ℕ → Answer ParticipantPhase → List ℕ
 participantValues phase refused = noValues
 participantValues phase noRow = rowValues phase 0 []
 participantValues phase (row r) = rowValues (participantPhase (r .phase)) 0 (r .effects)
 
-unfoldable pub coordinatorResult : ℕ → ℕ → Answer Coordinator → List ℕ
+unfoldable pub coordinatorResult : ℕ → ℕ → Answer CoordinatorPhase → List ℕ
 coordinatorResult phase w a = answerNumber a ∷ coordinatorValues phase w a
 
-unfoldable pub participantResult : ℕ → Answer Participant → List ℕ
+unfoldable pub participantResult : ℕ → Answer ParticipantPhase → List ℕ
 participantResult phase a = answerNumber a ∷ participantValues phase a
 
 -- a refusal is 1, and zeros

@@ -1,8 +1,18 @@
 // The effects of a row as numbers.
 use codec::message::Parts;
+use codec::sets::both;
+use codec::sets::either;
+use codec::sets::lowest;
+use codec::sets::minus;
+use codec::sets::size;
 ghost use mathlib.Core.Path.{_≡_};
-ghost use Rattle.site.specs.Numbers.{summary};
-ghost use Rattle.site.specs.Answers.{effectsIn, summaryIn};
+ghost use mathlib.Core.Bool.{cond};
+ghost use Prim.Native.Nat.{_-_, _≤_};
+ghost use lib.ListN.{length, take};
+ghost use Rattle.site.specs.Coordinator.{ordered};
+ghost use Rattle.site.specs.Numbers.{summary, entryOf};
+ghost use Rattle.site.specs.Answers.{effectsIn, sending, summaryIn};
+ghost use Rattle.site.specs.Inside.{upTo};
 
 // What a row does, in this order: append, force, enter, send, append. 0 is none; there is no message where `to` is 0.
 pub struct Effects {
@@ -58,6 +68,48 @@ impl Effects {
         last: 0,
     };
 
+    // How many messages it sends.
+    pub fn sends(self) -> u8
+        ensures { λ r. ⌜ (r ≡ length (sending (self .message) (self .owing) (self .to))) × (r ≤ 8) ⌝ }
+    {
+        if Parts::LAST_KIND < self.message {
+            return 0;
+        }
+        size(self.to)
+    }
+
+    // How many effects it has.
+    pub fn count(self) -> u8
+        ensures { λ r. ⌜ r ≡ length (effectsIn self) ⌝ }
+    {
+        let appends = one_if(self.appended != 0);
+        let forces = one_if(self.forced);
+        let enters = entries(self.entered);
+        let closes = one_if(self.last != 0);
+        appends + forces + enters + self.sends() + closes
+    }
+
+    // The first `most` effects of it.
+    pub fn cut(self, most: u8) -> Effects
+        ensures { λ r. ⌜ effectsIn r ≡ take most (effectsIn self) ⌝ }
+    {
+        let forces = less(most, one_if(self.appended != 0));
+        let enters = less(forces, one_if(self.forced));
+        let sends = less(enters, entries(self.entered));
+        let closes = less(sends, self.sends());
+        Effects {
+            appended: up_to(most, self.appended),
+            first: self.first,
+            second: self.second,
+            forced: self.forced & (forces != 0),
+            entered: up_to(enters, self.entered),
+            message: self.message,
+            to: first_sent(self.owing, self.to, sends),
+            owing: self.owing,
+            last: up_to(closes, self.last),
+        }
+    }
+
     pub fn summary(self) -> Summary
         ensures { λ r. ⌜ summaryIn r ≡ summary (effectsIn self) ⌝ }
     {
@@ -73,4 +125,50 @@ impl Effects {
             to: if sends { to } else { 0 },
         }
     }
+}
+
+pub fn one_if(b: bool) -> u8
+    ensures { λ r. ⌜ (r ≡ cond b 1 0) × (r ≤ 1) ⌝ }
+{
+    if b { 1 } else { 0 }
+}
+
+// What is left of `n` without `k`, or 0.
+pub fn less(n: u8, k: u8) -> u8
+    ensures { λ r. ⌜ r ≡ n - k ⌝ }
+{
+    if n < k {
+        return 0;
+    }
+    n - k
+}
+
+// A number, or 0 where nothing is left.
+fn up_to(left: u8, x: u8) -> u8
+    ensures { λ r. ⌜ r ≡ upTo left x ⌝ }
+{
+    if left == 0 {
+        return 0;
+    }
+    x
+}
+
+// How many entries a number stands for: what is no outcome enters nothing.
+fn entries(entered: u8) -> u8
+    ensures { λ r. ⌜ (r ≡ length (entryOf entered)) × (r ≤ 1) ⌝ }
+{
+    if (entered < Effects::COMMIT_ENTERED) | (Effects::ABORT_ENTERED < entered) {
+        return 0;
+    }
+    1
+}
+
+// Of a set the first `most` in the order of sends: those that owe go first.
+fn first_sent(owing: u8, to: u8, most: u8) -> u8
+    ensures { λ r. ⌜ ordered owing r ≡ take most (ordered owing to) ⌝ }
+{
+    let first = both(to, owing);
+    let a = lowest(first, most);
+    let b = lowest(minus(to, owing), less(most, size(first)));
+    either(a, b)
 }

@@ -26,63 +26,36 @@ answer l = writeImage (l .site) (logIn l) 0 (replicate 40 238) .answer
 made : (make : Log → Log) (l : Log) (s : ℕ) → l ≡ noLog s → answer (make l) ≡ answer (make (noLog s))
 made make l s e = ap (λ (l : Log). answer (make l)) e
 
-new-requires : tie.Need-new-requires
-new-requires c κs = search needs
-
 refuses-requires : tie.Need-refuses-requires
 unfolding codec-opens logIn recordIn
 refuses-requires c κs = made (λ l. l) (c .new .result) 9 (c .new .ensures)
-
-new-requires-2 : tie.Need-new-requires-2
-new-requires-2 c κs = search needs
-
-element-set-from-one : tie.Need-element-set-from-one
-element-set-from-one c = search needs
 
 refuses-requires-2 : tie.Need-refuses-requires-2
 unfolding codec-opens logIn recordIn
 refuses-requires-2 c κs = made (holding 1 λ rs. set rs 0 (prepared 8 2)) (c .new2 .result) 1 (c .new2 .ensures)
 
-new-requires-3 : tie.Need-new-requires-3
-new-requires-3 c κs = search needs
-
-element-set-from-two : tie.Need-element-set-from-two
-element-set-from-two c = search needs
-
 refuses-requires-3 : tie.Need-refuses-requires-3
 unfolding codec-opens logIn recordIn
 refuses-requires-3 c κs = made (holding 1 λ rs. set rs 0 (prepared 0 2)) (c .new3 .result) 1 (c .new3 .ensures)
-
-new-requires-4 : tie.Need-new-requires-4
-new-requires-4 c κs = search needs
-
-element-set-from-two-2 : tie.Need-element-set-from-two-2
-element-set-from-two-2 c = search needs
-
-element-set-from-two-3 : tie.Need-element-set-from-two-3
-element-set-from-two-3 c = search needs
 
 refuses-requires-4 : tie.Need-refuses-requires-4
 unfolding codec-opens logIn recordIn
 refuses-requires-4 c κs = made (holding 2 λ rs. set (set rs 0 (prepared 0 0)) 1 (prepared 0 0)) (c .new4 .result) 1 (c .new4 .ensures)
 
-returns : tie.Need-returns
-returns c = search needs
-
 pub logs-spec : {M : Type 1} → statement M
 logs-spec =
     tie.close
     (tie.spec
-    new-requires
+    (λ c κs. search needs)
     refuses-requires
-    new-requires-2
-    element-set-from-one
+    (λ c κs. search needs)
+    (λ c. search needs)
     refuses-requires-2
-    new-requires-3
-    element-set-from-two
+    (λ c κs. search needs)
+    (λ c. search needs)
     refuses-requires-3
-    new-requires-4
-    element-set-from-two-2
-    element-set-from-two-3
+    (λ c κs. search needs)
+    (λ c. search needs)
+    (λ c. search needs)
     refuses-requires-4
-    returns)
+    (λ c. search needs))

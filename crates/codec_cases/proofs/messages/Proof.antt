@@ -15,15 +15,9 @@ parts c =
     ap (λ (w : Written). w .buffer) (c .dpr-message-parts2 .ensures)
     ∙ ap (λ (w : Written). set (set (set (w .buffer) 0 7) 1 8) 2 6) (c .before .before .before .dpr-message-parts .ensures)
 
-dpr-message-parts-requires : tie.Need-dpr-message-parts-requires
-dpr-message-parts-requires c κs = tt
-
 expect-requires : tie.Need-expect-requires
 unfolding codec-opens
 expect-requires c κs = eq-eqb (c .dpr-message-parts .result) 26 (ap (λ (w : Written). w .answer) (c .dpr-message-parts .ensures))
-
-dpr-message-parts-requires-2 : tie.Need-dpr-message-parts-requires-2
-dpr-message-parts-requires-2 c κs = tt
 
 expect-requires-2 : tie.Need-expect-requires-2
 unfolding codec-opens
@@ -32,28 +26,19 @@ expect-requires-2 c κs = eq-eqb (c .dpr-message-parts2 .result) 0 (ap (λ (w : 
 slice-aggregate-same : tie.Need-slice-aggregate-same
 slice-aggregate-same c = sym (ap length (parts (c .before .before)))
 
-slice-aggregate-same-2 : tie.Need-slice-aggregate-same-2
-slice-aggregate-same-2 c = search needs
-
-same-requires : tie.Need-same-requires
-same-requires c κs = tt
-
 expect-requires-3 : tie.Need-expect-requires-3
 expect-requires-3 c κs = c .same .ensures .1 (parts (c .before .before .before .before))
-
-returns : tie.Need-returns
-returns c = search needs
 
 pub messages-spec : {M : Type 1} → statement M
 messages-spec =
     tie.close
     (tie.spec
-    dpr-message-parts-requires
+    (λ c κs. tt)
     expect-requires
-    dpr-message-parts-requires-2
+    (λ c κs. tt)
     expect-requires-2
     slice-aggregate-same
-    slice-aggregate-same-2
-    same-requires
+    (λ c. search needs)
+    (λ c κs. tt)
     expect-requires-3
-    returns)
+    (λ c. search needs))

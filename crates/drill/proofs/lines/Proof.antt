@@ -30,16 +30,10 @@ whole input buffer text r h k e =
     let room : r ≤ length text = rw (n, held, length-append) (omega arith) in
     ((room, rw front n), front)
 
-drill-requires : tie.Need-drill-requires
-drill-requires c κs = tt
-
-same-length : tie.Need-same-length
-same-length c = search needs
-
 returns : tie.Need-returns
 returns c =
     let d = c .before .before in
     whole (now (d .before .before .before .before .args .input)) _ _ _ (d .before .before .before .before .pre) (d .drill .ensures .1) (d .drill .ensures .0)
 
 pub lines-spec : {M : Type 1} → statement M
-lines-spec = tie.close (tie.spec drill-requires same-length returns)
+lines-spec = tie.close (tie.spec (λ c κs. tt) (λ c. search needs) returns)

@@ -10,7 +10,7 @@ use borrow.Author.Tests.{eq-eqb}
 use Rattle.codec.specs.Lists.{select}
 use Rattle.codec.specs.Records.{LogRecord, ofTransaction}
 use Rattle.codec.specs.laws.Tests.{lt-or-le}
-use Rattle.joint.proofs.Lists.{Each}
+use Rattle.joint.proofs.base.Lists.{Each}
 
 -- the records of transaction t
 abbrev pub recordsOf : ℕ → List LogRecord → List LogRecord

@@ -15,11 +15,11 @@ use Rattle.codec.specs.Image.{most}
 use Rattle.codec.specs.laws.Tests.{and-left, and-right, true-of}
 use Rattle.codec.specs.laws.Masks.{those-alike, those-members}
 use Rattle.site.specs.Presumption.{commit, abort}
-use Rattle.site.specs.Cohort.{Cohort, owing}
+use Rattle.site.specs.Cohort.{Cohort, owing, writesInit}
 use Rattle.site.specs.Numbers.{coordinatorPhase, waitingSet, waitingInRange}
 use Rattle.joint.specs.State.{Run, opened}
-use Rattle.joint.proofs.Lists.{select-append, Each}
-use Rattle.joint.proofs.safety.Invariant.{waiting, resting, down, Standing, never, initial, collecting, decided, SetsFit, writesInit, awaitsCommit, coordinatorAt, between, recordFor}
+use Rattle.joint.proofs.base.Lists.{select-append, Each}
+use Rattle.joint.proofs.safety.Invariant.{waiting, resting, down, Standing, never, initial, collecting, decided, SetsFit, awaitsCommit, coordinatorAt, between, recordFor}
 use Rattle.joint.proofs.logs.Counts.{recordsOf, sumBelow}
 use Rattle.joint.proofs.logs.Orders.{mayStand, orderly, order-front, Ranged, Follows}
 use Rattle.joint.proofs.logs.Kinds.{share, fine, cohortIn, Known, Kinds}

@@ -13,17 +13,17 @@ use Rattle.codec.specs.Sets.{member, empty}
 use Rattle.codec.specs.Records.{recordKindAt, sequences}
 use Rattle.codec.specs.laws.Tests.{of-true}
 use Rattle.site.specs.Presumption.{Outcome, abort, sameOutcome}
-use Rattle.site.specs.Cohort.{Cohort}
+use Rattle.site.specs.Cohort.{Cohort, writesInit}
 use Rattle.site.specs.Participant.{outcomeRecord}
 use Rattle.site.specs.Coordinator.{endRecord}
 use Rattle.joint.specs.State.{Run, Site, opened, takesPart}
 use Rattle.joint.specs.Safety.{Moment}
-use Rattle.joint.proofs.Booleans.{_⇒_, mp, and-both}
+use Rattle.joint.proofs.base.Booleans.{_⇒_, mp, and-both}
 use Rattle.joint.proofs.view.View.{siteView, view}
 use Rattle.joint.proofs.safety.Tables.{Status, working, prepared, gone, half, lone, shut, off, offVoted, offShut, isUp, stableKinds, unforcedKinds, has}
 use Rattle.joint.proofs.safety.Finite.{allBool, at-bool, at-status}
 use Rattle.joint.proofs.safety.Sets.{empty-none}
-use Rattle.joint.proofs.safety.Invariant.{Log, kindsIn, classOf, resting, waiting, down, Standing, never, initial, collecting, decided, stageOf, logFits, standingFits, SetsFit, writesInit, awaitsCommit, properKinds, properLog, initLog, standingUp, stableAt, kindIf, unforcedAt, isNever, recordFor, Place, Mid}
+use Rattle.joint.proofs.safety.Invariant.{Log, kindsIn, classOf, resting, waiting, down, Standing, never, initial, collecting, decided, stageOf, logFits, standingFits, SetsFit, awaitsCommit, properKinds, properLog, initLog, standingUp, stableAt, kindIf, unforcedAt, isNever, recordFor, Place, Mid}
 use Rattle.joint.proofs.safety.coordinator.Logs.{closed, at-log, closed-kinds, closed-proper, may-close}
 use Rattle.joint.proofs.logs.Counts.{recordsOf}
 use Rattle.joint.proofs.logs.Orders.{orderly, Ranged}
@@ -131,7 +131,7 @@ cohortIn r t = r .transaction t .cohort
 pub record Known (r : Run) (t s : ℕ) : Type 0 where
   pub number : t < 8
   pub opens : opened r t ≡ true
-  pub takes : takesPart r t s ≡ true
+  pub takes : takesPart (r .transaction t) s ≡ true
 
 -- the kinds of t's records at s: they are tidy, and there are none unless s knows t
 pub record Kinds (r : Run) (t s : ℕ) : Type 0 where
@@ -157,7 +157,7 @@ has-member m p e = go (empty m) refl
     go false f = f
 
 module _ (t : ℕ) (ms : List Moment) (r : Run) (h : Standing) (mid : Mid t h (view t ms r)) where
-  known-as : (s : ℕ) → empty (cohortIn r t .members) ≡ false → takesPart r t s ≡ true → Known r t s
+  known-as : (s : ℕ) → empty (cohortIn r t .members) ≡ false → takesPart (r .transaction t) s ≡ true → Known r t s
   unfolding view opened
   known-as s e k = record { number = mid .sound .number e; opens = ap not e; takes = k }
 

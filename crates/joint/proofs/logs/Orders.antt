@@ -15,10 +15,10 @@ use Rattle.codec.specs.Image.{most, overLimit, logRefusals}
 use Rattle.codec.specs.laws.Refusals.{Sound, passes, tests-or}
 use Rattle.codec.specs.laws.Tests.{and-left, and-right, true-of, lt-or-le}
 use Rattle.site.specs.Presumption.{presumptionNumber, presumedAbort, presumedCommit}
-use Rattle.site.specs.Cohort.{Cohort, masksOf, presumptionOf}
-use Rattle.joint.proofs.Booleans.{and-both}
-use Rattle.joint.proofs.Lists.{select-append}
-use Rattle.joint.proofs.safety.Invariant.{writesInit, awaitsCommit, fieldsAt, recordFor}
+use Rattle.site.specs.Cohort.{Cohort, masksOf, presumptionOf, writesInit}
+use Rattle.joint.proofs.base.Booleans.{and-both}
+use Rattle.joint.proofs.base.Lists.{select-append}
+use Rattle.joint.proofs.safety.Invariant.{awaitsCommit, fieldsAt, recordFor}
 use Rattle.joint.proofs.logs.Counts.{recordsOf, records-head}
 use Rattle.joint.proofs.safety.Holds.{commit-awaits}
 

@@ -8,9 +8,9 @@ use lib.Dec.{T}
 use Rattle.codec.specs.Sets.{member, empty, part}
 use Rattle.codec.specs.Records.{LogRecord}
 use Rattle.site.specs.Presumption.{Outcome, commit, abort, sameOutcome, presumptionNumber}
-use Rattle.site.specs.Cohort.{Cohort, masksOf, presumptionOf, owing}
+use Rattle.site.specs.Cohort.{Cohort, masksOf, presumptionOf, owing, writesInit}
 use Rattle.site.specs.Step.{Message, messageKind}
-use Rattle.site.specs.Coordinator.{Coordinator, endRecord}
+use Rattle.site.specs.Coordinator.{CoordinatorPhase, endRecord}
 use Rattle.joint.specs.State.{Site}
 use Rattle.joint.proofs.view.View.{View}
 use Rattle.joint.proofs.safety.Tables.{Status, isUp, phaseOf, stableKinds, unforcedKinds, has, Stage, fresh, asking, done, Fine}
@@ -117,10 +117,6 @@ properLog i a (initial b) = true
 properLog i a (collecting w b) = true
 properLog i a (decided o pace l) = properKinds i a (kindsIn l)
 
--- record 1 is written at begin where a member presumes commit
-abbrev pub writesInit : Cohort → Bool
-writesInit g = not (empty (g .presumeCommit))
-
 -- someone owes an ack for commit
 abbrev pub awaitsCommit : Cohort → Bool
 awaitsCommit g = not (empty (owing g commit))
@@ -170,13 +166,13 @@ unforcedAt (decided o (waiting w) l) = []
 unforcedAt (decided o (resting b) l) = kindIf b (endRecord o)
 unforcedAt (decided o down l) = []
 
-abbrev pub coordinatorAt : Standing → Coordinator
-coordinatorAt (never u) = Coordinator.unknown
-coordinatorAt (initial b) = Coordinator.initial
-coordinatorAt (collecting w b) = Coordinator.collecting w
-coordinatorAt (decided o (waiting w) l) = Coordinator.awaitingAcks o w
-coordinatorAt (decided o (resting b) l) = Coordinator.unknown
-coordinatorAt (decided o down l) = Coordinator.unknown
+abbrev pub coordinatorAt : Standing → CoordinatorPhase
+coordinatorAt (never u) = CoordinatorPhase.unknown
+coordinatorAt (initial b) = CoordinatorPhase.initial
+coordinatorAt (collecting w b) = CoordinatorPhase.collecting w
+coordinatorAt (decided o (waiting w) l) = CoordinatorPhase.awaitingAcks o w
+coordinatorAt (decided o (resting b) l) = CoordinatorPhase.unknown
+coordinatorAt (decided o down l) = CoordinatorPhase.unknown
 
 -- between events: no row is half done, and where something is awaited the set is not empty
 abbrev pub between : Standing → Bool

@@ -8,17 +8,17 @@ use lib.ListN.{take}
 use lib.Dec.{T, eqb}
 use Rattle.codec.specs.Sets.{member}
 use Rattle.codec.specs.laws.Tests.{and-left, of-true}
-use Rattle.site.specs.Coordinator.{Coordinator}
+use Rattle.site.specs.Coordinator.{CoordinatorPhase}
 use Rattle.site.specs.Presumption.{Outcome, commit}
-use Rattle.site.specs.Cohort.{Cohort}
+use Rattle.site.specs.Cohort.{Cohort, writesInit}
 use Rattle.site.specs.Step.{voteYes, Effect, append, force, enter, send}
 use Rattle.joint.specs.State.{forced, holds, withCoordinator, forgotten}
 use Rattle.joint.specs.Safety.{sends}
-use Rattle.joint.proofs.Booleans.{or-either}
+use Rattle.joint.proofs.base.Booleans.{or-either}
 use Rattle.joint.proofs.view.View.{View, viewAt, viewSettle, viewPerform, viewEffects, viewDown}
 use Rattle.joint.proofs.view.Turn.{Carried, whole, cutAfter, viewStart, viewDiscard, viewForget, Turn, crashes, opens, coordinates, participates, discards, starts, resumes, returns, Turns, still, turn, forces}
 use Rattle.joint.proofs.safety.Sets.{empty-none}
-use Rattle.joint.proofs.safety.Invariant.{Standing, never, initial, collecting, decided, stageOf, hasDecided, writesInit, Member, Place, Mid, Inv, cohortOf}
+use Rattle.joint.proofs.safety.Invariant.{Standing, never, initial, collecting, decided, stageOf, hasDecided, Member, Place, Mid, Inv, cohortOf}
 use Rattle.joint.proofs.safety.coordinator.Steps.{From, own-number, from-self}
 use Rattle.joint.proofs.safety.coordinator.Crashes.{crash-next}
 use Rattle.joint.proofs.safety.participant.Participants.{force-kept, crash-kept, start-kept, row-kept, discard-kept, return-kept}
@@ -95,19 +95,19 @@ module _ {t : ℕ} {es : List Effect} {f : View → View} {v : View} where
   carried-voted k whole n u = effects-voted t es v n (k (viewEffects 0 t es v) n u)
   carried-voted k (cutAfter m j) n u = effects-voted t (take m es) v n (unfold viewDown in u)
 
-settle-cohort : (c : Coordinator) (x : View) → cohortOf (viewSettle (withCoordinator c) x) ≡ cohortOf x
+settle-cohort : (c : CoordinatorPhase) (x : View) → cohortOf (viewSettle (withCoordinator c) x) ≡ cohortOf x
 unfolding viewSettle withCoordinator
 settle-cohort c x = refl
 
-settle-voted : (c : Coordinator) (x : View) (n : ℕ) → T (viewSettle (withCoordinator c) x .voted (suc n)) → T (x .voted (suc n))
+settle-voted : (c : CoordinatorPhase) (x : View) (n : ℕ) → T (viewSettle (withCoordinator c) x .voted (suc n)) → T (x .voted (suc n))
 unfolding viewSettle
 settle-voted c x n u = u
 
-start-cohort : (c : Coordinator) (x : View) → cohortOf (viewStart 0 (withCoordinator c) x) ≡ cohortOf x
+start-cohort : (c : CoordinatorPhase) (x : View) → cohortOf (viewStart 0 (withCoordinator c) x) ≡ cohortOf x
 unfolding viewStart viewAt viewSettle withCoordinator
 start-cohort c x = refl
 
-start-voted : (c : Coordinator) (x : View) (n : ℕ) → T (viewStart 0 (withCoordinator c) x .voted (suc n)) → T (x .voted (suc n))
+start-voted : (c : CoordinatorPhase) (x : View) (n : ℕ) → T (viewStart 0 (withCoordinator c) x .voted (suc n)) → T (x .voted (suc n))
 unfolding viewStart viewAt viewSettle
 start-voted c x n u = u
 

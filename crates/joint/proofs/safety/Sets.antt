@@ -13,7 +13,7 @@ use Rattle.codec.specs.laws.Masks.{those-alike, those-below, those-members}
 use Rattle.codec.specs.laws.Members.{none-in, numbered, member-participant}
 use Rattle.site.specs.Presumption.{Outcome, abort, presumedAbort, presumedCommit, acks}
 use Rattle.site.specs.Cohort.{Cohort, presumptionOf, owing}
-use Rattle.joint.proofs.Booleans.{both-ways, is-false}
+use Rattle.joint.proofs.base.Booleans.{both-ways, is-false}
 
 -- ---- the set of those that pass a test
 

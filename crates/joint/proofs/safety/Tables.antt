@@ -6,7 +6,7 @@ use lib.Dec.{T, eqb}
 use Rattle.codec.specs.Lists.{any}
 use Rattle.site.specs.Presumption.{Outcome, commit, abort, sameOutcome, Presumption, acks, silence}
 use Rattle.site.specs.Step.{Message, prepare, voteYes, voteNo, tell, ack}
-use Rattle.site.specs.Participant.{Participant, outcomeRecord}
+use Rattle.site.specs.Participant.{ParticipantPhase, outcomeRecord}
 
 -- ---- a participant: up or down, its phase, the kinds of its stable and of its unforced records, in the combinations that occur
 
@@ -34,16 +34,16 @@ isUp off = false
 isUp offVoted = false
 isUp (offShut o f) = false
 
-abbrev pub phaseOf : Status → Participant
-phaseOf working = Participant.working
-phaseOf prepared = Participant.prepared
-phaseOf gone = Participant.unknown
-phaseOf (half o) = Participant.decided o
-phaseOf lone = Participant.decided abort
-phaseOf (shut o f) = Participant.decided o
-phaseOf off = Participant.unknown
-phaseOf offVoted = Participant.unknown
-phaseOf (offShut o f) = Participant.unknown
+abbrev pub phaseOf : Status → ParticipantPhase
+phaseOf working = ParticipantPhase.working
+phaseOf prepared = ParticipantPhase.prepared
+phaseOf gone = ParticipantPhase.unknown
+phaseOf (half o) = ParticipantPhase.decided o
+phaseOf lone = ParticipantPhase.decided abort
+phaseOf (shut o f) = ParticipantPhase.decided o
+phaseOf off = ParticipantPhase.unknown
+phaseOf offVoted = ParticipantPhase.unknown
+phaseOf (offShut o f) = ParticipantPhase.unknown
 
 -- the record of an outcome, behind 5 or alone
 abbrev pub endKinds : Outcome → Bool → List ℕ

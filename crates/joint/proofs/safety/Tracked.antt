@@ -8,21 +8,22 @@ use lib.Dec.{T}
 use native.Mathlib.Omega.{arith}
 use Rattle.codec.specs.Lists.{any, select}
 use Rattle.codec.specs.Sets.{participants, member, empty, bits, those, both, part}
+use Rattle.site.specs.Cohort.{writesInit}
 use Rattle.site.specs.Presumption.{Outcome, commit}
 use Rattle.joint.specs.State.{fresh, opened, holds}
 use Rattle.joint.specs.Run.{event, after}
 use Rattle.joint.specs.Safety.{happened, history, along, leaves, commitStable}
-use Rattle.joint.proofs.Booleans.{or-left, or-right, or-either}
-use Rattle.joint.proofs.History.{by-events, after-snoc, history-snoc, passed, committed-snoc}
-use Rattle.joint.proofs.Lists.{any-middle}
-use Rattle.joint.proofs.EventMoments.{commit-stays}
+use Rattle.joint.proofs.base.Booleans.{or-left, or-right, or-either}
+use Rattle.joint.proofs.base.History.{by-events, after-snoc, history-snoc, passed, committed-snoc}
+use Rattle.joint.proofs.base.Lists.{any-middle}
+use Rattle.joint.proofs.base.EventMoments.{commit-stays}
 use Rattle.joint.proofs.view.View.{View, siteView, view, is-opened}
 use Rattle.joint.proofs.view.Acts.{holds-select}
 use Rattle.joint.proofs.view.Events.{event-turns}
 use Rattle.joint.proofs.safety.Tables.{has, Stage}
 use Rattle.codec.specs.laws.Members.{none-in}
 use Rattle.joint.proofs.safety.Holds.{holds-at}
-use Rattle.joint.proofs.safety.Invariant.{kindsIn, waiting, resting, down, Standing, never, initial, collecting, decided, hasDecided, initLog, writesInit, stableAt, Place, Mid, Inv, cohortOf}
+use Rattle.joint.proofs.safety.Invariant.{kindsIn, waiting, resting, down, Standing, never, initial, collecting, decided, hasDecided, initLog, stableAt, Place, Mid, Inv, cohortOf}
 use Rattle.joint.proofs.safety.coordinator.Logs.{waiting-down, resting-down, commit-record}
 use Rattle.joint.proofs.safety.Kept.{Kept, turns-kept}
 

@@ -20,9 +20,9 @@ use Rattle.joint.specs.Refusals.{unopened, stranger, isDown, refusals}
 use Rattle.joint.specs.Plan.{Plan, acting, orNothing, openedAs, mayDiscard, discard, plan}
 use Rattle.joint.specs.Run.{Result, refuse, event, isForce}
 use Rattle.joint.specs.Safety.{Moment, moments, happened}
-use Rattle.joint.proofs.Ranges.{InRange, parse-range}
-use Rattle.joint.proofs.History.{EventCase, refused, whole, cut, event-case}
-use Rattle.joint.proofs.Plans.{not-struck, is-up, All, all-or, all-only}
+use Rattle.joint.proofs.base.Ranges.{InRange, parse-range}
+use Rattle.joint.proofs.base.History.{EventCase, refused, whole, cut, event-case}
+use Rattle.joint.proofs.base.Plans.{not-struck, is-up, All, all-or, all-only}
 use Rattle.joint.proofs.view.View.{siteView, view, not-opened, is-opened, site-up, viewSettle}
 use Rattle.joint.proofs.view.Turn.{viewDiscard, opens, discards, Turns, still, turn}
 use Rattle.joint.proofs.view.Acts.{seenEffects}
@@ -64,11 +64,11 @@ module _ (r : Run) (t : ℕ) where
   unfolding unopened
   was-opened l h = not-false _ (not-struck 2 _ l h .0)
 
-  is-part : (s : ℕ) (l : List (ℕ × Bool)) → first ((4, stranger r t s) ∷ l) ≡ 0 → takesPart r t s ≡ true
+  is-part : (s : ℕ) (l : List (ℕ × Bool)) → first ((4, stranger r t s) ∷ l) ≡ 0 → takesPart (r .transaction t) s ≡ true
   unfolding stranger
   is-part s l h = not-false _ (not-struck 3 _ l h .0)
 
-receiver-part : (r : Run) (t p : ℕ) (m : Message) → takesPart r t p ≡ true → takesPart r t (receiver m p) ≡ true
+receiver-part : (r : Run) (t p : ℕ) (m : Message) → takesPart (r .transaction t) p ≡ true → takesPart (r .transaction t) (receiver m p) ≡ true
 unfolding receiver takesPart
 receiver-part r t p prepare h = h
 receiver-part r t p voteYes h = refl

@@ -9,14 +9,14 @@ use borrow.Author.Tests.{eqb-true, eqb-false}
 use Rattle.codec.specs.Lists.{select}
 use Rattle.site.specs.Step.{Effect, append, force, enter, send, Row}
 use Rattle.site.specs.Cohort.{presumptionOf}
-use Rattle.site.specs.Coordinator.{Coordinator, coordinatorRestart}
-use Rattle.site.specs.Participant.{Participant, participantRestart}
+use Rattle.site.specs.Coordinator.{CoordinatorPhase, coordinatorRestart}
+use Rattle.site.specs.Participant.{ParticipantPhase, participantRestart}
 use Rattle.joint.specs.State.{Run, opened, holds, started, withCoordinator, withParticipant}
 use Rattle.joint.specs.Plan.{rowPlan, transactions, restarting, joined, restartAll}
 use Rattle.joint.specs.Run.{isForce}
 use Rattle.joint.specs.Safety.{Moment}
-use Rattle.joint.proofs.Lists.{Each}
-use Rattle.joint.proofs.Plans.{Logless, coordinator-logless, participant-logless}
+use Rattle.joint.proofs.base.Lists.{Each}
+use Rattle.joint.proofs.base.Plans.{Logless, coordinator-logless, participant-logless}
 use Rattle.joint.proofs.view.View.{View, siteView, view, not-opened, is-opened, site-up, viewAt, viewSettle}
 use Rattle.joint.proofs.view.Turn.{viewStart, starts, resumes, returns, turn}
 use Rattle.joint.proofs.view.Acts.{holds-select, effectsOf, seenEffects}
@@ -112,7 +112,7 @@ module _ (t : ℕ) (r : Run) where
   once-shown : (s : ℕ) (ts : List ℕ) → r .site s .up ≡ false → opened r t ≡ true → once t ts ≡ true → Shown t r (restartAll r s ts)
   unfolding restarting rowPlan viewStart view
   once-shown zero ts d e h =
-      let row : Row Coordinator = coordinatorRestart (r .transaction t .cohort) (λ k. holds t k (r .site 0 .stable)) in
+      let row : Row CoordinatorPhase = coordinatorRestart (r .transaction t .cohort) (λ k. holds t k (r .site 0 .stable)) in
       record {
         after = viewStart 0 (withCoordinator (row .phase));
         settles = once-settles t r 0 (viewSettle (withCoordinator (row .phase))) (settle-own t _ (coordinator-bare (row .phase))) ts h;
@@ -125,7 +125,7 @@ module _ (t : ℕ) (r : Run) where
       }
   once-shown (suc n) ts d e h =
       let presumption = presumptionOf (r .transaction t .cohort) (suc n) in
-      let row : Row Participant = participantRestart presumption (suc n) (λ k. holds t k (r .site (suc n) .stable)) in
+      let row : Row ParticipantPhase = participantRestart presumption (suc n) (λ k. holds t k (r .site (suc n) .stable)) in
       record {
         after = viewStart (suc n) (withParticipant (suc n) (row .phase));
         settles =

@@ -12,7 +12,7 @@ use Rattle.site.specs.Step.{Input}
 use Rattle.joint.specs.State.{Run, opened, takesPart, withCoordinator, withParticipant}
 use Rattle.joint.specs.Plan.{settling, rowPlan, step}
 use Rattle.joint.specs.Safety.{Moment}
-use Rattle.joint.proofs.Plans.{All, all-planned, all-step}
+use Rattle.joint.proofs.base.Plans.{All, all-planned, all-step}
 use Rattle.joint.proofs.view.View.{View, view, is-opened, site-up, viewSettle}
 use Rattle.joint.proofs.view.Turn.{Given, Own, coordinates, participates, Turns, turn}
 use Rattle.joint.proofs.view.Acts.{effectsOf, seenEffects}
@@ -57,7 +57,7 @@ module _ (t : ℕ) (r : Run) where
   -- ---- its own
 
   module _ (i : Input) (ready : opened r t ≡ true) (given : (ms : List Moment) → Given (view t ms r) i) where
-    pub step-own : (s : ℕ) → takesPart r t s ≡ true → r .site s .up ≡ true → ((n : ℕ) → s ≡ suc n → Own (suc n) i) → All (Shown t r) (step r t s i)
+    pub step-own : (s : ℕ) → takesPart (r .transaction t) s ≡ true → r .site s .up ≡ true → ((n : ℕ) → s ≡ suc n → Own (suc n) i) → All (Shown t r) (step r t s i)
     unfolding step takesPart rowPlan view
     step-own zero m up own =
         all-planned (Shown t r) 0 t withCoordinator _

@@ -10,13 +10,13 @@ use borrow.Author.Tests.{ne-eqb, eqb-true}
 use Rattle.codec.specs.Lists.{select, any}
 use Rattle.codec.specs.Records.{LogRecord, ofTransaction}
 use Rattle.site.specs.Cohort.{Cohort}
-use Rattle.site.specs.Coordinator.{Coordinator}
-use Rattle.site.specs.Participant.{Participant}
+use Rattle.site.specs.Coordinator.{CoordinatorPhase}
+use Rattle.site.specs.Participant.{ParticipantPhase}
 use Rattle.joint.specs.State.{Run, Site, Transaction, atSite, atTransaction, started, withCoordinator, withParticipant}
 use Rattle.joint.specs.Plan.{openedAs, dropOldest, trimmed, remembers, forgottenUnless, discard}
 use Rattle.joint.specs.Safety.{Moment}
-use Rattle.joint.proofs.Lists.{select-append}
-use Rattle.joint.proofs.Updates.{update-at, update-keeps, update-same, update-other}
+use Rattle.joint.proofs.base.Lists.{select-append}
+use Rattle.joint.proofs.base.Updates.{update-at, update-keeps, update-same, update-other}
 use Rattle.joint.proofs.view.View.{View, siteView, withoutEntries, view, view-path, viewAt, viewSettle}
 use Rattle.joint.proofs.view.Turn.{trimmedView, isNil, noRecord, viewForget, viewDiscard}
 
@@ -26,11 +26,11 @@ use Rattle.joint.proofs.view.Turn.{trimmedView, isNil, noRecord, viewFo
 abbrev pub Bare : (Transaction → Transaction) → Type 0
 Bare g = (x : Transaction) → withoutEntries (g x) ≡ g (withoutEntries x)
 
-pub coordinator-bare : (c : Coordinator) → Bare (withCoordinator c)
+pub coordinator-bare : (c : CoordinatorPhase) → Bare (withCoordinator c)
 unfolding withCoordinator
 coordinator-bare c x = refl
 
-pub participant-bare : (p : ℕ) (c : Participant) → Bare (withParticipant p c)
+pub participant-bare : (p : ℕ) (c : ParticipantPhase) → Bare (withParticipant p c)
 unfolding withParticipant
 participant-bare p c x = refl
 
@@ -116,7 +116,7 @@ remembers-view t x = any-select (ofTransaction t) (x .stable ++ x .unforced) ∙
 forget-own : (b : Bool) (t s : ℕ) (ms : List Moment) (r : Run) → view t ms (forgottenUnless b t s r) ≡ viewForget b s (view t ms r)
 unfolding forgottenUnless viewForget
 forget-own true t s ms r = refl
-forget-own false t s ms r = settle-own t (withParticipant s Participant.unknown) (participant-bare s Participant.unknown) ms r
+forget-own false t s ms r = settle-own t (withParticipant s ParticipantPhase.unknown) (participant-bare s ParticipantPhase.unknown) ms r
 
 forget-other : (b : Bool) (t u s : ℕ) → u ≢ t → (ms : List Moment) (r : Run) → view t ms (forgottenUnless b u s r) ≡ view t ms r
 unfolding forgottenUnless

@@ -10,8 +10,8 @@ use Rattle.codec.specs.Sets.{member, empty, part}
 use Rattle.codec.specs.Records.{LogRecord}
 use Rattle.site.specs.Step.{messageKind, Input, begin, timer, received, Effect, Row}
 use Rattle.site.specs.Cohort.{Cohort, presumptionOf}
-use Rattle.site.specs.Coordinator.{Coordinator, coordinatorStep, coordinatorRestart}
-use Rattle.site.specs.Participant.{Participant, participantStep, participantRestart}
+use Rattle.site.specs.Coordinator.{CoordinatorPhase, coordinatorStep, coordinatorRestart}
+use Rattle.site.specs.Participant.{ParticipantPhase, participantStep, participantRestart}
 use Rattle.joint.specs.State.{Site, Transaction, holds, forced, started, withCoordinator, withParticipant}
 use Rattle.joint.specs.Plan.{openedAs, closes, newest}
 use Rattle.joint.proofs.view.View.{View, viewAt, viewSettle, viewEffects, viewDown}
@@ -55,7 +55,7 @@ noRecord x = isNil (x .stable ++ x .unforced)
 -- whether the phase stays
 unfoldable pub viewForget : Bool → ℕ → View → View
 viewForget true s v = v
-viewForget false s v = viewSettle (withParticipant s Participant.unknown) v
+viewForget false s v = viewSettle (withParticipant s ParticipantPhase.unknown) v
 
 unfoldable pub viewDiscard : ℕ → View → View
 viewDiscard s v =
@@ -76,10 +76,10 @@ pub data Turn (t : ℕ) (v : View) : View → Type 0 where
   opens : (g : Cohort) → t < 8 → g .members < 256 → part (g .presumeCommit) (g .members) ≡ true → empty (g .members) ≡ false
       → empty (v .transaction .cohort .members) ≡ true
       → Up v 0 → ((n : ℕ) → member (suc n) (g .members) ≡ true → Up v (suc n)) → Turn t v (viewSettle (openedAs g) v)
-  coordinates : {row : Row Coordinator} {w : View} (i : Input) → Opened v → Up v 0 → Given v i
+  coordinates : {row : Row CoordinatorPhase} {w : View} (i : Input) → Opened v → Up v 0 → Given v i
       → coordinatorStep (v .transaction .cohort) i (v .transaction .coordinator) ≡ some row
       → Carried t 0 (row .effects) (viewSettle (withCoordinator (row .phase))) v w → Turn t v w
-  participates : {row : Row Participant} {w : View} (n : ℕ) (i : Input) → T (member (suc n) (v .transaction .cohort .members)) → Up v (suc n)
+  participates : {row : Row ParticipantPhase} {w : View} (n : ℕ) (i : Input) → T (member (suc n) (v .transaction .cohort .members)) → Up v (suc n)
       → Given v i → Own (suc n) i
       → participantStep (presumptionOf (v .transaction .cohort) (suc n)) (suc n) i (v .transaction .participant (suc n)) ≡ some row
       → Carried t (suc n) (row .effects) (viewSettle (withParticipant (suc n) (row .phase))) v w → Turn t v w
@@ -88,10 +88,10 @@ pub data Turn (t : ℕ) (v : View) : View → Type 0 where
   -- a site starts, where the transaction is not opened
   starts : (s : ℕ) → empty (v .transaction .cohort .members) ≡ true → Turn t v (viewAt s started v)
   -- the coordinator's row of a restart, and a participant's
-  resumes : {row : Row Coordinator} {w : View} → Opened v → v .site 0 .up ≡ false
+  resumes : {row : Row CoordinatorPhase} {w : View} → Opened v → v .site 0 .up ≡ false
       → coordinatorRestart (v .transaction .cohort) (λ k. holds t k (v .site 0 .stable)) ≡ row
       → Carried t 0 (row .effects) (viewStart 0 (withCoordinator (row .phase))) v w → Turn t v w
-  returns : {row : Row Participant} {w : View} (n : ℕ) → v .site (suc n) .up ≡ false
+  returns : {row : Row ParticipantPhase} {w : View} (n : ℕ) → v .site (suc n) .up ≡ false
       → participantRestart (presumptionOf (v .transaction .cohort) (suc n)) (suc n) (λ k. holds t k (v .site (suc n) .stable)) ≡ row
       → Carried t (suc n) (row .effects) (viewStart (suc n) (withParticipant (suc n) (row .phase))) v w → Turn t v w
 

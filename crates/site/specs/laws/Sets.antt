@@ -1,11 +1,17 @@
--- Who owes an ack, as a set of members and PC makes it; sends to nobody. Assumes nothing.
-use mathlib.Core.Path.{_≡_, refl, ap}
-use mathlib.Core.Bool.{Bool, true, false, cond, not, _&&_}
-use mathlib.Core.List.{[]}
-use Prim.Native.Nat.{ℕ, suc}
+-- Who owes an ack, as a set of members and PC makes it; the order of sends, as two sets, and the first of them. Assumes nothing.
+use mathlib.Core.Path.{_≡_, refl, ap, ap₂, sym, _∙_}
+use mathlib.Core.Bool.{Bool, true, false, cond, not, _&&_, _||_}
+use mathlib.Core.List.{List, [], _∷_, _++_}
+use Prim.Native.Nat.{ℕ, zero, suc, _+_, _-_, _<_}
+use native.Mathlib.Nat.{sub-zero, suc-sub-suc}
+use native.Mathlib.Omega.{arith}
+use lib.ListN.{length, take, getD, length-append}
+use lib.Seq.{take-nil}
 use Rattle.codec.specs.Lists.{select}
-use Rattle.codec.specs.Sets.{participants, member, listed, both, minus}
-use Rattle.codec.specs.laws.Masks.{those-alike}
+use Rattle.codec.specs.Sets.{participants, member, listed, both, either, minus}
+use Rattle.codec.specs.laws.Tests.{alike, alike-eq, bools-at}
+use Rattle.codec.specs.laws.Masks.{those-alike, those-below, those-members}
+use Rattle.codec.specs.laws.Lowest.{in-those, listed-those, lowest-part}
 use Rattle.site.specs.Presumption.{commit, abort, acks, presumedAbort, presumedCommit}
 use Rattle.site.specs.Cohort.{Cohort, presumptionOf, owing}
 use Rattle.site.specs.Coordinator.{inTurn, ordered}
@@ -35,3 +41,105 @@ owing-abort g =
 pub ordered-none : (first : ℕ) → ordered first 0 ≡ []
 unfolding ordered inTurn listed select participants member
 ordered-none first = refl
+
+-- ---- the order of sends is that of two sets
+
+pub select-select {ℓ} : {A : Type ℓ} (f g : A → Bool) (xs : List A) → select g (select f xs) ≡ select (λ x. f x && g x) xs
+unfolding select
+select-select f g [] = refl
+select-select {A} f g (x ∷ xs) = by (f x) (select-select f g xs)
+  where
+    by : (b : Bool) → select g (select f xs) ≡ select (λ x. f x && g x) xs
+        → select g (cond b (x ∷ select f xs) (select f xs)) ≡ cond (b && g x) (x ∷ select (λ x. f x && g x) xs) (select (λ x. f x && g x) xs)
+    by true e = ap (λ (l : List A). cond (g x) (x ∷ l) l) e
+    by false e = e
+
+select-listed : (f : ℕ → Bool) (to : ℕ) → select f (listed to) ≡ select (λ p. member p to && f p) participants
+unfolding listed
+select-listed f to = select-select (λ p. member p to) f participants
+
+pub in-order : (first to : ℕ) → ordered first to ≡ listed (both to first) ++ listed (minus to first)
+unfolding ordered inTurn both minus
+in-order first to =
+    rw (listed-those (λ p. member p to && member p first), listed-those (λ p. member p to && not (member p first)))
+    (ap₂ _++_ (select-listed (λ p. member p first) to) (select-listed (λ p. not (member p first)) to))
+
+select-split {ℓ} : {A : Type ℓ} (f : A → Bool) (l : List A) → length (select f l) + length (select (λ p. not (f p)) l) ≡ length l
+unfolding select
+select-split f [] = refl
+select-split {A} f (p ∷ l) = by (f p) (select-split f l)
+  where
+    by : (b : Bool) → length (select f l) + length (select (λ p. not (f p)) l) ≡ length l
+        → length (cond b (p ∷ select f l) (select f l)) + length (cond (not b) (p ∷ select (λ p. not (f p)) l) (select (λ p. not (f p)) l)) ≡ suc (length l)
+    by true e = omega (arith, e)
+    by false e = omega (arith, e)
+
+pub order-length : (first to : ℕ) → length (ordered first to) ≡ length (listed to)
+unfolding ordered inTurn
+order-length first to = length-append (select (λ p. member p first) (listed to)) _ ∙ select-split (λ p. member p first) (listed to)
+
+-- ---- the first of them
+
+pub take-append {ℓ} : {A : Type ℓ} (n : ℕ) (xs ys : List A) → take n (xs ++ ys) ≡ take n xs ++ take (n - length xs) ys
+take-append n [] ys = rw (sub-zero, take-nil)
+take-append zero (x ∷ xs) ys = let z : 0 - length (x ∷ xs) ≡ 0 = omega arith in rw z
+take-append {A} (suc n) (x ∷ xs) ys = rw suc-sub-suc (ap (λ (l : List A). x ∷ l) (take-append n xs ys))
+
+abbrev firstTest : List Bool → Bool
+firstTest bs = alike (((at 0 && (at 2 && at 3)) || (at 1 && (at 2 && not (at 3)))) && at 3) (at 0 && (at 2 && at 3))
+  where
+    at : ℕ → Bool
+    at i = getD bs i false
+
+abbrev secondTest : List Bool → Bool
+secondTest bs = alike (((at 0 && (at 2 && at 3)) || (at 1 && (at 2 && not (at 3)))) && not (at 3)) (at 1 && (at 2 && not (at 3)))
+  where
+    at : ℕ → Bool
+    at i = getD bs i false
+
+-- l is of those in t and o, r of those in t and not in o: of l or r, those in o are l, and the others r
+module _ (l r t o : Bool) (el : l ≡ (l && (t && o))) (er : r ≡ (r && (t && not o))) where
+  in-first : ((l || r) && o) ≡ l
+  in-first = ap (λ (b : Bool). (b && o)) (ap₂ _||_ el er) ∙ alike-eq _ _ (bools-at firstTest (l ∷ r ∷ t ∷ o ∷ []) tt) ∙ sym el
+
+  in-second : ((l || r) && not o) ≡ r
+  in-second = ap (λ (b : Bool). (b && not o)) (ap₂ _||_ el er) ∙ alike-eq _ _ (bools-at secondTest (l ∷ r ∷ t ∷ o ∷ []) tt) ∙ sym er
+
+-- of a set a in `first` and a set b out of it
+module _ (first to n m a b : ℕ) (ha : a < 256) (hb : b < 256)
+    (ea : listed a ≡ take n (listed (both to first)))
+    (eb : listed b ≡ take m (listed (minus to first))) where
+  within-first : (i : ℕ) → i < 8 → member (suc i) a ≡ (member (suc i) a && (member (suc i) to && member (suc i) first))
+  unfolding both
+  within-first i h =
+      lowest-part (both to first) n a (those-below _) ha ea i h ∙ ap (member (suc i) a &&_) (in-those (λ p. member p to && member p first) i h)
+
+  within-second : (i : ℕ) → i < 8 → member (suc i) b ≡ (member (suc i) b && (member (suc i) to && not (member (suc i) first)))
+  unfolding minus
+  within-second i h =
+      lowest-part (minus to first) m b (those-below _) hb eb i h ∙ ap (member (suc i) b &&_) (in-those (λ p. member p to && not (member p first)) i h)
+
+  first-of : both (either a b) first ≡ a
+  unfolding both either
+  first-of =
+      those-alike (λ p. member p (either a b) && member p first) (λ p. member p a)
+      (λ i h.
+      ap (_&& member (suc i) first) (in-those (λ p. member p a || member p b) i h)
+      ∙ in-first (member (suc i) a) (member (suc i) b) (member (suc i) to) (member (suc i) first) (within-first i h) (within-second i h))
+      ∙ those-members a ha
+
+  second-of : minus (either a b) first ≡ b
+  unfolding minus either
+  second-of =
+      those-alike (λ p. member p (either a b) && not (member p first)) (λ p. member p b)
+      (λ i h.
+      ap (_&& not (member (suc i) first)) (in-those (λ p. member p a || member p b) i h)
+      ∙ in-second (member (suc i) a) (member (suc i) b) (member (suc i) to) (member (suc i) first) (within-first i h) (within-second i h))
+      ∙ those-members b hb
+
+  pub order-cut : m ≡ n - length (listed (both to first)) → ordered first (either a b) ≡ take n (ordered first to)
+  order-cut e =
+      in-order first (either a b)
+      ∙ ap₂ (λ (x y : ℕ). listed x ++ listed y) first-of second-of
+      ∙ ap₂ _++_ ea (eb ∙ ap (λ (k : ℕ). take k (listed (minus to first))) e)
+      ∙ sym (ap (take n) (in-order first to) ∙ take-append n (listed (both to first)) (listed (minus to first)))

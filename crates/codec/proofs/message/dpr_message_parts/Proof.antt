@@ -6,28 +6,10 @@ use borrow.Author.Needs.{needs}
 use Rattle.codec.proofs.message.dpr_message_parts.Statement.{statement}
 use Rattle.codec.proofs.message.dpr_message_parts.Tie as tie
 
-from-number-requires : tie.Need-from-number-requires
-from-number-requires c κs = search needs
-
-enum-known-answer : tie.Need-enum-known-answer
-enum-known-answer c = search needs
-
-enum-told : tie.Need-enum-told
-enum-told c = search needs
-
 returns : tie.Need-returns
 unfolding partsValues
 returns c = let from = c .before .before in
     sym (parts-refused _ (now (from .before .args .parts)) (sym (from .from-number .ensures) ∙ refused-values (from .from-number .result) (c .before .match .keys2)))
-
-element-write-parts : tie.Need-element-write-parts
-element-write-parts c = search needs
-
-element-write-parts-2 : tie.Need-element-write-parts-2
-element-write-parts-2 c = search needs
-
-element-write-parts-3 : tie.Need-element-write-parts-3
-element-write-parts-3 c = search needs
 
 returns-2 : tie.Need-returns-2
 unfolding partsValues
@@ -39,11 +21,11 @@ pub dpr-message-parts-spec : {M : Type 1} → statement M
 dpr-message-parts-spec =
     tie.close
     (tie.spec
-    from-number-requires
-    enum-known-answer
-    enum-told
+    (λ c κs. search needs)
+    (λ c. search needs)
+    (λ c. search needs)
     returns
-    element-write-parts
-    element-write-parts-2
-    element-write-parts-3
+    (λ c. search needs)
+    (λ c. search needs)
+    (λ c. search needs)
     returns-2)

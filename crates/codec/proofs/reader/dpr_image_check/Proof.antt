@@ -7,21 +7,6 @@ use borrow.Author.Needs.{needs}
 use Rattle.codec.proofs.reader.dpr_image_check.Statement.{statement}
 use Rattle.codec.proofs.reader.dpr_image_check.Tie as tie
 
-read-image-requires : tie.Need-read-image-requires
-read-image-requires c κs = tt
-
-cast-result : tie.Need-cast-result
-cast-result c = search needs
-
-cast-result-2 : tie.Need-cast-result-2
-cast-result-2 c = search needs
-
-mul-result : tie.Need-mul-result
-mul-result c = search needs
-
-add-result : tie.Need-add-result
-add-result c = search needs
-
 returns : tie.Need-returns
 unfolding checkImage imageValues
 returns c = let read = c .before .before in
@@ -33,4 +18,4 @@ returns c = let read = c .before .before in
 pub dpr-image-check-spec : {M : Type 1} → statement M
 dpr-image-check-spec =
     tie.close
-    (tie.spec read-image-requires cast-result cast-result-2 mul-result add-result returns)
+    (tie.spec (λ c κs. tt) (λ c. search needs) (λ c. search needs) (λ c. search needs) (λ c. search needs) returns)

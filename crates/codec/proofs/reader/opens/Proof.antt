@@ -31,12 +31,6 @@ returns-2 c = let w = c .before .before .before in
     let bytes = now (w .before .before .args .bytes) in
     sym (opens-by bytes (w .loop .inv .long) ∙ opening-differs bytes _ (w .loop .inv) (c .before .before .loop-test .taken) (c .if2 .taken))
 
-add-i : tie.Need-add-i Inv-loop μ-loop
-add-i c = omega arith
-
-loop-less : tie.Need-loop-less Inv-loop μ-loop
-loop-less c = omega arith
-
 loop-again : tie.Need-loop-again Inv-loop μ-loop
 unfolding magic
 loop-again c = opening-next _ _ (c .before .before .before .loop .inv) (c .before .before .loop-test .taken) (c .if2 .left)
@@ -57,7 +51,7 @@ opens-spec =
     shared-slice-read-if2
     array-read-if2
     returns-2
-    add-i
-    loop-less
+    (λ c. omega arith)
+    (λ c. omega arith)
     loop-again
     returns-3)

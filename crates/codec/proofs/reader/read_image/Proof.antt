@@ -23,12 +23,6 @@ within : (c : tie.Else2) → overLimit (siteIn (now (c .before .before .before .
 unfolding siteIn countIn
 within c = sym (c .before .over-limit .ensures) ∙ c .if2 .left
 
-opens-requires : tie.Need-opens-requires
-opens-requires c κs = tt
-
-refused-requires : tie.Need-refused-requires
-refused-requires c κs = tt
-
 returns : tie.Need-returns
 returns c = c .refused .ensures ∙ ap values (sym (not-opened (now (c .before .before .before .before .args .bytes)) (sym (c .before .before .opens .ensures) ∙ not-true _ (c .before .if1 .taken))))
 
@@ -41,12 +35,6 @@ shared-slice-read-count c = omega (arith, long (c .before .before))
 cast-count : tie.Need-cast-count
 cast-count c = omega (arith, c .shared-slice-known3 .given 5)
 
-over-limit-requires : tie.Need-over-limit-requires
-over-limit-requires c κs = tt
-
-refused-requires-2 : tie.Need-refused-requires-2
-refused-requires-2 c κs = tt
-
 returns-2 : tie.Need-returns-2
 unfolding siteIn countIn
 returns-2 c = c .refused2 .ensures
@@ -54,9 +42,6 @@ returns-2 c = c .refused2 .ensures
 
 table-exact-requires : tie.Need-table-exact-requires
 table-exact-requires c κs = long (c .before .before .before .before)
-
-refused-requires-3 : tie.Need-refused-requires-3
-refused-requires-3 c κs = tt
 
 returns-3 : tie.Need-returns-3
 returns-3 c = let w = c .before .before .before in
@@ -76,17 +61,17 @@ pub read-image-spec : {M : Type 1} → statement M
 read-image-spec =
     tie.close
     (tie.spec
-    opens-requires
-    refused-requires
+    (λ c κs. tt)
+    (λ c κs. tt)
     returns
     shared-slice-read-site
     shared-slice-read-count
     cast-count
-    over-limit-requires
-    refused-requires-2
+    (λ c κs. tt)
+    (λ c κs. tt)
     returns-2
     table-exact-requires
-    refused-requires-3
+    (λ c κs. tt)
     returns-3
     read-records-requires
     returns-4)

@@ -55,9 +55,6 @@ shared-slice-read-count c = omega (arith, c .before .before .before .pre .whole)
 cast-count : tie.Need-cast-count Inv-loop μ-loop
 cast-count c = omega (arith, c .shared-slice-known3 .given 5)
 
-none-requires : tie.Need-none-requires Inv-loop μ-loop
-none-requires c κs = tt
-
 mul-at : tie.Need-mul-at Inv-loop μ-loop
 mul-at c = omega (arith, c .before .shared-slice-known3 .given 5)
 
@@ -81,20 +78,8 @@ part-read-start c = omega (arith, c .end-of .ensures)
 part-read-end : tie.Need-part-read-end Inv-loop μ-loop
 part-read-end c = rw (c .end-of .ensures) (inside (c .before) .part)
 
-read-requires : tie.Need-read-requires Inv-loop μ-loop
-read-requires c κs = tt
-
-enum-known-answer : tie.Need-enum-known-answer Inv-loop μ-loop
-enum-known-answer c = search needs
-
-number-requires : tie.Need-number-requires Inv-loop μ-loop
-number-requires c κs = tt
-
 cast-refused : tie.Need-cast-refused Inv-loop μ-loop
 cast-refused c = omega (arith, few (c .before .before .before .before .before))
-
-refused-requires : tie.Need-refused-requires Inv-loop μ-loop
-refused-requires c κs = tt
 
 returns : tie.Need-returns Inv-loop μ-loop
 returns c = let read = c .before .before .before in
@@ -106,9 +91,6 @@ returns c = let read = c .before .before .before in
     c .refused .ensures
     ∙ ap values (records-refused bytes _ _ (λ e. named (sym (c .before .number .ensures) ∙ e)) (c .before .number .ensures ∙ here ∙ struck .0) (struck .1))
 
-with-requires : tie.Need-with-requires Inv-loop μ-loop
-with-requires c κs = tt
-
 mul-records : tie.Need-mul-records Inv-loop μ-loop
 mul-records c = omega (arith, few (c .before .before .before .before .before .before .before))
 
@@ -117,9 +99,6 @@ array-set-from-records c = few (c .before .before .before .before .before .befor
 
 add-i : tie.Need-add-i Inv-loop μ-loop
 add-i c = omega (arith, few (c .before .before .before .before .before .before .before))
-
-loop-less : tie.Need-loop-less Inv-loop μ-loop
-loop-less c = search needs
 
 loop-again : tie.Need-loop-again Inv-loop μ-loop
 loop-again c = let w = c .before .before .before .before .before .before .before .before in
@@ -150,7 +129,7 @@ read-records-spec =
     shared-slice-read-site
     shared-slice-read-count
     cast-count
-    none-requires
+    (λ c κs. tt)
     mul-at
     add-at
     loop-holds
@@ -158,17 +137,17 @@ read-records-spec =
     sub-read
     part-read-start
     part-read-end
-    read-requires
-    enum-known-answer
-    number-requires
+    (λ c κs. tt)
+    (λ c. search needs)
+    (λ c κs. tt)
     cast-refused
-    refused-requires
+    (λ c κs. tt)
     returns
-    with-requires
+    (λ c κs. tt)
     mul-records
     array-set-from-records
     add-i
-    loop-less
+    (λ c. search needs)
     loop-again
     cast-index
     returns-2)

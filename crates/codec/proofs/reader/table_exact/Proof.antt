@@ -34,32 +34,11 @@ loop-holds : tie.Need-loop-holds Inv-loop μ-loop
 unfolding countIn
 loop-holds c = exact-start _ _ refl (omega (arith, c .before .shared-slice-known2 .given 5)) (c .if1 .left)
 
-mul-pair : tie.Need-mul-pair Inv-loop μ-loop
-mul-pair c = search needs
-
-add-pair : tie.Need-add-pair Inv-loop μ-loop
-add-pair c = search needs
-
-word-requires : tie.Need-word-requires Inv-loop μ-loop
-word-requires c κs = search needs
-
 returns-2 : tie.Need-returns-2 Inv-loop μ-loop
 returns-2 c = sym (not-exact _ _ _ _ (c .before .before .before .loop .inv) (c .before .before .loop-test .taken) (λ e. c .if2 .taken (c .before .word .ensures .0 ∙ e)))
 
-add-word : tie.Need-add-word Inv-loop μ-loop
-add-word c = search needs
-
-word-requires-2 : tie.Need-word-requires-2 Inv-loop μ-loop
-word-requires-2 c κs = search needs
-
 add-at-2 : tie.Need-add-at-2 Inv-loop μ-loop
 add-at-2 c = omega (arith, c .word2 .ensures .1)
-
-add-i : tie.Need-add-i Inv-loop μ-loop
-add-i c = search needs
-
-loop-less : tie.Need-loop-less Inv-loop μ-loop
-loop-less c = search needs
 
 loop-again : tie.Need-loop-again Inv-loop μ-loop
 loop-again c = let w = c .before .before in
@@ -81,14 +60,14 @@ table-exact-spec =
     add-at
     returns
     loop-holds
-    mul-pair
-    add-pair
-    word-requires
+    (λ c. search needs)
+    (λ c. search needs)
+    (λ c κs. search needs)
     returns-2
-    add-word
-    word-requires-2
+    (λ c. search needs)
+    (λ c κs. search needs)
     add-at-2
-    add-i
-    loop-less
+    (λ c. search needs)
+    (λ c. search needs)
     loop-again
     returns-3)

@@ -5,11 +5,8 @@ use Rattle.codec.specs.laws.Masks.{minus-and}
 use Rattle.codec.proofs.sets.minus.Statement.{statement}
 use Rattle.codec.proofs.sets.minus.Tie as tie
 
-sub-result : tie.Need-sub-result
-sub-result c = search needs
-
 returns : tie.Need-returns
 returns c = sym (minus-and (c .args .a) (c .args .b) (omega arith) (omega arith))
 
 pub minus-spec : {M : Type 1} → statement M
-minus-spec = tie.close (tie.spec sub-result returns)
+minus-spec = tie.close (tie.spec (λ c. search needs) returns)

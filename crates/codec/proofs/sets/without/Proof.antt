@@ -3,16 +3,10 @@ use Rattle.codec.specs.laws.Members.{minus-only}
 use Rattle.codec.proofs.sets.without.Statement.{statement}
 use Rattle.codec.proofs.sets.without.Tie as tie
 
-only-requires : tie.Need-only-requires
-only-requires c κs = tt
-
-minus-requires : tie.Need-minus-requires
-minus-requires c κs = tt
-
 returns : tie.Need-returns
 returns c =
     rw (c .minus .ensures, c .before .only .ensures)
     (minus-only (c .before .before .args .participant) (c .before .before .args .mask) (omega arith))
 
 pub without-spec : {M : Type 1} → statement M
-without-spec = tie.close (tie.spec only-requires minus-requires returns)
+without-spec = tie.close (tie.spec (λ c κs. tt) (λ c κs. tt) returns)

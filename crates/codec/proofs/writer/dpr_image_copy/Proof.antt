@@ -5,9 +5,6 @@ use borrow.Author.Needs.{needs}
 use Rattle.codec.proofs.writer.dpr_image_copy.Statement.{statement}
 use Rattle.codec.proofs.writer.dpr_image_copy.Tie as tie
 
-read-image-requires : tie.Need-read-image-requires
-read-image-requires c κs = search needs
-
 returns : tie.Need-returns
 returns c = let read = c .before in
     let a = read .before .before .before .args in
@@ -19,9 +16,6 @@ place-requires c κs = let test = c .before .before in
     let a = read .before .before .before .args in
     read-passed (now (a .image)) (read .read-image .result) (read .read-image .ensures) (a .offset) (now (a .buffer)) (test .if1 .left)
 
-same-length : tie.Need-same-length
-same-length c = search needs
-
 returns-2 : tie.Need-returns-2
 returns-2 c = let test = c .before .before .before .before .before in
     let read = test .before in
@@ -31,4 +25,4 @@ returns-2 c = let test = c .before .before .before .before .before in
 
 pub dpr-image-copy-spec : {M : Type 1} → statement M
 dpr-image-copy-spec =
-    tie.close (tie.spec read-image-requires returns place-requires same-length returns-2)
+    tie.close (tie.spec (λ c κs. search needs) returns place-requires (λ c. search needs) returns-2)

@@ -29,27 +29,12 @@ returns : tie.Need-returns
 returns c = let a = c .before .before .before .before in
     write-short (a .args .log .site) _ (a .args .at) (a .args .buffer .now) (a .pre) (omega arith)
 
-sub-if2 : tie.Need-sub-if2
-sub-if2 c = search needs
-
 returns-2 : tie.Need-returns-2
 returns-2 c = let a = c .before .before .before .before .before in
     write-short (a .args .log .site) _ (a .args .at) (a .args .buffer .now) (a .pre) (omega (arith, size (c .before .before)))
 
-sub-write-front : tie.Need-sub-write-front
-sub-write-front c = search needs
-
-part-write-front-start : tie.Need-part-write-front-start
-part-write-front-start c = search needs
-
-part-write-front-end : tie.Need-part-write-front-end
-part-write-front-end c = search needs
-
 write-front-requires : tie.Need-write-front-requires
 write-front-requires c κs = (few (c .before .before .before .before .before .before), simp (length-take, length-drop) (omega (arith, size (c .before .before .before))))
-
-same-length : tie.Need-same-length
-same-length c = search needs
 
 returns-3 : tie.Need-returns-3
 returns-3 c = let a = c .before .before .before .before .before .before .before .before .before in
@@ -62,11 +47,11 @@ place-spec =
     (tie.spec
     size-of-requires
     returns
-    sub-if2
+    (λ c. search needs)
     returns-2
-    sub-write-front
-    part-write-front-start
-    part-write-front-end
+    (λ c. search needs)
+    (λ c. search needs)
+    (λ c. search needs)
     write-front-requires
-    same-length
+    (λ c. search needs)
     returns-3)

@@ -31,9 +31,6 @@ mul-record c = place-fits (c .before .loop .inv .0) (c .loop-test .taken) .0
 array-copy-out-record : tie.Need-array-copy-out-record Inv-loop μ-loop
 array-copy-out-record c = index-below (c .before .loop .inv .0) (c .loop-test .taken)
 
-length-requires : tie.Need-length-requires Inv-loop μ-loop
-length-requires c κs = tt
-
 add-size-2 : tie.Need-add-size-2 Inv-loop μ-loop
 add-size-2 c = let w = c .before .before in
     sum-fits (w .before .loop .inv .0) (w .loop-test .taken) (c .length .ensures)
@@ -69,7 +66,7 @@ size-of-spec =
     loop-holds
     mul-record
     array-copy-out-record
-    length-requires
+    (λ c κs. tt)
     add-size-2
     add-i
     loop-less

@@ -35,12 +35,6 @@ array-read-out c = c .loop-test .taken
 slice-write-out : tie.Need-slice-write-out Inv-loop μ-loop
 slice-write-out c = omega (arith, c .loop-test .taken, c .before .loop .inv .1 .same, c .before .before .pre)
 
-add-i : tie.Need-add-i Inv-loop μ-loop
-add-i c = omega arith
-
-loop-less : tie.Need-loop-less Inv-loop μ-loop
-loop-less c = omega arith
-
 loop-again : tie.Need-loop-again Inv-loop μ-loop
 unfolding magic
 loop-again c = let w = c .before in
@@ -70,8 +64,8 @@ write-head-spec =
     loop-holds
     array-read-out
     slice-write-out
-    add-i
-    loop-less
+    (λ c. omega arith)
+    (λ c. omega arith)
     loop-again
     slice-write-out-2
     slice-write-out-3

@@ -36,9 +36,6 @@ array-copy-out-record c = index-below (c .before .loop .inv .0) (c .loop-test .t
 mul-at : tie.Need-mul-at Inv-loop μ-loop
 mul-at c = place-fits (c .before .before .loop .inv .0) (c .before .loop-test .taken) .1
 
-length-requires : tie.Need-length-requires Inv-loop μ-loop
-length-requires c κs = tt
-
 sub-write-pair : tie.Need-sub-write-pair Inv-loop μ-loop
 sub-write-pair c = le-trans (le-add-right _ _) (c .before .before .before .loop .inv .1 .room)
 
@@ -102,7 +99,7 @@ write-pairs-spec =
     mul-record
     array-copy-out-record
     mul-at
-    length-requires
+    (λ c κs. tt)
     sub-write-pair
     part-write-pair-start
     part-write-pair-end

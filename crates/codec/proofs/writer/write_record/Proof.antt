@@ -9,9 +9,6 @@ use Rattle.codec.proofs.Stored.{stored-record}
 use Rattle.codec.proofs.writer.write_record.Statement.{statement}
 use Rattle.codec.proofs.writer.write_record.Tie as tie
 
-length-requires : tie.Need-length-requires
-length-requires c κs = tt
-
 -- the stores so far keep the length
 kept : (c : tie.Joined1) → length (c .if1 .out) ≡ length (c .before .before .before .args .out .now)
 kept c = ⊎-elim (λ w. ap length (w .1) ∙ simp length-set) (λ w. ap length (w .1) ∙ simp length-set) (c .if1 .came)
@@ -52,7 +49,7 @@ pub write-record-spec : {M : Type 1} → statement M
 write-record-spec =
     tie.close
     (tie.spec
-    length-requires
+    (λ c κs. tt)
     slice-write-out
     slice-write-out-2
     slice-write-out-3

@@ -40,9 +40,6 @@ write-record-requires c κs =
     let i = c .before .before .before .loop .inv in
     left-part (i .1) (flat-next (i .0) (c .before .before .loop-test .taken))
 
-length-requires : tie.Need-length-requires Inv-loop μ-loop
-length-requires c κs = tt
-
 add-at : tie.Need-add-at Inv-loop μ-loop
 add-at c =
     let w = c .before .before .before .before .before .before in
@@ -88,7 +85,7 @@ write-records-spec =
     part-write-record-start
     part-write-record-end
     write-record-requires
-    length-requires
+    (λ c κs. tt)
     add-at
     add-i
     loop-less

@@ -6,7 +6,7 @@ use lib.ListN.{length, length-take}
 use denote.Ref.{now}
 use borrow.Author.Needs.{needs}
 use Rattle.joint.specs.Drill.{drillInto}
-use Rattle.joint.specs.Stand.{runIn}
+use Rattle.joint.specs.Answers.{runIn}
 use Rattle.drill_text.proofs.Drilled.{Answered, answered}
 use Rattle.drill_text.proofs.drill.drill.Statement.{statement}
 use Rattle.drill_text.proofs.drill.drill.Tie as tie
@@ -21,21 +21,12 @@ slice-aggregate-replay c = omega (arith, length-take (c .before .if1 .len) (now 
 slice-aggregate-replay-2 : tie.Need-slice-aggregate-replay-2
 slice-aggregate-replay-2 c = search needs
 
-replay-requires : tie.Need-replay-requires
-replay-requires c κs = search needs
-
-slice-aggregate-write-text : tie.Need-slice-aggregate-write-text
-slice-aggregate-write-text c = search needs
-
 -- what the replay leaves
 left : (c : tie.After-replay) → Answered (now (c .before .before .before .before .before .before .args .input)) (c .replay .result .count) (runIn (c .replay .result .run)) (c .replay .last .1 .0)
 left c = answered _ _ _ _ (c .replay .result) (most (c .before .before .before)) (sym (slice-aggregate-replay-2 (c .before))) (c .replay .ensures)
 
 write-text-requires : tie.Need-write-text-requires
 write-text-requires c κs = let a = left (c .before .before .before .before) in (a .few, a .room)
-
-same-length : tie.Need-same-length
-same-length c = search needs
 
 returns : tie.Need-returns
 unfolding drillInto
@@ -50,8 +41,8 @@ drill-spec =
     (tie.spec
     slice-aggregate-replay
     slice-aggregate-replay-2
-    replay-requires
-    slice-aggregate-write-text
+    (λ c κs. search needs)
+    (λ c. search needs)
     write-text-requires
-    same-length
+    (λ c. search needs)
     returns)

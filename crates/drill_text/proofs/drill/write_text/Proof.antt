@@ -7,7 +7,7 @@ use denote.Ref.{now}
 use borrow.Author.Needs.{needs}
 use Rattle.codec.specs.laws.Stored.{length-stored}
 use Rattle.drill_text.specs.Inside.{linesOf}
-use Rattle.joint.specs.Stand.{runIn}
+use Rattle.joint.specs.Answers.{runIn}
 use Rattle.drill_text.proofs.Drilled.{Sized, lines-short, text-short, text-none, text-all}
 use Rattle.drill_text.proofs.drill.write_text.Statement.{statement}
 use Rattle.drill_text.proofs.drill.write_text.Tie as tie
@@ -42,21 +42,6 @@ written c =
     let h = room (c .before .before) in
     (omega (arith, h, e .0), rw (e .1) (length-stored 0 _ _ (omega arith)))
 
-opened-count-requires : tie.Need-opened-count-requires
-opened-count-requires c κs = search needs
-
-mul-opened : tie.Need-mul-opened
-mul-opened c = search needs
-
-mul-if1 : tie.Need-mul-if1
-mul-if1 c = search needs
-
-add-if1 : tie.Need-add-if1
-add-if1 c = search needs
-
-lines-size-requires : tie.Need-lines-size-requires
-lines-size-requires c κs = search needs
-
 add-if2 : tie.Need-add-if2
 add-if2 c = let z = sized (c .before .before) in omega (arith, c .lines-size .ensures, lines-short z, z .few, z .opened-few)
 
@@ -74,9 +59,6 @@ sub-write-transactions c = let w = c .before .before in omega (arith, written w)
 part-write-transactions-start : tie.Need-part-write-transactions-start
 part-write-transactions-start c = sub-write-transactions c
 
-part-write-transactions-end : tie.Need-part-write-transactions-end
-part-write-transactions-end c = search needs
-
 write-transactions-requires : tie.Need-write-transactions-requires
 write-transactions-requires c κs =
     let w = c .before .before .before in
@@ -84,9 +66,6 @@ write-transactions-requires c κs =
 
 add-result : tie.Need-add-result
 add-result c = let w = c .before .before .before .before .before .before in omega (arith, written w)
-
-same-length : tie.Need-same-length
-same-length c = search needs
 
 returns-2 : tie.Need-returns-2
 returns-2 c =
@@ -99,18 +78,18 @@ pub write-text-spec : {M : Type 1} → statement M
 write-text-spec =
     tie.close
     (tie.spec
-    opened-count-requires
-    mul-opened
-    mul-if1
-    add-if1
-    lines-size-requires
+    (λ c κs. search needs)
+    (λ c. search needs)
+    (λ c. search needs)
+    (λ c. search needs)
+    (λ c κs. search needs)
     add-if2
     returns
     write-lines-requires
     sub-write-transactions
     part-write-transactions-start
-    part-write-transactions-end
+    (λ c. search needs)
     write-transactions-requires
     add-result
-    same-length
+    (λ c. search needs)
     returns-2)

@@ -4,19 +4,10 @@ use Rattle.joint.specs.Drill.{entryLetter}
 use Rattle.drill_text.proofs.text.entry_letter.Statement.{statement}
 use Rattle.drill_text.proofs.text.entry_letter.Tie as tie
 
-entered-requires : tie.Need-entered-requires
-entered-requires c κs = search needs
-
-entered-requires-2 : tie.Need-entered-requires-2
-entered-requires-2 c κs = search needs
-
-letter-requires : tie.Need-letter-requires
-letter-requires c κs = search needs
-
 returns : tie.Need-returns
 unfolding entryLetter
 returns c = c .letter .ensures ∙ rw (c .before .before .entered .ensures, c .before .entered2 .ensures)
 
 pub entry-letter-spec : {M : Type 1} → statement M
 entry-letter-spec =
-    tie.close (tie.spec entered-requires entered-requires-2 letter-requires returns)
+    tie.close (tie.spec (λ c κs. search needs) (λ c κs. search needs) (λ c κs. search needs) returns)

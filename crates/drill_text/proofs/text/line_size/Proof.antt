@@ -4,57 +4,6 @@ use borrow.Author.Needs.{needs}
 use Rattle.drill_text.proofs.text.line_size.Statement.{statement}
 use Rattle.drill_text.proofs.text.line_size.Tie as tie
 
-digits-requires : tie.Need-digits-requires
-digits-requires c κs = search needs
-
-shared-slice-read-byte-digits : tie.Need-shared-slice-read-byte-digits
-shared-slice-read-byte-digits c = search needs
-
-byte-digits-requires : tie.Need-byte-digits-requires
-byte-digits-requires c κs = search needs
-
-add-result : tie.Need-add-result
-add-result c = search needs
-
-add-byte-digits : tie.Need-add-byte-digits
-add-byte-digits c = search needs
-
-shared-slice-read-byte-digits-2 : tie.Need-shared-slice-read-byte-digits-2
-shared-slice-read-byte-digits-2 c = search needs
-
-byte-digits-requires-2 : tie.Need-byte-digits-requires-2
-byte-digits-requires-2 c κs = search needs
-
-add-result-2 : tie.Need-add-result-2
-add-result-2 c = search needs
-
-add-byte-digits-2 : tie.Need-add-byte-digits-2
-add-byte-digits-2 c = search needs
-
-shared-slice-read-byte-digits-3 : tie.Need-shared-slice-read-byte-digits-3
-shared-slice-read-byte-digits-3 c = search needs
-
-byte-digits-requires-3 : tie.Need-byte-digits-requires-3
-byte-digits-requires-3 c κs = search needs
-
-add-result-3 : tie.Need-add-result-3
-add-result-3 c = search needs
-
-add-byte-digits-3 : tie.Need-add-byte-digits-3
-add-byte-digits-3 c = search needs
-
-shared-slice-read-byte-digits-4 : tie.Need-shared-slice-read-byte-digits-4
-shared-slice-read-byte-digits-4 c = search needs
-
-byte-digits-requires-4 : tie.Need-byte-digits-requires-4
-byte-digits-requires-4 c κs = search needs
-
-add-result-4 : tie.Need-add-result-4
-add-result-4 c = search needs
-
-add-result-5 : tie.Need-add-result-5
-add-result-5 c = search needs
-
 returns : tie.Need-returns
 returns c =
     let third = c .before .before in
@@ -70,21 +19,21 @@ pub line-size-spec : {M : Type 1} → statement M
 line-size-spec =
     tie.close
     (tie.spec
-    digits-requires
-    shared-slice-read-byte-digits
-    byte-digits-requires
-    add-result
-    add-byte-digits
-    shared-slice-read-byte-digits-2
-    byte-digits-requires-2
-    add-result-2
-    add-byte-digits-2
-    shared-slice-read-byte-digits-3
-    byte-digits-requires-3
-    add-result-3
-    add-byte-digits-3
-    shared-slice-read-byte-digits-4
-    byte-digits-requires-4
-    add-result-4
-    add-result-5
+    (λ c κs. search needs)
+    (λ c. search needs)
+    (λ c κs. search needs)
+    (λ c. search needs)
+    (λ c. search needs)
+    (λ c. search needs)
+    (λ c κs. search needs)
+    (λ c. search needs)
+    (λ c. search needs)
+    (λ c. search needs)
+    (λ c κs. search needs)
+    (λ c. search needs)
+    (λ c. search needs)
+    (λ c. search needs)
+    (λ c κs. search needs)
+    (λ c. search needs)
+    (λ c. search needs)
     returns)

@@ -13,23 +13,8 @@ abbrev μ-loop : tie.MeasureT-loop
 loop-holds : tie.Need-loop-holds Inv-loop μ-loop
 loop-holds c = (lined-start _ _, omega arith)
 
-add-line-size : tie.Need-add-line-size Inv-loop μ-loop
-add-line-size c = omega arith
-
-mul-line-size : tie.Need-mul-line-size Inv-loop μ-loop
-mul-line-size c = omega arith
-
 line-size-requires : tie.Need-line-size-requires Inv-loop μ-loop
 line-size-requires c κs = (omega arith, omega arith)
-
-add-size : tie.Need-add-size Inv-loop μ-loop
-add-size c = omega arith
-
-add-i : tie.Need-add-i Inv-loop μ-loop
-add-i c = omega arith
-
-loop-less : tie.Need-loop-less Inv-loop μ-loop
-loop-less c = omega arith
 
 loop-again : tie.Need-loop-again Inv-loop μ-loop
 loop-again c =
@@ -46,11 +31,11 @@ lines-size-spec =
     Inv-loop
     μ-loop
     loop-holds
-    add-line-size
-    mul-line-size
+    (λ c. omega arith)
+    (λ c. omega arith)
     line-size-requires
-    add-size
-    add-i
-    loop-less
+    (λ c. omega arith)
+    (λ c. omega arith)
+    (λ c. omega arith)
     loop-again
     returns)

@@ -1,10 +1,10 @@
-use Prim.Native.Nat.{_+_, _-_, _≤_}
+use Prim.Native.Nat.{_+_, _-_, _≤_, _<_}
 use mathlib.Core.Path.{_≡_, ap, _∙_, sym}
 use mathlib.Core.Logic.{⊎-elim}
 use native.Mathlib.Omega.{arith}
 use lib.ListN.{length}
 use Rattle.drill_text.specs.Inside.{openedIn}
-use Rattle.joint.specs.Stand.{runIn}
+use Rattle.joint.specs.Answers.{runIn}
 use Rattle.drill_text.proofs.Texts.{openedFrom, opened-next, opened-skip, opened-end}
 use Rattle.drill_text.proofs.text.opened_count.Statement.{statement}
 use Rattle.drill_text.proofs.text.opened_count.Tie as tie
@@ -18,24 +18,12 @@ abbrev μ-loop : tie.MeasureT-loop
 loop-holds : tie.Need-loop-holds Inv-loop μ-loop
 loop-holds c = (omega arith, (omega arith, omega arith))
 
-members-requires : tie.Need-members-requires Inv-loop μ-loop
-members-requires c κs = tt
-
-add-count : tie.Need-add-count Inv-loop μ-loop
-add-count c = omega arith
-
-add-i : tie.Need-add-i Inv-loop μ-loop
-add-i c = omega arith
-
-loop-less : tie.Need-loop-less Inv-loop μ-loop
-loop-less c = omega arith
-
 loop-again : tie.Need-loop-again Inv-loop μ-loop
 loop-again c =
     let w = c .before .before .before in
     let r = runIn (w .before .args .run) in
     let members = c .before .members .ensures in
-    let test = c .before .before .loop-test .taken in
+    let test : w .loop .i < 8 = omega (arith, c .before .before .loop-test .taken) in
     ⊎-elim
     (λ came. (omega arith, (omega arith, omega (arith, w .loop .inv .1 .1, ap length (opened-next r (w .loop .i) test (λ e. came .0 .taken (members ∙ e)))))))
     (λ came. (omega arith, (omega arith, omega (arith, w .loop .inv .1 .1, ap length (opened-skip r (w .loop .i) test (sym members ∙ came .0 .left))))))
@@ -53,9 +41,9 @@ opened-count-spec =
     Inv-loop
     μ-loop
     loop-holds
-    members-requires
-    add-count
-    add-i
-    loop-less
+    (λ c κs. tt)
+    (λ c. omega arith)
+    (λ c. omega arith)
+    (λ c. omega arith)
     loop-again
     returns)

@@ -40,38 +40,8 @@ forces c = let e = c .write-field3 .ensures in left-next (records (c .before .be
 
 -- ---- needs
 
-add-if1 : tie.Need-add-if1
-add-if1 c = search needs
-
-add-if1-2 : tie.Need-add-if1-2
-add-if1-2 c = search needs
-
-add-if1-3 : tie.Need-add-if1-3
-add-if1-3 c = search needs
-
-add-t19 : tie.Need-add-t19
-add-t19 c = search needs
-
-add-t20 : tie.Need-add-t20
-add-t20 c = search needs
-
-add-t21 : tie.Need-add-t21
-add-t21 c = search needs
-
-add-t22 : tie.Need-add-t22
-add-t22 c = search needs
-
-slice-aggregate-write-bytes : tie.Need-slice-aggregate-write-bytes
-slice-aggregate-write-bytes c = search needs
-
 write-bytes-requires : tie.Need-write-bytes-requires
 write-bytes-requires c κs = rw (short (c .before .before)) at (c .before .before .before .before .pre)
-
-add-result : tie.Need-add-result
-add-result c = search needs
-
-same-length : tie.Need-same-length
-same-length c = search needs
 
 returns : tie.Need-returns
 returns c = rw (short (c .before .before .before .before .before)) (refl, c .before .before .write-bytes .ensures)
@@ -89,9 +59,6 @@ write-field-requires-3 c κs = (search needs, left-room (records (c .before .bef
 write-field-requires-4 : tie.Need-write-field-requires-4
 write-field-requires-4 c κs = (search needs, left-room (forces (c .before .before .before)) (field-last _))
 
-same-length-2 : tie.Need-same-length-2
-same-length-2 c = search needs
-
 returns-2 : tie.Need-returns-2
 returns-2 c =
     let w = c .before .before in
@@ -103,21 +70,21 @@ pub write-answer-spec : {M : Type 1} → statement M
 write-answer-spec =
     tie.close
     (tie.spec
-    add-if1
-    add-if1-2
-    add-if1-3
-    add-t19
-    add-t20
-    add-t21
-    add-t22
-    slice-aggregate-write-bytes
+    (λ c. search needs)
+    (λ c. search needs)
+    (λ c. search needs)
+    (λ c. search needs)
+    (λ c. search needs)
+    (λ c. search needs)
+    (λ c. search needs)
+    (λ c. search needs)
     write-bytes-requires
-    add-result
-    same-length
+    (λ c. search needs)
+    (λ c. search needs)
     returns
     write-field-requires
     write-field-requires-2
     write-field-requires-3
     write-field-requires-4
-    same-length-2
+    (λ c. search needs)
     returns-2)

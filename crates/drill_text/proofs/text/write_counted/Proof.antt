@@ -13,26 +13,8 @@ four c =
     let s = c .before .before .before in
     ap (_++ (32 ∷ [])) (shown (s .args .last) (s .args .number) (s .pre .0 .1) (s .pre .0 .0) (c .if1 .left))
 
-write-field-requires : tie.Need-write-field-requires
-write-field-requires c κs = search needs
-
-same-length : tie.Need-same-length
-same-length c = search needs
-
-returns : tie.Need-returns
-returns c = search needs
-
-slice-aggregate-write-bytes : tie.Need-slice-aggregate-write-bytes
-slice-aggregate-write-bytes c = search needs
-
 write-bytes-requires : tie.Need-write-bytes-requires
 write-bytes-requires c κs = rw (four (c .before .before)) at (c .before .before .before .before .before .pre .1)
-
-add-result : tie.Need-add-result
-add-result c = search needs
-
-same-length-2 : tie.Need-same-length-2
-same-length-2 c = search needs
 
 returns-2 : tie.Need-returns-2
 returns-2 c = rw (four (c .before .before .before .before .before)) (refl, c .before .before .write-bytes .ensures)
@@ -41,11 +23,11 @@ pub write-counted-spec : {M : Type 1} → statement M
 write-counted-spec =
     tie.close
     (tie.spec
-    write-field-requires
-    same-length
-    returns
-    slice-aggregate-write-bytes
+    (λ c κs. search needs)
+    (λ c. search needs)
+    (λ c. search needs)
+    (λ c. search needs)
     write-bytes-requires
-    add-result
-    same-length-2
+    (λ c. search needs)
+    (λ c. search needs)
     returns-2)

@@ -4,7 +4,7 @@ use native.Mathlib.Omega.{arith}
 use lib.ListN.{length}
 use borrow.Author.Needs.{needs}
 use Rattle.drill_text.specs.Inside.{letters}
-use Rattle.joint.specs.Stand.{runIn}
+use Rattle.joint.specs.Answers.{runIn}
 use Rattle.drill_text.proofs.Stored.{Upto, upto-start, upto-room, upto-next, upto-end}
 use Rattle.drill_text.proofs.Texts.{letters-length, letter-at}
 use Rattle.drill_text.proofs.text.write_letters.Statement.{statement}
@@ -21,16 +21,10 @@ loop-holds c =
     let s = c .before in
     (omega arith, upto-start (rw (letters-length (runIn (s .args .run)) (s .args .transaction)) (s .pre)))
 
-entry-letter-requires : tie.Need-entry-letter-requires Inv-loop μ-loop
-entry-letter-requires c κs = tt
-
-cast-out : tie.Need-cast-out Inv-loop μ-loop
-cast-out c = search needs
-
 more : (c : tie.After-entry-letter Inv-loop μ-loop)
     → let a = c .before .before .before .before .args in
     c .before .before .loop .site < length (letters (runIn (a .run)) (a .transaction))
-more c = let a = c .before .before .before .before .args in rw (letters-length (runIn (a .run)) (a .transaction)) (c .before .loop-test .taken)
+more c = let a = c .before .before .before .before .args in rw (letters-length (runIn (a .run)) (a .transaction)) (omega (arith, c .before .loop-test .taken))
 
 slice-write-out : tie.Need-slice-write-out Inv-loop μ-loop
 slice-write-out c = upto-room (c .before .before .loop .inv .1) (more c)
@@ -38,17 +32,11 @@ slice-write-out c = upto-room (c .before .before .loop .inv .1) (more c)
 add-out : tie.Need-add-out Inv-loop μ-loop
 add-out c = omega (arith, slice-write-out c)
 
-add-site : tie.Need-add-site Inv-loop μ-loop
-add-site c = omega arith
-
-loop-less : tie.Need-loop-less Inv-loop μ-loop
-loop-less c = omega arith
-
 loop-again : tie.Need-loop-again Inv-loop μ-loop
 loop-again c =
     let a = c .before .before .before .before .args in
     let w = c .before .before .loop in
-    let letter = c .entry-letter .ensures ∙ letter-at (runIn (a .run)) (a .transaction) (w .site) (c .before .loop-test .taken) in
+    let letter = c .entry-letter .ensures ∙ letter-at (runIn (a .run)) (a .transaction) (w .site) (omega (arith, c .before .loop-test .taken)) in
     (omega arith, upto-next (w .inv .1) (more c) (c .entry-letter .result) letter)
 
 same-length : tie.Need-same-length Inv-loop μ-loop
@@ -66,12 +54,12 @@ write-letters-spec =
     Inv-loop
     μ-loop
     loop-holds
-    entry-letter-requires
-    cast-out
+    (λ c κs. tt)
+    (λ c. search needs)
     add-out
     slice-write-out
-    add-site
-    loop-less
+    (λ c. omega arith)
+    (λ c. omega arith)
     loop-again
     same-length
     returns)

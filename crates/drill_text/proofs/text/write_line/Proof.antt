@@ -26,32 +26,8 @@ write-counted-requires : tie.Need-write-counted-requires
 write-counted-requires c κs =
     let s = c .before .before .before in (s .pre .0 .0, left-room {start = s .args .out .now} (left-start (s .pre .1)) (field-next _ _ _))
 
-shared-slice-read-write-answer : tie.Need-shared-slice-read-write-answer
-shared-slice-read-write-answer c = search needs
-
-add-write-answer : tie.Need-add-write-answer
-add-write-answer c = search needs
-
-shared-slice-read-write-answer-2 : tie.Need-shared-slice-read-write-answer-2
-shared-slice-read-write-answer-2 c = search needs
-
-add-write-answer-2 : tie.Need-add-write-answer-2
-add-write-answer-2 c = search needs
-
-shared-slice-read-write-answer-3 : tie.Need-shared-slice-read-write-answer-3
-shared-slice-read-write-answer-3 c = search needs
-
-add-write-answer-3 : tie.Need-add-write-answer-3
-add-write-answer-3 c = search needs
-
-shared-slice-read-write-answer-4 : tie.Need-shared-slice-read-write-answer-4
-shared-slice-read-write-answer-4 c = search needs
-
 write-answer-requires : tie.Need-write-answer-requires
 write-answer-requires c κs = answer (c .before .before .before .before .before .before .before) .room
-
-same-length : tie.Need-same-length
-same-length c = search needs
 
 returns : tie.Need-returns
 returns c =
@@ -65,13 +41,13 @@ write-line-spec =
     tie.close
     (tie.spec
     write-counted-requires
-    shared-slice-read-write-answer
-    add-write-answer
-    shared-slice-read-write-answer-2
-    add-write-answer-2
-    shared-slice-read-write-answer-3
-    add-write-answer-3
-    shared-slice-read-write-answer-4
+    (λ c. search needs)
+    (λ c. search needs)
+    (λ c. search needs)
+    (λ c. search needs)
+    (λ c. search needs)
+    (λ c. search needs)
+    (λ c. search needs)
     write-answer-requires
-    same-length
+    (λ c. search needs)
     returns)

@@ -19,27 +19,12 @@ abbrev μ-loop : tie.MeasureT-loop
 loop-holds : tie.Need-loop-holds Inv-loop μ-loop
 loop-holds c = let s = c .before .before in ((omega arith, search needs), rw lines-start (left-start (omega (arith, s .pre .1))))
 
-next-requires : tie.Need-next-requires Inv-loop μ-loop
-next-requires c κs = tt
-
-add-write-line : tie.Need-add-write-line Inv-loop μ-loop
-add-write-line c = omega arith
-
-mul-write-line : tie.Need-mul-write-line Inv-loop μ-loop
-mul-write-line c = omega arith
-
 write-line-requires : tie.Need-write-line-requires Inv-loop μ-loop
 write-line-requires c κs =
     let w = c .before .before .before .loop in (
       ((omega arith, c .before .next .ensures (w .i) (w .inv .0 .1)), omega arith),
       left-room (w .inv .1) (lines-next (w .i) _ _ (c .before .before .loop-test .taken)),
     )
-
-add-i : tie.Need-add-i Inv-loop μ-loop
-add-i c = omega arith
-
-loop-less : tie.Need-loop-less Inv-loop μ-loop
-loop-less c = omega arith
 
 loop-again : tie.Need-loop-again Inv-loop μ-loop
 loop-again c =
@@ -67,12 +52,12 @@ write-lines-spec =
     Inv-loop
     μ-loop
     loop-holds
-    next-requires
-    add-write-line
-    mul-write-line
+    (λ c κs. tt)
+    (λ c. omega arith)
+    (λ c. omega arith)
     write-line-requires
-    add-i
-    loop-less
+    (λ c. omega arith)
+    (λ c. omega arith)
     loop-again
     same-length
     returns)

@@ -38,15 +38,6 @@ last c =
     let l = thousands w in
     ones-left (s .args .n) (s .args .out .now) (s .args .at) (omega arith) (s .pre .0) (s .pre .1) _ (l .size) _ (c .write-two2 .ensures ∙ l .whole)
 
-write-short-requires : tie.Need-write-short-requires
-write-short-requires c κs = search needs
-
-same-length : tie.Need-same-length
-same-length c = search needs
-
-returns : tie.Need-returns
-returns c = search needs
-
 write-short-requires-2 : tie.Need-write-short-requires-2
 write-short-requires-2 c κs =
     let s = c .before .before .before .before in
@@ -57,9 +48,6 @@ write-two-requires c κs = ones (c .before .before .before) .room
 
 add-result : tie.Need-add-result
 add-result c = let l = ones (c .before .before .before .before .before .before) in omega (arith, l .room, l .same)
-
-same-length-2 : tie.Need-same-length-2
-same-length-2 c = search needs
 
 returns-2 : tie.Need-returns-2
 returns-2 c =
@@ -84,9 +72,6 @@ write-two-requires-3 c κs = last (c .before .before .before) .room
 add-result-2 : tie.Need-add-result-2
 add-result-2 c = let l = last (c .before .before .before .before .before .before) in omega (arith, l .room, l .same)
 
-same-length-3 : tie.Need-same-length-3
-same-length-3 c = search needs
-
 returns-3 : tie.Need-returns-3
 returns-3 c =
     let l = last (c .before .before .before .before .before .before) in
@@ -96,18 +81,18 @@ pub write-number-spec : {M : Type 1} → statement M
 write-number-spec =
     tie.close
     (tie.spec
-    write-short-requires
-    same-length
-    returns
+    (λ c κs. search needs)
+    (λ c. search needs)
+    (λ c. search needs)
     write-short-requires-2
     write-two-requires
     add-result
-    same-length-2
+    (λ c. search needs)
     returns-2
     write-short-requires-3
     write-two-requires-2
     add-write-two
     write-two-requires-3
     add-result-2
-    same-length-3
+    (λ c. search needs)
     returns-3)

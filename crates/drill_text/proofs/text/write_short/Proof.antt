@@ -10,22 +10,10 @@ use Rattle.drill_text.proofs.Texts.{decimal-one, decimal-two}
 use Rattle.drill_text.proofs.text.write_short.Statement.{statement}
 use Rattle.drill_text.proofs.text.write_short.Tie as tie
 
-add-out : tie.Need-add-out
-add-out c = search needs
-
-cast-out : tie.Need-cast-out
-cast-out c = search needs
-
 slice-write-out : tie.Need-slice-write-out
 slice-write-out c =
     let s = c .before .before in
     omega (arith, s .pre .1, ap length (decimal-one 5 (s .args .n) (c .if1 .taken)))
-
-add-result : tie.Need-add-result
-add-result c = search needs
-
-same-length : tie.Need-same-length
-same-length c = search needs
 
 returns : tie.Need-returns
 returns c =
@@ -39,12 +27,6 @@ digits c = decimal-two _ (omega arith) (c .before .before .pre .0)
 write-two-requires : tie.Need-write-two-requires
 write-two-requires c κs = rw (digits (c .before)) at (c .before .before .before .pre .1)
 
-add-result-2 : tie.Need-add-result-2
-add-result-2 c = search needs
-
-same-length-2 : tie.Need-same-length-2
-same-length-2 c = search needs
-
 returns-2 : tie.Need-returns-2
 returns-2 c = rw (digits (c .before .before .before .before)) (refl, c .before .before .write-two .ensures)
 
@@ -52,13 +34,13 @@ pub write-short-spec : {M : Type 1} → statement M
 write-short-spec =
     tie.close
     (tie.spec
-    add-out
-    cast-out
+    (λ c. search needs)
+    (λ c. search needs)
     slice-write-out
-    add-result
-    same-length
+    (λ c. search needs)
+    (λ c. search needs)
     returns
     write-two-requires
-    add-result-2
-    same-length-2
+    (λ c. search needs)
+    (λ c. search needs)
     returns-2)

@@ -5,7 +5,7 @@ use native.Mathlib.Omega.{arith}
 use borrow.Author.Needs.{needs}
 use Rattle.joint.specs.Drill.{transactionLine}
 use Rattle.drill_text.specs.Inside.{letters}
-use Rattle.joint.specs.Stand.{runIn}
+use Rattle.joint.specs.Answers.{runIn}
 use Rattle.codec.specs.laws.Stored.{Left, left-start, left-end, left-next}
 use Rattle.drill_text.proofs.Stored.{byte-next}
 use Rattle.drill_text.proofs.Texts.{head-next, letters-length, transaction-length}
@@ -37,33 +37,6 @@ sites c =
 
 -- ---- needs
 
-array-read-head : tie.Need-array-read-head
-array-read-head c = search needs
-
-add-head : tie.Need-add-head
-add-head c = search needs
-
-array-write-head : tie.Need-array-write-head
-array-write-head c = search needs
-
-slice-aggregate-write-bytes : tie.Need-slice-aggregate-write-bytes
-slice-aggregate-write-bytes c = search needs
-
-write-bytes-requires : tie.Need-write-bytes-requires
-write-bytes-requires c κs = search needs
-
-add-write-letters : tie.Need-add-write-letters
-add-write-letters c = search needs
-
-write-letters-requires : tie.Need-write-letters-requires
-write-letters-requires c κs = search needs
-
-add-out : tie.Need-add-out
-add-out c = search needs
-
-slice-write-out : tie.Need-slice-write-out
-slice-write-out c = search needs
-
 same-length : tie.Need-same-length
 same-length c = byte-next (sites (c .before .before)) _ refl .same
 
@@ -74,14 +47,14 @@ pub write-transaction-spec : {M : Type 1} → statement M
 write-transaction-spec =
     tie.close
     (tie.spec
-    array-read-head
-    add-head
-    array-write-head
-    slice-aggregate-write-bytes
-    write-bytes-requires
-    add-write-letters
-    write-letters-requires
-    add-out
-    slice-write-out
+    (λ c. search needs)
+    (λ c. search needs)
+    (λ c. search needs)
+    (λ c. search needs)
+    (λ c κs. search needs)
+    (λ c. search needs)
+    (λ c κs. search needs)
+    (λ c. search needs)
+    (λ c. search needs)
     same-length
     returns)

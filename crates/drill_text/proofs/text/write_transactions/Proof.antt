@@ -1,10 +1,10 @@
-use Prim.Native.Nat.{_-_, _+_, _≤_}
+use Prim.Native.Nat.{_-_, _+_, _≤_, _<_}
 use mathlib.Core.Path.{sym, ap, _∙_}
 use mathlib.Core.Logic.{⊎-elim}
 use native.Mathlib.Omega.{arith}
 use lib.ListN.{length}
 use Rattle.drill_text.specs.Inside.{openedIn, transactionLines}
-use Rattle.joint.specs.Stand.{runIn}
+use Rattle.joint.specs.Answers.{runIn}
 use Rattle.codec.specs.laws.Stored.{Left, left-start, left-end, left-room, left-next}
 use Rattle.drill_text.proofs.Texts.{textFrom, text-length, text-next, text-skip, text-end, transaction-length}
 use Rattle.drill_text.proofs.text.write_transactions.Statement.{statement}
@@ -21,34 +21,25 @@ loop-holds c =
     let r = runIn (c .before .args .run) in
     (omega arith, left-start (omega (arith, c .before .pre, text-length r (openedIn r))))
 
-members-requires : tie.Need-members-requires Inv-loop μ-loop
-members-requires c κs = tt
-
 room : (c : tie.After-write-transaction-arg Inv-loop μ-loop) → c .before .before .before .before .loop .at + 21 ≤ length (c .before .before .before .before .loop .out)
 room c =
     let w = c .before .before .before .before in
     let r = runIn (w .before .before .args .run) in
-    let next = text-next r (w .loop .i) (c .before .before .before .loop-test .taken) (λ e. c .before .if1 .taken (c .before .before .members .ensures ∙ e)) in
+    let next = text-next r (w .loop .i) (omega (arith, c .before .before .before .loop-test .taken)) (λ e. c .before .if1 .taken (c .before .before .members .ensures ∙ e)) in
     omega (arith, left-room (w .loop .inv .1) next, transaction-length r (w .loop .i))
 
 write-transaction-requires : tie.Need-write-transaction-requires Inv-loop μ-loop
-write-transaction-requires c κs = (c .before .before .before .loop-test .taken, room c)
+write-transaction-requires c κs = (omega (arith, c .before .before .before .loop-test .taken), room c)
 
 add-at : tie.Need-add-at Inv-loop μ-loop
 add-at c = omega (arith, room (c .before .before .before))
-
-add-i : tie.Need-add-i Inv-loop μ-loop
-add-i c = omega arith
-
-loop-less : tie.Need-loop-less Inv-loop μ-loop
-loop-less c = omega arith
 
 loop-again : tie.Need-loop-again Inv-loop μ-loop
 loop-again c =
     let w = c .before .before .before in
     let r = runIn (w .before .before .args .run) in
     let members = c .before .members .ensures in
-    let test = c .before .before .loop-test .taken in
+    let test : w .loop .i < 8 = omega (arith, c .before .before .loop-test .taken) in
     let left = w .loop .inv .1 in (
       omega arith,
       ⊎-elim
@@ -74,11 +65,11 @@ write-transactions-spec =
     Inv-loop
     μ-loop
     loop-holds
-    members-requires
+    (λ c κs. tt)
     write-transaction-requires
     add-at
-    add-i
-    loop-less
+    (λ c. omega arith)
+    (λ c. omega arith)
     loop-again
     same-length
     returns)

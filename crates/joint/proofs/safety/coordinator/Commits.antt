@@ -6,18 +6,18 @@ use mathlib.Core.List.{List, [], _∷_, _++_, map, append-nil, map-append}
 use lib.Dec.{T}
 use Rattle.codec.specs.Sets.{member, empty}
 use Rattle.site.specs.Presumption.{Outcome, commit, sameOutcome}
-use Rattle.site.specs.Cohort.{Cohort, masksOf, owing}
+use Rattle.site.specs.Cohort.{Cohort, masksOf, owing, writesInit}
 use Rattle.site.specs.Step.{prepare, tell, Effect, append, force, enter, send, given}
 use Rattle.site.specs.Coordinator.{inTurn, inOrder, tellAll, preparing, committing}
 use Rattle.joint.specs.State.{appended, forced}
-use Rattle.joint.proofs.Booleans.{or-left}
+use Rattle.joint.proofs.base.Booleans.{or-left}
 use Rattle.joint.proofs.view.View.{View, viewAt, viewPerform}
-use Rattle.joint.proofs.safety.Invariant.{Log, kindsIn, waiting, Pace, Standing, initial, collecting, decided, writesInit, initLog, siteWith, cohortOf}
+use Rattle.joint.proofs.safety.Invariant.{Log, kindsIn, waiting, Pace, Standing, initial, collecting, decided, initLog, siteWith, cohortOf}
 use Rattle.joint.proofs.safety.coordinator.Logs.{commitLog, end-unwritten, commit-kinds}
 use Rattle.joint.proofs.safety.coordinator.Shifts.{writes, begins, marks, commits, ends, settledAs}
 use Rattle.joint.proofs.safety.coordinator.Runs.{Addressee, Node, Runs, node-stay, append-run, force-run, enter-run, sends-run, each-in-turn, each-ordered}
 use Rattle.joint.proofs.safety.Outcomes.{refl-outcome}
-use Rattle.joint.proofs.Lists.{Each}
+use Rattle.joint.proofs.base.Lists.{Each}
 use Rattle.codec.specs.laws.Tests.{of-true}
 
 -- ---- begin

@@ -8,15 +8,15 @@ use borrow.Author.Tests.{eqb-true}
 use Rattle.codec.specs.Sets.{member, empty, without}
 use Rattle.codec.specs.laws.Tests.{true-of, of-true}
 use Rattle.site.specs.Presumption.{Outcome, commit, abort, sameOutcome, silence}
-use Rattle.site.specs.Cohort.{Cohort, presumptionOf, owing}
+use Rattle.site.specs.Cohort.{Cohort, presumptionOf, owing, writesInit}
 use Rattle.site.specs.Step.{prepare, voteYes, voteNo, tell, ack, Input, begin, timer, received, Row}
-use Rattle.site.specs.Coordinator.{Coordinator, preparing, onBegin, committing, voted, onYes, telling, aborting, onNo, coordinatorTimer, acked, ackedIf, onAck, coordinatorStep, tellAll}
+use Rattle.site.specs.Coordinator.{CoordinatorPhase, preparing, onBegin, committing, voted, onYes, telling, aborting, onNo, coordinatorTimer, acked, ackedIf, onAck, coordinatorStep, tellAll}
 use Rattle.joint.specs.State.{Site, withCoordinator}
-use Rattle.joint.proofs.Booleans.{or-left, or-right, both-ways, of-false}
+use Rattle.joint.proofs.base.Booleans.{or-left, or-right, both-ways, of-false}
 use Rattle.joint.proofs.view.View.{View, viewSettle}
 use Rattle.joint.proofs.view.Turn.{Carried, Given, Up, Opened}
 use Rattle.joint.proofs.safety.Sets.{owing-member, no-zero, not-empty, owes-abort, without-part, member-without}
-use Rattle.joint.proofs.safety.Invariant.{Log, waiting, resting, down, Standing, never, initial, collecting, decided, writesInit, initLog, coordinatorAt, between, sentIn, Mid, Inv, cohortOf}
+use Rattle.joint.proofs.safety.Invariant.{Log, waiting, resting, down, Standing, never, initial, collecting, decided, initLog, coordinatorAt, between, sentIn, Mid, Inv, cohortOf}
 use Rattle.joint.proofs.safety.coordinator.Logs.{commitLog}
 use Rattle.joint.proofs.safety.coordinator.Crashes.{Next}
 use Rattle.joint.proofs.safety.coordinator.Runs.{Node, Runs, node-stay, row-next, node-start}
@@ -28,18 +28,18 @@ use Rattle.joint.proofs.safety.coordinator.Steps.{still-owed}
 
 -- ---- the row that a step gives
 
-no-row {ℓ} : {A : Type ℓ} {row : Row Coordinator} → none ≡ some row → A
+no-row {ℓ} : {A : Type ℓ} {row : Row CoordinatorPhase} → none ≡ some row → A
 no-row {row} e = absurd (Option·none-ne-some row e)
 
-module _ (t : ℕ) (v w : View) (row : Row Coordinator) where
+module _ (t : ℕ) (v w : View) (row : Row CoordinatorPhase) where
   abbrev Done : Type 0
   Done = Carried t 0 (row .effects) (viewSettle (withCoordinator (row .phase))) v w
 
-  row-done : {h : Standing} (r : Row Coordinator) → some r ≡ some row → (h′ : Standing) → Runs t h v (r .effects) h′ → r .phase ≡ coordinatorAt h′
+  row-done : {h : Standing} (r : Row CoordinatorPhase) → some r ≡ some row → (h′ : Standing) → Runs t h v (r .effects) h′ → r .phase ≡ coordinatorAt h′
       → T (between h′) → Done → Next t h w
   row-done {h} r e h′ x p b d =
       row-next t h (r .effects) h′ (r .phase) x p b
-      (subst (λ (y : Row Coordinator). Carried t 0 (y .effects) (viewSettle (withCoordinator (y .phase))) v w) (sym (Option·some-injective r row e)) d)
+      (subst (λ (y : Row CoordinatorPhase). Carried t 0 (y .effects) (viewSettle (withCoordinator (y .phase))) v w) (sym (Option·some-injective r row e)) d)
 
   abbrev g : Cohort
   g = cohortOf v
@@ -51,7 +51,7 @@ module _ (t : ℕ) (v w : View) (row : Row Coordinator) where
   begin-next mid o e d =
       row-done (preparing g) e (collecting (g .members) false) (begin-run t (initial false) v (node-start mid)) refl (of-false o) d
 
-  initial-next : Mid t (initial false) v → Opened v → (i : Input) → coordinatorStep g i Coordinator.initial ≡ some row → Done → Next t (initial false) w
+  initial-next : Mid t (initial false) v → Opened v → (i : Input) → coordinatorStep g i CoordinatorPhase.initial ≡ some row → Done → Next t (initial false) w
   unfolding coordinatorStep onBegin coordinatorTimer onYes onNo onAck
   initial-next mid o begin e d = begin-next mid o e d
   initial-next mid o timer e d = no-row e
@@ -104,7 +104,7 @@ module _ (t : ℕ) (v w : View) (row : Row Coordinator) where
         left-out true k = refl
         left-out false k = absurd k
 
-    collecting-next : (i : Input) → Given v i → coordinatorStep g i (Coordinator.collecting c) ≡ some row → Done → Next t (collecting c false) w
+    collecting-next : (i : Input) → Given v i → coordinatorStep g i (CoordinatorPhase.collecting c) ≡ some row → Done → Next t (collecting c false) w
     unfolding coordinatorStep onBegin coordinatorTimer onYes onNo onAck
     collecting-next begin k e d = no-row e
     collecting-next timer k e d = abort-next (g .members) (λ q m. m) (λ n m u. absurd (both-ways (member (suc n) (g .members)) m u)) e d
@@ -152,17 +152,17 @@ module _ (t : ℕ) (v w : View) (row : Row Coordinator) where
         heard-next p (subst (λ (x : Outcome). T (sentIn v p (ack x))) (same-outcome a o (of-true q)) k) (empty (without p c)) refl e d
 
     -- to a member, or to all that are waited for
-    tell-next : (p : ℕ) → T (member p (g .members)) → some (telling o p (Coordinator.awaitingAcks o c)) ≡ some row → Done → Next t here w
+    tell-next : (p : ℕ) → T (member p (g .members)) → some (telling o p (CoordinatorPhase.awaitingAcks o c)) ≡ some row → Done → Next t here w
     unfolding telling
     tell-next zero m e d = absurd (no-zero (g .members) m)
     tell-next (suc n) m e d =
-        row-done (telling o (suc n) (Coordinator.awaitingAcks o c)) e here (tell-run t here v o (waiting c) l (Coordinator.awaitingAcks o c) n m (node-start mid)) refl some-left d
+        row-done (telling o (suc n) (CoordinatorPhase.awaitingAcks o c)) e here (tell-run t here v o (waiting c) l (CoordinatorPhase.awaitingAcks o c) n m (node-start mid)) refl some-left d
 
-    waiting-next : (i : Input) → Given v i → coordinatorStep g i (Coordinator.awaitingAcks o c) ≡ some row → Done → Next t here w
+    waiting-next : (i : Input) → Given v i → coordinatorStep g i (CoordinatorPhase.awaitingAcks o c) ≡ some row → Done → Next t here w
     unfolding coordinatorStep onBegin coordinatorTimer onYes onNo onAck
     waiting-next begin k e d = no-row e
     waiting-next timer k e d =
-        row-done (record { effects = tellAll g o c; phase = Coordinator.awaitingAcks o c }) e here
+        row-done (record { effects = tellAll g o c; phase = CoordinatorPhase.awaitingAcks o c }) e here
         (tell-all-run t here v o (waiting c) l c waits-part (node-start mid)) refl some-left d
     waiting-next (received prepare p) k e d = no-row e
     waiting-next (received voteYes p) k e d = tell-next p (k .0) e d
@@ -174,13 +174,13 @@ module _ (t : ℕ) (v w : View) (row : Row Coordinator) where
 
   module _ (o : Outcome) (b : Bool) (l : Log) (mid : Mid t (decided o (resting b) l) v) where
     reply-next : (p : ℕ) → T (member p (g .members)) → T (sentIn v p voteYes)
-        → some (telling (silence (presumptionOf g p)) p Coordinator.unknown) ≡ some row → Done → Next t (decided o (resting b) l) w
+        → some (telling (silence (presumptionOf g p)) p CoordinatorPhase.unknown) ≡ some row → Done → Next t (decided o (resting b) l) w
     unfolding telling
     reply-next zero m y e d = absurd (no-zero (g .members) m)
     reply-next (suc n) m y e d =
-        row-done (telling (silence (presumptionOf g (suc n))) (suc n) Coordinator.unknown) e (decided o (resting b) l) (reply-run t (decided o (resting b) l) v o b l Coordinator.unknown n m y (node-start mid)) refl tt d
+        row-done (telling (silence (presumptionOf g (suc n))) (suc n) CoordinatorPhase.unknown) e (decided o (resting b) l) (reply-run t (decided o (resting b) l) v o b l CoordinatorPhase.unknown n m y (node-start mid)) refl tt d
 
-    unknown-next : (i : Input) → Given v i → coordinatorStep g i Coordinator.unknown ≡ some row → Done → Next t (decided o (resting b) l) w
+    unknown-next : (i : Input) → Given v i → coordinatorStep g i CoordinatorPhase.unknown ≡ some row → Done → Next t (decided o (resting b) l) w
     unfolding coordinatorStep onBegin coordinatorTimer onYes onNo onAck
     unknown-next begin k e d = no-row e
     unknown-next timer k e d = no-row e
@@ -206,4 +206,4 @@ module _ (t : ℕ) (v w : View) (row : Row Coordinator) where
   pub coordinator-next : {h : Standing} → Inv t h v → Opened v → Up v 0 → (i : Input) → Given v i
       → coordinatorStep g i (v .transaction .coordinator) ≡ some row → Done → Next t h w
   coordinator-next {h} inv o up i k e d =
-      phase-next h (inv .mid) (inv .whole) o up i k (subst (λ (c : Coordinator). coordinatorStep g i c ≡ some row) (inv .phase) e) d
+      phase-next h (inv .mid) (inv .whole) o up i k (subst (λ (c : CoordinatorPhase). coordinatorStep g i c ≡ some row) (inv .phase) e) d

@@ -8,22 +8,22 @@ use lib.Dec.{T}
 use Rattle.codec.specs.Lists.{any}
 use Rattle.codec.specs.laws.Tests.{of-true}
 use Rattle.site.specs.Presumption.{Outcome, commit}
-use Rattle.site.specs.Cohort.{Cohort}
+use Rattle.site.specs.Cohort.{Cohort, writesInit}
 use Rattle.site.specs.Coordinator.{endRecord}
 use Rattle.joint.specs.State.{Site, forced}
 use Rattle.joint.specs.Plan.{closes, newest}
-use Rattle.joint.proofs.Booleans.{both-ways}
+use Rattle.joint.proofs.base.Booleans.{both-ways}
 use Rattle.joint.proofs.view.View.{View, viewAt}
 use Rattle.joint.proofs.view.Turn.{whole, Up, Opened, trimmedView, viewForget, viewDiscard}
 use Rattle.joint.proofs.safety.Tables.{has}
-use Rattle.joint.proofs.safety.Invariant.{Log, l0, l1, l12, l2, l123, l23, l3, l14, l4, kindsIn, classOf, waiting, resting, down, Standing, never, initial, collecting, decided, stageOf, hasDecided, SetsFit, writesInit, awaitsCommit, initLog, stableAt, coordinatorAt, between, recordFor, siteWith, Mid, Inv, cohortOf, logFits}
+use Rattle.joint.proofs.safety.Invariant.{Log, l0, l1, l12, l2, l123, l23, l3, l14, l4, kindsIn, classOf, waiting, resting, down, Standing, never, initial, collecting, decided, stageOf, hasDecided, SetsFit, awaitsCommit, initLog, stableAt, coordinatorAt, between, recordFor, siteWith, Mid, Inv, cohortOf, logFits}
 use Rattle.joint.proofs.safety.coordinator.Logs.{closed, older, unended, resting-down, commit-record, waiting-unended, ending-unended, closed-fits, closed-kinds, closed-proper, may-close, older-fits, older-kinds, older-proper, end-unwritten}
 use Rattle.joint.proofs.safety.coordinator.Steps.{From, Move, standsAs, stand, from-self, still-owed}
 use Rattle.joint.proofs.safety.coordinator.Crashes.{Next}
 use Rattle.joint.proofs.safety.coordinator.Commits.{forced-kinds}
 use Rattle.joint.proofs.safety.coordinator.Ways.{way-done, way-self}
 use Rattle.joint.proofs.safety.Outcomes.{same-outcome}
-use Rattle.joint.proofs.Lists.{drop-map}
+use Rattle.joint.proofs.base.Lists.{drop-map}
 use Rattle.joint.proofs.safety.Holds.{commit-awaits}
 
 -- ---- what a turn leads to

@@ -6,13 +6,13 @@ use mathlib.Core.List.{List, [], _∷_, append-nil}
 use lib.Dec.{T}
 use Rattle.codec.specs.Sets.{member, empty}
 use Rattle.site.specs.Presumption.{Outcome, commit, abort, sameOutcome, silence}
-use Rattle.site.specs.Cohort.{Cohort, presumptionOf}
+use Rattle.site.specs.Cohort.{Cohort, presumptionOf, writesInit}
 use Rattle.site.specs.Step.{voteYes, voteNo, tell, Effect, append, given}
-use Rattle.site.specs.Coordinator.{Coordinator, endRecord, inOrder, tellAll, aborting, telling}
+use Rattle.site.specs.Coordinator.{CoordinatorPhase, endRecord, inOrder, tellAll, aborting, telling}
 use Rattle.joint.specs.State.{appended}
-use Rattle.joint.proofs.Booleans.{or-left, or-right}
+use Rattle.joint.proofs.base.Booleans.{or-left, or-right}
 use Rattle.joint.proofs.view.View.{View}
-use Rattle.joint.proofs.safety.Invariant.{Log, kindsIn, waiting, resting, Pace, Standing, collecting, decided, SetsFit, writesInit, initLog, sentIn, siteWith, cohortOf}
+use Rattle.joint.proofs.safety.Invariant.{Log, kindsIn, waiting, resting, Pace, Standing, collecting, decided, SetsFit, initLog, sentIn, siteWith, cohortOf}
 use Rattle.joint.proofs.safety.coordinator.Logs.{end-written}
 use Rattle.joint.proofs.safety.coordinator.Runs.{Node, Runs, node-stay, append-run, send-run, sends-run}
 use Rattle.joint.proofs.safety.coordinator.Commits.{told, settle-node, enter-tell}
@@ -61,7 +61,7 @@ module _ (t : ℕ) (h0 : Standing) where
 
   -- ---- the outcome is told again
 
-  pub tell-run : (v : View) (o : Outcome) (p : Pace) (l : Log) (c : Coordinator) (n : ℕ) → T (member (suc n) (cohortOf v .members))
+  pub tell-run : (v : View) (o : Outcome) (p : Pace) (l : Log) (c : CoordinatorPhase) (n : ℕ) → T (member (suc n) (cohortOf v .members))
       → Node t h0 v (decided o p l) → Runs t h0 v (telling o (suc n) c .effects) (decided o p l)
   unfolding telling
   tell-run v o p l c n m x = send-run t h0 [] (decided o p l) x false n m (λ k. absurd k) (tell o) (or-left (sameOutcome o o) _ (refl-outcome o)) (λ y. y)
@@ -74,7 +74,7 @@ module _ (t : ℕ) (h0 : Standing) where
       (sends-run t h0 [] (decided o p l) (tell o) (inOrder (cohortOf v) o to) v (told (cohortOf v) o p l to f) x (λ w e y. y))
 
   -- a coordinator in Unknown says what silence means
-  pub reply-run : (v : View) (o : Outcome) (b : Bool) (l : Log) (c : Coordinator) (n : ℕ) → T (member (suc n) (cohortOf v .members)) → T (sentIn v (suc n) voteYes)
+  pub reply-run : (v : View) (o : Outcome) (b : Bool) (l : Log) (c : CoordinatorPhase) (n : ℕ) → T (member (suc n) (cohortOf v .members)) → T (sentIn v (suc n) voteYes)
       → Node t h0 v (decided o (resting b) l)
       → Runs t h0 v (telling (silence (presumptionOf (cohortOf v) (suc n))) (suc n) c .effects) (decided o (resting b) l)
   unfolding telling

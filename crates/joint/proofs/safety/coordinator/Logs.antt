@@ -10,7 +10,7 @@ use Rattle.codec.specs.laws.Tests.{true-of, alike, alike-eq, same-list}
 use Rattle.site.specs.Presumption.{Outcome, commit, abort, sameOutcome}
 use Rattle.site.specs.Cohort.{Cohort}
 use Rattle.site.specs.Coordinator.{endRecord}
-use Rattle.joint.proofs.Booleans.{_⇒_, mp, or-left, or-right}
+use Rattle.joint.proofs.base.Booleans.{_⇒_, mp, or-left, or-right}
 use Rattle.joint.proofs.safety.Tables.{has}
 use Rattle.joint.proofs.safety.Finite.{allOf, nth, look, allBool, at-bool, allOutcome, at-outcome}
 use Rattle.joint.proofs.safety.Invariant.{Log, l0, l1, l12, l2, l123, l23, l3, l14, l4, kindsIn, Class, nothing, live, ended, classOf, resumed, Pace, waiting, resting, down, decided, logFits, properKinds, awaitsCommit, SetsFit, initLog}

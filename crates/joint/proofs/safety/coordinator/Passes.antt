@@ -6,7 +6,7 @@ use Rattle.codec.specs.laws.Tests.{and-left, and-right}
 use Rattle.site.specs.Presumption.{Outcome, sameOutcome, Presumption, acks, silence}
 use Rattle.site.specs.Step.{Message, prepare, voteYes, voteNo, ack, messageKind}
 use Rattle.site.specs.Participant.{outcomeRecord}
-use Rattle.joint.proofs.Booleans.{_⇒_, mp, to-⇒, or-right, or-either, or-map, or-not}
+use Rattle.joint.proofs.base.Booleans.{_⇒_, mp, to-⇒, or-right, or-either, or-map, or-not}
 use Rattle.joint.proofs.safety.Tables.{Status, has, Stage, fresh, asking, done, fits, may, mayEnter, needsYes, Fine, passes, ackSent, maySend}
 use Rattle.joint.proofs.safety.Finite.{allBool, at-bool, allOutcome, at-outcome, allPresumption, at-presumption, allStatus, at-status, allStage, at-stage, allMessage, at-message}
 

@@ -8,14 +8,14 @@ use lib.Dec.{T}
 use Rattle.codec.specs.Sets.{empty}
 use Rattle.codec.specs.laws.Tests.{of-true}
 use Rattle.site.specs.Presumption.{Outcome, commit, abort, sameOutcome}
-use Rattle.site.specs.Cohort.{Cohort, owing}
+use Rattle.site.specs.Cohort.{Cohort, owing, writesInit}
 use Rattle.site.specs.Step.{Effect, append, force, enter, send, Row, given}
-use Rattle.site.specs.Coordinator.{Coordinator, tellAll, untilAcked, restartFrom, coordinatorRestart}
+use Rattle.site.specs.Coordinator.{CoordinatorPhase, tellAll, untilAcked, restartFrom, coordinatorRestart}
 use Rattle.joint.specs.State.{Site, holds, started, withCoordinator, withSent}
 use Rattle.joint.proofs.view.View.{View, viewAt, viewSettle, viewPerform, viewEffects}
 use Rattle.joint.proofs.view.Turn.{Carried, whole, cutAfter, Opened, viewStart}
 use Rattle.joint.proofs.safety.Sets.{member-owing, empty-none}
-use Rattle.joint.proofs.safety.Invariant.{Log, kindsIn, classOf, resumed, waiting, resting, down, Standing, never, initial, collecting, decided, writesInit, coordinatorAt, between, Mid, Inv, cohortOf}
+use Rattle.joint.proofs.safety.Invariant.{Log, kindsIn, classOf, resumed, waiting, resting, down, Standing, never, initial, collecting, decided, coordinatorAt, between, Mid, Inv, cohortOf}
 use Rattle.joint.proofs.safety.coordinator.Logs.{resumes-commit, resumes-abort}
 use Rattle.joint.proofs.safety.Holds.{holds-at}
 use Rattle.joint.proofs.safety.coordinator.Steps.{Shift, shift-keeps, standsAs, stand, settle-mid}
@@ -42,7 +42,7 @@ effects-cohort t (e ∷ es) v = effects-cohort t es (viewPerform 0 t e v) ∙ on
 
 module _ (t : ℕ) (h0 : Standing) where
   -- the effects happen while the site is down
-  start-next : {v w : View} (es : List Effect) (o : Outcome) (l : Log) (h′ : Standing) (c : Coordinator) → Runs t h0 v es (decided o down l)
+  start-next : {v w : View} (es : List Effect) (o : Outcome) (l : Log) (h′ : Standing) (c : CoordinatorPhase) → Runs t h0 v es (decided o down l)
       → ((u : View) → cohortOf u ≡ cohortOf v → Mid t (decided o down l) u → Shift u (decided o down l) h′)
       → ((u : View) → started (standsAs t u (decided o down l)) ≡ standsAs t u h′)
       → c ≡ coordinatorAt h′ → T (between h′) → Carried t 0 es (viewStart 0 (withCoordinator c)) v w → Next t h0 w
@@ -99,15 +99,15 @@ module _ (t : ℕ) (h0 : Standing) where
 -- ---- restart
 
 module _ (t : ℕ) (v w : View) where
-  abbrev Woken : Row Coordinator → Type 0
+  abbrev Woken : Row CoordinatorPhase → Type 0
   Woken row = Carried t 0 (row .effects) (viewStart 0 (withCoordinator (row .phase))) v w
 
   -- nothing is resumed
   forget-next : (o : Outcome) (l : Log) → Mid t (decided o down l) v → resumed (classOf l) ≡ false
-      → Carried t 0 [] (viewStart 0 (withCoordinator Coordinator.unknown)) v w → Next t (decided o down l) w
+      → Carried t 0 [] (viewStart 0 (withCoordinator CoordinatorPhase.unknown)) v w → Next t (decided o down l) w
   unfolding started
   forget-next o l mid q d =
-      start-next t (decided o down l) [] o l (decided o (resting false) l) Coordinator.unknown (node-start mid)
+      start-next t (decided o down l) [] o l (decided o (resting false) l) CoordinatorPhase.unknown (node-start mid)
       (λ u e m. forgets u o l m (λ n k. rw q (way-done u n o true))) (λ u. refl) refl tt d
 
   -- what the log says: commit is resumed, abort is resumed, nothing is
@@ -127,7 +127,7 @@ module _ (t : ℕ) (v w : View) where
   restart-row o l mid =
       rw (holds-at (cohortOf v) t 0 (kindsIn l) (mid .log) 1, holds-at (cohortOf v) t 0 (kindsIn l) (mid .log) 2, holds-at (cohortOf v) t 0 (kindsIn l) (mid .log) 3, holds-at (cohortOf v) t 0 (kindsIn l) (mid .log) 4, resumes-commit (writesInit (cohortOf v)) o l (mid .sound .fit), resumes-abort (writesInit (cohortOf v)) o l (mid .sound .fit)) refl
 
-  pub resume-after : (h : Standing) → Inv t h v → Opened v → v .site 0 .up ≡ false → {row : Row Coordinator}
+  pub resume-after : (h : Standing) → Inv t h v → Opened v → v .site 0 .up ≡ false → {row : Row CoordinatorPhase}
       → coordinatorRestart (cohortOf v) (λ k. holds t k (v .site 0 .stable)) ≡ row
       → Woken row → After t h w
   resume-after (never u) inv o up e d = absurd (true≢false (inv .mid .sound .opened ∙ o))

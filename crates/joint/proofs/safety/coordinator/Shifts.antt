@@ -8,14 +8,14 @@ use Rattle.codec.specs.Sets.{member, empty, without, both}
 use Rattle.codec.specs.laws.Tests.{and-right, true-of}
 use Rattle.codec.specs.laws.Masks.{those-below}
 use Rattle.site.specs.Presumption.{Outcome, commit, abort, sameOutcome}
-use Rattle.site.specs.Cohort.{Cohort, owing}
+use Rattle.site.specs.Cohort.{Cohort, owing, writesInit}
 use Rattle.site.specs.Step.{voteYes, voteNo, ack}
 use Rattle.site.specs.Coordinator.{untilAcked}
-use Rattle.joint.proofs.Booleans.{and-both, not-true, is-false, of-false}
+use Rattle.joint.proofs.base.Booleans.{and-both, not-true, is-false, of-false}
 use Rattle.joint.proofs.view.View.{View}
 use Rattle.joint.proofs.safety.Tables.{Stage, asking}
 use Rattle.joint.proofs.safety.Sets.{of-those, member-those, member-owing, empty-none, no-zero, without-part, member-without, without-byte}
-use Rattle.joint.proofs.safety.Invariant.{Log, classOf, resumed, waiting, resting, down, Standing, initial, collecting, decided, hasDecided, logFits, SetsFit, writesInit, awaitsCommit, initLog, sentIn, coordinatorAt, between, Mid, cohortOf}
+use Rattle.joint.proofs.safety.Invariant.{Log, classOf, resumed, waiting, resting, down, Standing, initial, collecting, decided, hasDecided, logFits, SetsFit, awaitsCommit, initLog, sentIn, coordinatorAt, between, Mid, cohortOf}
 use Rattle.joint.proofs.safety.coordinator.Logs.{commitLog, resumed-waiting, down-resting, abort-waits, commit-waits, commit-has, initial-proper, commit-proper}
 use Rattle.joint.proofs.safety.coordinator.Steps.{PassesAt, From, Shift, from-same, from-none}
 use Rattle.joint.proofs.safety.coordinator.Ways.{way-count, way-commit, way-abort, way-done, way-hear, way-resume, way-self}

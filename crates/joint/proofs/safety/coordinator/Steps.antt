@@ -8,16 +8,16 @@ use native.Mathlib.Omega.{arith}
 use borrow.Author.Tests.{ne-eqb, eqb-true}
 use Rattle.codec.specs.Sets.{member, empty}
 use Rattle.site.specs.Presumption.{Outcome, commit, sameOutcome, abort}
-use Rattle.site.specs.Cohort.{presumptionOf, owing}
+use Rattle.site.specs.Cohort.{presumptionOf, owing, writesInit}
 use Rattle.site.specs.Step.{Message, voteYes, voteNo, messageKind, enter, send}
-use Rattle.site.specs.Coordinator.{Coordinator}
+use Rattle.site.specs.Coordinator.{CoordinatorPhase}
 use Rattle.joint.specs.State.{Site, update, withCoordinator, withSent}
-use Rattle.joint.proofs.Booleans.{or-left, or-either, both-ways}
-use Rattle.joint.proofs.Updates.{update-other}
+use Rattle.joint.proofs.base.Booleans.{or-left, or-either, both-ways}
+use Rattle.joint.proofs.base.Updates.{update-other}
 use Rattle.joint.proofs.view.View.{View, viewAt, viewSettle, viewPerform}
 use Rattle.joint.proofs.safety.Tables.{Status, has, Stage, Fine, passes, ackSent, maySend}
 use Rattle.joint.proofs.safety.coordinator.Passes.{pass-fine, send-fine}
-use Rattle.joint.proofs.safety.Invariant.{Standing, never, stageOf, hasDecided, standingFits, properLog, awaitsCommit, SetsFit, writesInit, standingUp, stableAt, unforcedAt, isNever, siteWith, sentIn, Member, Stranger, Place, Sound, Mid, cohortOf, Log, kindsIn, Pace, decided, waiting, resting}
+use Rattle.joint.proofs.safety.Invariant.{Standing, never, stageOf, hasDecided, standingFits, properLog, awaitsCommit, SetsFit, standingUp, stableAt, unforcedAt, isNever, siteWith, sentIn, Member, Stranger, Place, Sound, Mid, cohortOf, Log, kindsIn, Pace, decided, waiting, resting}
 use Rattle.joint.proofs.safety.Outcomes.{same-outcome}
 use Rattle.joint.proofs.safety.Sets.{belongs, not-empty}
 
@@ -102,11 +102,11 @@ stranger-beside {v} {n} k x =
       entered = x .entered;
     }
 
-member-settle : {t : ℕ} {v : View} {n : ℕ} {m : Stage} (c : Coordinator) → Member t m n v → Member t m n (viewSettle (withCoordinator c) v)
+member-settle : {t : ℕ} {v : View} {n : ℕ} {m : Stage} (c : CoordinatorPhase) → Member t m n v → Member t m n (viewSettle (withCoordinator c) v)
 unfolding viewSettle withCoordinator
 member-settle c x = record { status = x .status; site = x .site; phase = x .phase; fine = x .fine }
 
-stranger-settle : {v : View} {n : ℕ} (c : Coordinator) → Stranger n v → Stranger n (viewSettle (withCoordinator c) v)
+stranger-settle : {v : View} {n : ℕ} (c : CoordinatorPhase) → Stranger n v → Stranger n (viewSettle (withCoordinator c) v)
 unfolding viewSettle withCoordinator
 stranger-settle c x = record { stable = x .stable; unforced = x .unforced; sent = x .sent; entered = x .entered }
 
@@ -175,7 +175,7 @@ module _ {t : ℕ} {v : View} {h : Standing} (mid : Mid t h v) where
         places = λ n. place-map t n (stageOf h (suc n)) (stageOf h′ (suc n)) v (viewAt 0 k v) (belongs (cohortOf v) n) (λ b y. member-beside k (member-pass (stageOf h′ (suc n)) (x .passing n b) y)) (λ b. stranger-beside k) (mid .places n);
       }
 
-  pub settle-mid : (c : Coordinator) → Mid t h (viewSettle (withCoordinator c) v)
+  pub settle-mid : (c : CoordinatorPhase) → Mid t h (viewSettle (withCoordinator c) v)
   unfolding viewSettle withCoordinator
   settle-mid c =
       record {

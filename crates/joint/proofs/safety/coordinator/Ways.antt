@@ -6,13 +6,13 @@ use lib.Dec.{T}
 use Rattle.codec.specs.Sets.{member, empty}
 use Rattle.codec.specs.laws.Tests.{of-true}
 use Rattle.site.specs.Presumption.{Outcome, commit, abort, sameOutcome, Presumption, presumedAbort, presumedCommit, acks, silence}
-use Rattle.site.specs.Cohort.{Cohort, presumptionOf}
+use Rattle.site.specs.Cohort.{Cohort, presumptionOf, writesInit}
 use Rattle.site.specs.Step.{voteYes, voteNo, ack}
-use Rattle.joint.proofs.Booleans.{and-both, or-left, or-right, or-first, both-ways}
+use Rattle.joint.proofs.base.Booleans.{and-both, or-left, or-right, or-first, both-ways}
 use Rattle.joint.proofs.view.View.{View}
 use Rattle.joint.proofs.safety.Tables.{Stage, fresh, asking, done}
 use Rattle.joint.proofs.safety.Sets.{empty-none}
-use Rattle.joint.proofs.safety.Invariant.{writesInit, sentIn, cohortOf}
+use Rattle.joint.proofs.safety.Invariant.{sentIn, cohortOf}
 use Rattle.joint.proofs.safety.coordinator.Steps.{PassesAt}
 use Rattle.joint.proofs.safety.Outcomes.{refl-outcome, owes}
 

@@ -11,14 +11,14 @@ use Rattle.codec.specs.Records.{LogRecord}
 use Rattle.site.specs.Presumption.{Outcome, sameOutcome}
 use Rattle.site.specs.Cohort.{Cohort}
 use Rattle.site.specs.Step.{Message, voteYes, messageKind, Effect, append, force, enter, send}
-use Rattle.site.specs.Participant.{Participant}
+use Rattle.site.specs.Participant.{ParticipantPhase}
 use Rattle.joint.specs.State.{Site, holds, appended, forced, stopped, started, withSent, withParticipant, forgotten}
 use Rattle.joint.specs.Safety.{sends}
-use Rattle.joint.proofs.Updates.{update-same, update-other}
+use Rattle.joint.proofs.base.Updates.{update-same, update-other}
 use Rattle.joint.proofs.view.View.{View, viewAt, viewSettle, viewPerform, viewEffects, viewDown}
 use Rattle.joint.proofs.view.Turn.{viewStart, viewDiscard, viewForget, trimmedView, noRecord, isNil}
 use Rattle.joint.proofs.safety.Tables.{has}
-use Rattle.joint.proofs.Lists.{Each, map-take, drop-map}
+use Rattle.joint.proofs.base.Lists.{Each, map-take, drop-map}
 use Rattle.joint.proofs.safety.Invariant.{fieldsAt, recordFor, siteWith, sentIn}
 use Rattle.joint.proofs.safety.Holds.{holds-at}
 use Rattle.joint.proofs.safety.participant.Rows.{Part, moved, effect, effects, halted, settled, woken, dropped, phaseLeft}
@@ -28,7 +28,7 @@ use Rattle.joint.proofs.safety.participant.Rows.{Part, moved, effect, e
 -- what a view tells of one site
 pub record Local : Type 0 where
   pub site : Site
-  pub participant : Participant
+  pub participant : ParticipantPhase
   pub sent : ℕ → Bool
   pub entered : Outcome → Bool
   pub voted : Bool
@@ -103,7 +103,7 @@ module _ (t p : ℕ) (v : View) where
       }
 
   -- the phase changes
-  pub reach-phase : (x : Participant) {y : Part} {w : View} → Reached t p v y w → Reached t p v (settled x y) (viewSettle (withParticipant p x) w)
+  pub reach-phase : (x : ParticipantPhase) {y : Part} {w : View} → Reached t p v y w → Reached t p v (settled x y) (viewSettle (withParticipant p x) w)
   unfolding viewSettle withParticipant
   reach-phase x {y} {w} r =
       record {
@@ -215,13 +215,13 @@ module _ (t n : ℕ) (v : View) where
       reach-site t (suc n) v (stopped k) false _ []
       (ap (λ (l : List LogRecord). record { up = false; stable = l; unforced = [] })
       (ap (λ (l : List LogRecord). written (y .stable) ++ l) (sym (map-take _ k (y .unforced))) ∙ sym (map-append _ (y .stable) (take k (y .unforced)))))
-      (reach-phase t (suc n) v Participant.unknown r)
+      (reach-phase t (suc n) v ParticipantPhase.unknown r)
 
   pub reach-started : {y : Part} {w : View} → Reached t (suc n) v y w → Reached t (suc n) v (woken (y .phase) y) (viewAt (suc n) started w)
   unfolding started
   reach-started {y} r = reach-site t (suc n) v started true (y .stable) (y .unforced) refl r
 
-  pub reach-woken : (x : Participant) {y : Part} {w : View} → Reached t (suc n) v y w
+  pub reach-woken : (x : ParticipantPhase) {y : Part} {w : View} → Reached t (suc n) v y w
       → Reached t (suc n) v (woken x y) (viewStart (suc n) (withParticipant (suc n) x) w)
   unfolding viewStart
   reach-woken x r = reach-started (reach-phase t (suc n) v x r)
@@ -230,7 +230,7 @@ module _ (t n : ℕ) (v : View) where
   reach-forget : (ks : List ℕ) {y : Part} {w : View} → Reached t (suc n) v y w
       → Reached t (suc n) v (settled (phaseLeft ks (y .phase)) y) (viewForget (not (isNil (written ks))) (suc n) w)
   unfolding viewForget isNil
-  reach-forget [] r = reach-phase t (suc n) v Participant.unknown r
+  reach-forget [] r = reach-phase t (suc n) v ParticipantPhase.unknown r
   reach-forget (k ∷ ks) r = r
 
   reach-trimmed : {y : Part} {w : View} → Reached t (suc n) v y w

@@ -12,15 +12,15 @@ use Rattle.codec.specs.laws.Tests.{true-of, of-true}
 use Rattle.site.specs.Presumption.{Outcome, commit, abort, sameOutcome, Presumption, acks}
 use Rattle.site.specs.Cohort.{Cohort, presumptionOf}
 use Rattle.site.specs.Step.{prepare, voteYes, voteNo, tell, ack, Input, begin, timer, received, Effect, force, send, Row, given}
-use Rattle.site.specs.Participant.{Participant, outcomeRecord, voting, promising, onPrepare, acking, finish, acknowledging, ackingIf, onTell, participantTimer, participantStep, restartWith, participantRestart}
+use Rattle.site.specs.Participant.{ParticipantPhase, outcomeRecord, voting, promising, onPrepare, acking, finish, acknowledging, ackingIf, onTell, participantTimer, participantStep, restartWith, participantRestart}
 use Rattle.joint.specs.State.{Site, holds, forced, started, withParticipant}
 use Rattle.joint.specs.Plan.{closes, newest}
-use Rattle.joint.proofs.Booleans.{mp}
+use Rattle.joint.proofs.base.Booleans.{mp}
 use Rattle.joint.proofs.view.View.{View, viewAt, viewSettle, viewDown}
 use Rattle.joint.proofs.view.Turn.{Carried, Given, Own, Up, viewDiscard, viewStart}
 use Rattle.joint.proofs.safety.Tables.{Stage, isUp, stableKinds}
 use Rattle.joint.proofs.safety.Sets.{empty-none, belongs}
-use Rattle.joint.proofs.Lists.{each-append, take-none}
+use Rattle.joint.proofs.base.Lists.{each-append, take-none}
 use Rattle.joint.proofs.safety.Invariant.{Standing, recordFor, stageOf, sentIn, Member, Place, Inv}
 use Rattle.joint.proofs.safety.Holds.{holds-at}
 use Rattle.joint.proofs.safety.participant.Rows.{ofStatus, settled, woken, dropped, heard, lands, rowTest, onRow, step-at, restart-at, force-at, crash-at, discard-at}
@@ -30,7 +30,7 @@ use Rattle.joint.proofs.safety.participant.Places.{only-at, from-member
 -- ---- a participant's rows write records with its own fields, and send its own messages
 
 -- P holds of the row, if there is one
-abbrev OnRow : (Row Participant → Type 0) → Option (Row Participant) → Type 0
+abbrev OnRow : (Row ParticipantPhase → Type 0) → Option (Row ParticipantPhase) → Type 0
 OnRow P none = Unit {0}
 OnRow P (some r) = P r
 
@@ -54,41 +54,41 @@ module _ (g : Cohort) (p : ℕ) where
   finish-proper abort = (refl, each-append _ (given (acks c abort) (force ∷ [])) _ (given-proper _ _ (tt, tt)) (tt, acking-proper abort))
 
   -- the effects of the row, if there is one, are proper
-  abbrev WellFormed : Option (Row Participant) → Type 0
+  abbrev WellFormed : Option (Row ParticipantPhase) → Type 0
   WellFormed = OnRow (λ r. AllProper g p (r .effects))
 
-  prepare-proper : (x : Participant) → WellFormed (onPrepare c p x)
+  prepare-proper : (x : ParticipantPhase) → WellFormed (onPrepare c p x)
   unfolding onPrepare promising voting
-  prepare-proper Participant.working = (refl, (tt, (refl, tt)))
-  prepare-proper Participant.prepared = (refl, tt)
-  prepare-proper (Participant.decided commit) = tt
-  prepare-proper (Participant.decided abort) = (refl, tt)
-  prepare-proper Participant.unknown = (refl, tt)
+  prepare-proper ParticipantPhase.working = (refl, (tt, (refl, tt)))
+  prepare-proper ParticipantPhase.prepared = (refl, tt)
+  prepare-proper (ParticipantPhase.decided commit) = tt
+  prepare-proper (ParticipantPhase.decided abort) = (refl, tt)
+  prepare-proper ParticipantPhase.unknown = (refl, tt)
 
   if-proper : (b : Bool) (o : Outcome) → WellFormed (ackingIf c p b o)
   unfolding ackingIf acknowledging
   if-proper true o = acking-proper o
   if-proper false o = tt
 
-  tell-proper : (o : Outcome) (x : Participant) → WellFormed (onTell c p o x)
+  tell-proper : (o : Outcome) (x : ParticipantPhase) → WellFormed (onTell c p o x)
   unfolding onTell acknowledging
-  tell-proper commit Participant.working = tt
-  tell-proper abort Participant.working = finish-proper abort
-  tell-proper commit Participant.prepared = finish-proper commit
-  tell-proper abort Participant.prepared = finish-proper abort
-  tell-proper commit (Participant.decided d) = if-proper (sameOutcome commit d) commit
-  tell-proper abort (Participant.decided d) = if-proper (sameOutcome abort d) abort
-  tell-proper commit Participant.unknown = acking-proper commit
-  tell-proper abort Participant.unknown = acking-proper abort
+  tell-proper commit ParticipantPhase.working = tt
+  tell-proper abort ParticipantPhase.working = finish-proper abort
+  tell-proper commit ParticipantPhase.prepared = finish-proper commit
+  tell-proper abort ParticipantPhase.prepared = finish-proper abort
+  tell-proper commit (ParticipantPhase.decided d) = if-proper (sameOutcome commit d) commit
+  tell-proper abort (ParticipantPhase.decided d) = if-proper (sameOutcome abort d) abort
+  tell-proper commit ParticipantPhase.unknown = acking-proper commit
+  tell-proper abort ParticipantPhase.unknown = acking-proper abort
 
-  timer-proper : (x : Participant) → WellFormed (participantTimer c p x)
+  timer-proper : (x : ParticipantPhase) → WellFormed (participantTimer c p x)
   unfolding participantTimer voting
-  timer-proper Participant.working = (tt, tt)
-  timer-proper Participant.prepared = (refl, tt)
-  timer-proper (Participant.decided o) = tt
-  timer-proper Participant.unknown = tt
+  timer-proper ParticipantPhase.working = (tt, tt)
+  timer-proper ParticipantPhase.prepared = (refl, tt)
+  timer-proper (ParticipantPhase.decided o) = tt
+  timer-proper ParticipantPhase.unknown = tt
 
-  step-proper : (i : Input) (x : Participant) → WellFormed (participantStep c p i x)
+  step-proper : (i : Input) (x : ParticipantPhase) → WellFormed (participantStep c p i x)
   unfolding participantStep
   step-proper begin x = tt
   step-proper timer x = timer-proper x
@@ -125,17 +125,17 @@ module _ {t : ℕ} {m : Stage} {n : ℕ} {v : View} (x : Member t m n v) where
       (mp (isUp (x .status)) _ (discard-at (v .transaction .cohort) t (suc n) presumption (x .status)) (of-true (is-up u)))
       (of-true (sym (ap (λ (z : Site). newest closes (z .stable)) (x .site)) ∙ e))
 
-  step-passed : {row : Row Participant} (i : Input) → Up v (suc n) → participantStep presumption (suc n) i (v .transaction .participant (suc n)) ≡ some row
+  step-passed : {row : Row ParticipantPhase} (i : Input) → Up v (suc n) → participantStep presumption (suc n) i (v .transaction .participant (suc n)) ≡ some row
       → T (rowTest presumption i (x .status) settled row)
   step-passed i u e =
-      subst (λ (o : Option (Row Participant)). T (onRow (rowTest presumption i (x .status) settled) o))
+      subst (λ (o : Option (Row ParticipantPhase)). T (onRow (rowTest presumption i (x .status) settled) o))
       (ap (participantStep presumption (suc n) i) (sym (x .phase)) ∙ e)
       (mp (isUp (x .status)) _ (step-at presumption (suc n) (x .status) i) (of-true (is-up u)))
 
-  restart-passed : {row : Row Participant} → v .site (suc n) .up ≡ false
+  restart-passed : {row : Row ParticipantPhase} → v .site (suc n) .up ≡ false
       → participantRestart presumption (suc n) (λ k. holds t k (v .site (suc n) .stable)) ≡ row → T (rowTest presumption timer (x .status) woken row)
   restart-passed u e =
-      subst (λ (r : Row Participant). T (rowTest presumption timer (x .status) woken r))
+      subst (λ (r : Row ParticipantPhase). T (rowTest presumption timer (x .status) woken r))
       (ap (participantRestart presumption (suc n)) (sym (fun-ext (holds-at _ t (suc n) _ (x .site)))) ∙ e)
       (mp (not (isUp (x .status))) _ (restart-at presumption (suc n) (x .status)) (of-true (ap not (is-up u))))
 
@@ -146,7 +146,7 @@ heard-given v p (received m q) g o = subst (λ (z : ℕ). T (sentIn v z m)) o (g
 
 -- ---- at a stranger nothing happens
 
-none-restarts : (c : Presumption) (p t : ℕ) → participantRestart c p (λ k. holds t k []) ≡ record { effects = []; phase = Participant.unknown }
+none-restarts : (c : Presumption) (p t : ℕ) → participantRestart c p (λ k. holds t k []) ≡ record { effects = []; phase = ParticipantPhase.unknown }
 unfolding participantRestart restartWith holds any
 none-restarts c p t = refl
 
@@ -185,7 +185,7 @@ module _ (t : ℕ) (h : Standing) (v : View) (inv : Inv t h v) where
       go true e x = absurd (empty-none (v .transaction .cohort .members) (suc n) (of-true u) (of-true e))
       go false e x = stranger-after refl x (reach-started t n v (from-stranger x))
 
-  pub row-kept : {row : Row Participant} {w : View} (n : ℕ) (i : Input) → T (member (suc n) (v .transaction .cohort .members)) → Up v (suc n) → Given v i
+  pub row-kept : {row : Row ParticipantPhase} {w : View} (n : ℕ) (i : Input) → T (member (suc n) (v .transaction .cohort .members)) → Up v (suc n) → Given v i
       → Own (suc n) i
       → participantStep (presumptionOf (v .transaction .cohort) (suc n)) (suc n) i (v .transaction .participant (suc n)) ≡ some row
       → Carried t (suc n) (row .effects) (viewSettle (withParticipant (suc n) (row .phase))) v w → Inv t h w
@@ -205,20 +205,20 @@ module _ (t : ℕ) (h : Standing) (v : View) (inv : Inv t h v) where
       go true e x = member-after timer x tt (discard-passed x u c) (reach-dropped t n v (from-member x))
       go false e x = absurd (true≢false (sym c ∙ ap (newest closes) (x .stable) ∙ none-closes))
 
-  pub return-kept : {row : Row Participant} {w : View} (n : ℕ) → v .site (suc n) .up ≡ false
+  pub return-kept : {row : Row ParticipantPhase} {w : View} (n : ℕ) → v .site (suc n) .up ≡ false
       → participantRestart (presumptionOf (v .transaction .cohort) (suc n)) (suc n) (λ k. holds t k (v .site (suc n) .stable)) ≡ row
       → Carried t (suc n) (row .effects) (viewStart (suc n) (withParticipant (suc n) (row .phase))) v w → Inv t h w
   return-kept {row} {w} n u e c = either n go
     where
-      restarted : List LogRecord → Row Participant
+      restarted : List LogRecord → Row ParticipantPhase
       restarted l = participantRestart (presumptionOf (v .transaction .cohort) (suc n)) (suc n) (λ k. holds t k l)
 
-      carried : Row Participant → Type 0
+      carried : Row ParticipantPhase → Type 0
       carried r = Carried t (suc n) (r .effects) (viewStart (suc n) (withParticipant (suc n) (r .phase))) v w
 
       go : (b : Bool) → Moves n w b
       go true q x =
           member-carried timer x tt
-          (subst (λ (r : Row Participant). AllProper (v .transaction .cohort) (suc n) (r .effects)) e (returned-proper (v .transaction .cohort) (suc n) _))
+          (subst (λ (r : Row ParticipantPhase). AllProper (v .transaction .cohort) (suc n) (r .effects)) e (returned-proper (v .transaction .cohort) (suc n) _))
           woken _ (λ y z r. reach-woken t n v (row .phase) r) (restart-passed x u e) c
       go false q x = stranger-carried x (subst carried (sym e ∙ ap restarted (x .stable) ∙ none-restarts _ (suc n) t) c)

@@ -12,15 +12,15 @@ use Rattle.codec.specs.laws.Tests.{and-left, and-right}
 use Rattle.site.specs.Presumption.{Outcome, Presumption}
 use Rattle.site.specs.Cohort.{Cohort, presumptionOf}
 use Rattle.site.specs.Step.{Message, prepare, voteYes, messageKind, Input, begin, timer, received, Row}
-use Rattle.site.specs.Participant.{Participant}
+use Rattle.site.specs.Participant.{ParticipantPhase}
 use Rattle.joint.specs.State.{Site, withParticipant}
-use Rattle.joint.proofs.Booleans.{_⇒_, mp, or-right, or-both, or-map}
+use Rattle.joint.proofs.base.Booleans.{_⇒_, mp, or-right, or-both, or-map}
 use Rattle.joint.proofs.view.View.{View, viewEffects}
 use Rattle.joint.proofs.view.Turn.{Carried, whole, cutAfter, viewStart}
 use Rattle.joint.proofs.safety.Tables.{Status, isUp, stableKinds, unforcedKinds, Stage, fits, may, mayEnter, Fine}
 use Rattle.joint.proofs.safety.Finite.{allMessage, at-message, allOutcome, at-outcome}
 use Rattle.joint.proofs.safety.Sets.{belongs}
-use Rattle.joint.proofs.Lists.{each-take, take-none}
+use Rattle.joint.proofs.base.Lists.{each-take, take-none}
 use Rattle.joint.proofs.safety.Invariant.{Standing, stageOf, siteWith, sentIn, Member, Stranger, Place, Inv}
 use Rattle.joint.proofs.safety.participant.Rows.{Part, still, ofStatus, heard, lands, rowTest, Landed, landed, row-whole, row-cut}
 use Rattle.joint.proofs.safety.participant.Local.{Local, local, Elsewhere, elsewhere-none, Reached, AllProper, reach-effects, reach-down, reach-woken}
@@ -170,9 +170,9 @@ module _ {t : ℕ} {m : Stage} {n : ℕ} {v : View} where
       here = λ a. siteWith (v .transaction .cohort) t (suc n) (l .reached .up a) (l .reached .stable a) (l .reached .unforced a)
 
   -- a row of the member, whole or cut
-  pub member-carried : {w : View} {row : Row Participant} (i : Input) (x : Member t m n v) → T (heard i (sentIn v (suc n)))
+  pub member-carried : {w : View} {row : Row ParticipantPhase} (i : Input) (x : Member t m n v) → T (heard i (sentIn v (suc n)))
       → AllProper (v .transaction .cohort) (suc n) (row .effects)
-      → (f : Participant → Part → Part) (g : View → View)
+      → (f : ParticipantPhase → Part → Part) (g : View → View)
       → ((y : Part) (u : View) → Reached t (suc n) v y u → Reached t (suc n) v (f (row .phase) y) (g u))
       → T (rowTest (presumptionOf (v .transaction .cohort) (suc n)) i (x .status) f row)
       → Carried t (suc n) (row .effects) g v w → Elsewhere (suc n) v w × Member t m n w
@@ -196,7 +196,7 @@ module _ {t n : ℕ} {v : View} where
         elsewhere = elsewhere-none;
       }
 
-  pub stranger-after : {w : View} {u : Bool} {x : Participant} {ks : List ℕ} → ks ≡ [] → Stranger n v → Reached t (suc n) v (still u x ks []) w
+  pub stranger-after : {w : View} {u : Bool} {x : ParticipantPhase} {ks : List ℕ} → ks ≡ [] → Stranger n v → Reached t (suc n) v (still u x ks []) w
       → Elsewhere (suc n) v w × Stranger n w
   stranger-after e x r = (
     r .elsewhere,
@@ -209,9 +209,9 @@ module _ {t n : ℕ} {v : View} where
   )
 
   -- a row without effects
-  pub stranger-carried : {w : View} → Stranger n v → Carried t (suc n) [] (viewStart (suc n) (withParticipant (suc n) Participant.unknown)) v w
+  pub stranger-carried : {w : View} → Stranger n v → Carried t (suc n) [] (viewStart (suc n) (withParticipant (suc n) ParticipantPhase.unknown)) v w
       → Elsewhere (suc n) v w × Stranger n w
   unfolding viewEffects
-  stranger-carried x whole = stranger-after refl x (reach-woken t n v Participant.unknown (from-stranger x))
+  stranger-carried x whole = stranger-after refl x (reach-woken t n v ParticipantPhase.unknown (from-stranger x))
   stranger-carried x (cutAfter zero b) = stranger-after (take-none b) x (reach-down t n v b (from-stranger x))
   stranger-carried x (cutAfter (suc a) b) = stranger-after (take-none b) x (reach-down t n v b (from-stranger x))

@@ -14,21 +14,21 @@ use Rattle.site.specs.Open.{site-opens}
 use Rattle.site.specs.Presumption.{Outcome, commit, abort, sameOutcome, Presumption}
 use Rattle.site.specs.Cohort.{Cohort}
 use Rattle.site.specs.Step.{Message, prepare, voteYes, messageKind, Input, begin, timer, received, Effect, append, force, enter, send, Row}
-use Rattle.site.specs.Participant.{Participant, participantStep, participantRestart}
+use Rattle.site.specs.Participant.{ParticipantPhase, participantStep, participantRestart}
 use Rattle.site.specs.Numbers.{participantPhase, participantOf}
 use Rattle.joint.specs.Plan.{closes, newest}
-use Rattle.joint.proofs.Booleans.{_⇒_, mp}
+use Rattle.joint.proofs.base.Booleans.{_⇒_, mp}
 use Rattle.joint.proofs.safety.Tables.{Status, working, prepared, gone, half, lone, shut, off, offVoted, offShut, isUp, phaseOf, stableKinds, unforcedKinds, has, Stage, fits, may, mayEnter}
 use Rattle.joint.proofs.safety.Finite.{allBool, at-bool, allOutcome, allPresumption, at-presumption, allStatus, at-status, allStage, at-stage, allMessage, at-message}
 use Rattle.joint.proofs.safety.Invariant.{recordFor}
-use Rattle.joint.proofs.Lists.{any-found}
+use Rattle.joint.proofs.base.Lists.{any-found}
 
 -- ---- a participant, by kinds
 
 -- up or down, its phase and its records; since some moment: what it sent and entered, and whether it voted Yes from a stable record
 pub record Part : Type 0 where
   pub up : Bool
-  pub phase : Participant
+  pub phase : ParticipantPhase
   pub stable : List ℕ
   pub unforced : List ℕ
   pub sent : Message → Bool
@@ -36,7 +36,7 @@ pub record Part : Type 0 where
   pub voted : Bool
 
 -- nothing is sent, entered or voted
-abbrev pub still : Bool → Participant → List ℕ → List ℕ → Part
+abbrev pub still : Bool → ParticipantPhase → List ℕ → List ℕ → Part
 still u x ks js =
     record { up = u; phase = x; stable = ks; unforced = js; sent = λ g. false; entered = λ o. false; voted = false }
 
@@ -44,7 +44,7 @@ abbrev pub ofStatus : Status → Part
 ofStatus s = still (isUp s) (phaseOf s) (stableKinds s) (unforcedKinds s)
 
 -- what it sent, entered and voted stays
-abbrev pub moved : Bool → Participant → List ℕ → List ℕ → Part → Part
+abbrev pub moved : Bool → ParticipantPhase → List ℕ → List ℕ → Part → Part
 moved u x ks js y =
     record { up = u; phase = x; stable = ks; unforced = js; sent = y .sent; entered = y .entered; voted = y .voted }
 
@@ -78,18 +78,18 @@ effects (e ∷ es) y = effects es (effect e y)
 
 -- down, with these unforced records kept
 abbrev pub halted : List ℕ → Part → Part
-halted ks y = moved false Participant.unknown (y .stable ++ ks) [] y
+halted ks y = moved false ParticipantPhase.unknown (y .stable ++ ks) [] y
 
-abbrev pub settled : Participant → Part → Part
+abbrev pub settled : ParticipantPhase → Part → Part
 settled x y = moved (y .up) x (y .stable) (y .unforced) y
 
 -- up, in phase x
-abbrev pub woken : Participant → Part → Part
+abbrev pub woken : ParticipantPhase → Part → Part
 woken x y = moved true x (y .stable) (y .unforced) y
 
 -- with no record left it is Unknown
-abbrev pub phaseLeft : List ℕ → Participant → Participant
-phaseLeft [] x = Participant.unknown
+abbrev pub phaseLeft : List ℕ → ParticipantPhase → ParticipantPhase
+phaseLeft [] x = ParticipantPhase.unknown
 phaseLeft (k ∷ ks) x = x
 
 -- the oldest stable record is gone
@@ -151,7 +151,7 @@ abbrev cutTest : Presumption → Input → Status → Part → Bool
 cutTest c i s y = allFirst (λ ks. lands c i s (halted ks y)) (y .unforced)
 
 -- a row's effects, all and then f, or some and then a cut
-abbrev pub rowTest : Presumption → Input → Status → (Participant → Part → Part) → Row Participant → Bool
+abbrev pub rowTest : Presumption → Input → Status → (ParticipantPhase → Part → Part) → Row ParticipantPhase → Bool
 rowTest c i s f r =
     lands c i s (f (r .phase) (effects (r .effects) (ofStatus s)))
     && allFirst (λ es. cutTest c i s (effects es (ofStatus s))) (r .effects)
@@ -159,7 +159,7 @@ rowTest c i s f r =
 cut-at : (c : Presumption) (i : Input) (s : Status) (y : Part) → T (cutTest c i s y) → (b : ℕ) → T (lands c i s (halted (take b (y .unforced)) y))
 cut-at c i s y h b = at-first (λ ks. lands c i s (halted ks y)) (y .unforced) h b
 
-module _ (c : Presumption) (i : Input) (s : Status) (f : Participant → Part → Part) (r : Row Participant) (h : T (rowTest c i s f r)) where
+module _ (c : Presumption) (i : Input) (s : Status) (f : ParticipantPhase → Part → Part) (r : Row ParticipantPhase) (h : T (rowTest c i s f r)) where
   abbrev after : ℕ → Part
   after a = effects (take a (r .effects)) (ofStatus s)
 
@@ -173,7 +173,7 @@ module _ (c : Presumption) (i : Input) (s : Status) (f : Participant → Part �
       (and-right (lands c i s (f (r .phase) (effects (r .effects) (ofStatus s)))) _ h) a)
       b
 
-abbrev pub onRow : (Row Participant → Bool) → Option (Row Participant) → Bool
+abbrev pub onRow : (Row ParticipantPhase → Bool) → Option (Row ParticipantPhase) → Bool
 onRow f none = true
 onRow f (some r) = f r
 
@@ -251,13 +251,13 @@ module _ (g : Cohort) (t p : ℕ) where
 
 -- ---- what a passed test says
 
-phase-number : (x : Participant) → participantOf (participantPhase x) ≡ x
+phase-number : (x : ParticipantPhase) → participantOf (participantPhase x) ≡ x
 unfolding participantOf participantPhase
-phase-number Participant.working = refl
-phase-number Participant.prepared = refl
-phase-number (Participant.decided commit) = refl
-phase-number (Participant.decided abort) = refl
-phase-number Participant.unknown = refl
+phase-number ParticipantPhase.working = refl
+phase-number ParticipantPhase.prepared = refl
+phase-number (ParticipantPhase.decided commit) = refl
+phase-number (ParticipantPhase.decided abort) = refl
+phase-number ParticipantPhase.unknown = refl
 
 -- y is as in status s
 pub record As (s : Status) (y : Part) : Type 0 where

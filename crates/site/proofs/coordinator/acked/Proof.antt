@@ -10,19 +10,13 @@ use Rattle.site.proofs.Rows.{end-appended}
 use Rattle.site.proofs.coordinator.acked.Statement.{statement}
 use Rattle.site.proofs.coordinator.acked.Tie as tie
 
-end-record-requires : tie.Need-end-record-requires
-end-record-requires c κs = tt
-
 returns : tie.Need-returns
 unfolding acked empty effectsIn entryOf closing sending messages given
 returns c = rw (c .end-record .ensures, c .before .if1 .taken, end-appended (outcomeIn (c .before .before .args .outcome)) 0 0, ordered-none 0)
-
-awaiting-requires : tie.Need-awaiting-requires
-awaiting-requires c κs = tt
 
 returns-2 : tie.Need-returns-2
 unfolding acked empty effectsIn appending entryOf closing sending messages given
 returns-2 c = rw (c .awaiting .ensures, ne-eqb (c .before .before .args .waiting) 0 (c .before .if1 .left), ordered-none 0)
 
 pub acked-spec : {M : Type 1} → statement M
-acked-spec = tie.close (tie.spec end-record-requires returns awaiting-requires returns-2)
+acked-spec = tie.close (tie.spec (λ c κs. tt) returns (λ c κs. tt) returns-2)

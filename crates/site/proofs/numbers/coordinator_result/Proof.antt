@@ -8,27 +8,6 @@ use Rattle.site.proofs.numbers.coordinator_result.Tie as tie
 enum-told : tie.Need-enum-told
 enum-told c = search needs
 
-enum-told-2 : tie.Need-enum-told-2
-enum-told-2 c = search needs
-
-packed-requires : tie.Need-packed-requires
-packed-requires c κs = tt
-
-enum-known-answer : tie.Need-enum-known-answer
-enum-known-answer c = search needs
-
-number-requires : tie.Need-number-requires
-number-requires c κs = tt
-
-waiting-requires : tie.Need-waiting-requires
-waiting-requires c κs = tt
-
-summary-requires : tie.Need-summary-requires
-summary-requires c κs = tt
-
-packed-requires-2 : tie.Need-packed-requires-2
-packed-requires-2 c κs = tt
-
 returns : tie.Need-returns
 unfolding coordinatorResult coordinatorValues answerNumber noValues packed
 returns c = rw (c .enum-told .given .1)
@@ -53,13 +32,13 @@ coordinator-result-spec =
     tie.close
     (tie.spec
     enum-told
-    enum-told-2
-    packed-requires
-    enum-known-answer
-    number-requires
-    waiting-requires
-    summary-requires
-    packed-requires-2
+    (λ c. search needs)
+    (λ c κs. tt)
+    (λ c. search needs)
+    (λ c κs. tt)
+    (λ c κs. tt)
+    (λ c κs. tt)
+    (λ c κs. tt)
     returns
     returns-2
     returns-3)

@@ -7,18 +7,6 @@ use Rattle.site.proofs.Accepted.{named, fits, coordinator-refused, coor
 use Rattle.site.proofs.numbers.coordinator_step.Statement.{statement}
 use Rattle.site.proofs.numbers.coordinator_step.Tie as tie
 
-from-numbers-requires : tie.Need-from-numbers-requires
-from-numbers-requires c κs = tt
-
-presumption-requires : tie.Need-presumption-requires
-presumption-requires c κs = tt
-
-number-requires : tie.Need-number-requires
-number-requires c κs = tt
-
-waiting-in-range-requires : tie.Need-waiting-in-range-requires
-waiting-in-range-requires c κs = tt
-
 returns : tie.Need-returns
 unfolding packed refusal noValues
 returns c =
@@ -28,12 +16,6 @@ returns c =
     rw (sym (c .before .before .before .presumption .ensures), sym (c .before .before .number .ensures), sym (c .before .waiting-in-range .ensures))
     (c .if1 .taken) in
     rw (coordinator-refused a (not-true (named a && fits a) e))
-
-step-requires : tie.Need-step-requires
-step-requires c κs = tt
-
-coordinator-result-requires : tie.Need-coordinator-result-requires
-coordinator-result-requires c κs = tt
 
 returns-2 : tie.Need-returns-2
 returns-2 c =
@@ -57,11 +39,11 @@ pub coordinator-step-spec : {M : Type 1} → statement M
 coordinator-step-spec =
     tie.close
     (tie.spec
-    from-numbers-requires
-    presumption-requires
-    number-requires
-    waiting-in-range-requires
+    (λ c κs. tt)
+    (λ c κs. tt)
+    (λ c κs. tt)
+    (λ c κs. tt)
     returns
-    step-requires
-    coordinator-result-requires
+    (λ c κs. tt)
+    (λ c κs. tt)
     returns-2)

@@ -7,9 +7,6 @@ use Rattle.site.proofs.Accepted.{wrong, call-refused, call-coordinator,
 use Rattle.site.proofs.numbers.dpr_site_step.Statement.{statement}
 use Rattle.site.proofs.numbers.dpr_site_step.Tie as tie
 
-part-requires : tie.Need-part-requires
-part-requires c κs = tt
-
 returns : tie.Need-returns
 unfolding packed refusal noValues
 returns c =
@@ -18,9 +15,6 @@ returns c =
     let e : wrong a ≡ true = rw (sym (c .before .part .ensures)) (c .if1 .taken) in
     rw (call-refused a (omega arith) e)
 
-coordinator-step-requires : tie.Need-coordinator-step-requires
-coordinator-step-requires c κs = tt
-
 returns-2 : tie.Need-returns-2
 unfolding packed refusal noValues
 returns-2 c =
@@ -28,9 +22,6 @@ returns-2 c =
     let a = argumentsIn (s .args .site) (s .args .kind) (s .args .transaction) (s .args .participant) (s .args .presumption) (s .args .phase) (s .args .waiting) (s .args .members) (s .args .presume-commit) in
     let e : wrong a ≡ false = rw (sym (c .before .before .before .before .part .ensures)) (c .before .before .before .if1 .left) in
     rw (call-foreign a (omega arith) e (c .before .before .match .rest .1) (c .if3 .taken))
-
-participant-step-requires : tie.Need-participant-step-requires
-participant-step-requires c κs = tt
 
 returns-3 : tie.Need-returns-3
 returns-3 c =
@@ -61,11 +52,11 @@ pub dpr-site-step-spec : {M : Type 1} → statement M
 dpr-site-step-spec =
     tie.close
     (tie.spec
-    part-requires
+    (λ c κs. tt)
     returns
-    coordinator-step-requires
+    (λ c κs. tt)
     returns-2
-    participant-step-requires
+    (λ c κs. tt)
     returns-3
     returns-4
     returns-5)

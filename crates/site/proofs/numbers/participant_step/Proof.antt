@@ -10,15 +10,6 @@ use Rattle.site.proofs.ByKind.{member-among}
 use Rattle.site.proofs.numbers.participant_step.Statement.{statement}
 use Rattle.site.proofs.numbers.participant_step.Tie as tie
 
-presumption-requires : tie.Need-presumption-requires
-presumption-requires c κs = tt
-
-member-requires : tie.Need-member-requires
-member-requires c κs = tt
-
-number-requires : tie.Need-number-requires
-number-requires c κs = tt
-
 returns : tie.Need-returns
 unfolding packed refusal noValues isMember
 returns c =
@@ -28,15 +19,6 @@ returns c =
     rw (sym (c .before .before .before .presumption .ensures), sym (c .before .number .ensures), sym (c .before .before .member .ensures))
     (c .if1 .taken) in
     rw (participant-refused a (not-true (isMember a) e))
-
-from-number-requires : tie.Need-from-number-requires
-from-number-requires c κs = tt
-
-step-requires : tie.Need-step-requires
-step-requires c κs = tt
-
-participant-result-requires : tie.Need-participant-result-requires
-participant-result-requires c κs = tt
 
 returns-2 : tie.Need-returns-2
 unfolding isMember
@@ -64,11 +46,11 @@ pub participant-step-spec : {M : Type 1} → statement M
 participant-step-spec =
     tie.close
     (tie.spec
-    presumption-requires
-    member-requires
-    number-requires
+    (λ c κs. tt)
+    (λ c κs. tt)
+    (λ c κs. tt)
     returns
-    from-number-requires
-    step-requires
-    participant-result-requires
+    (λ c κs. tt)
+    (λ c κs. tt)
+    (λ c κs. tt)
     returns-2)

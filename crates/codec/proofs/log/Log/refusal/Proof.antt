@@ -54,39 +54,15 @@ answered c =
     let x = getD (l .records) (w .loop .i) noRecord in
     c .judged .ensures ∙ ap (λ (y : Record). answerOn (l .site) (bytesOf (recordIn x)) (recordIn y) x) (c .before .behind .ensures)
 
-over-limit-requires : tie.Need-over-limit-requires Inv-loop μ-loop
-over-limit-requires c κs = tt
-
 returns : tie.Need-returns Inv-loop μ-loop
 returns c = let s = c .before .before in
     let l = s .args .self in
     sym (refused-limit (l .site) (logIn l) (ap (overLimit (l .site)) (held-count l (fit s)) ∙ sym (c .before .over-limit .ensures) ∙ c .if1 .taken))
 
-none-requires : tie.Need-none-requires Inv-loop μ-loop
-none-requires c κs = tt
-
 loop-holds : tie.Need-loop-holds Inv-loop μ-loop
 loop-holds c = let w = c .before .before in
     let l = w .before .before .args .self in
     (few-records (l .site) (l .count) (limits w), (fit (w .before .before), rw (c .none .ensures) (passed-none _ _)))
-
-mul-next : tie.Need-mul-next Inv-loop μ-loop
-mul-next c = search needs
-
-array-copy-out-next : tie.Need-array-copy-out-next Inv-loop μ-loop
-array-copy-out-next c = search needs
-
-behind-requires : tie.Need-behind-requires Inv-loop μ-loop
-behind-requires c κs = tt
-
-judged-requires : tie.Need-judged-requires Inv-loop μ-loop
-judged-requires c κs = tt
-
-enum-known-answer : tie.Need-enum-known-answer Inv-loop μ-loop
-enum-known-answer c = search needs
-
-number-requires : tie.Need-number-requires Inv-loop μ-loop
-number-requires c κs = tt
 
 returns-2 : tie.Need-returns-2 Inv-loop μ-loop
 returns-2 c = let judged = c .before .before in
@@ -97,15 +73,6 @@ returns-2 c = let judged = c .before .before in
     ∙ log-stopped (l .site) (l .count) (l .records) (w .loop .newest .of) (w .loop .i) (w .loop .inv .1 .1) (judged .before .before .before .loop-test .taken) (few w)
     (λ e. not-accepted (judged .judged .result) (c .before .match .keys2) (number ∙ e))
     ∙ whole (w .before .before .before)
-
-with-requires : tie.Need-with-requires Inv-loop μ-loop
-with-requires c κs = tt
-
-add-i : tie.Need-add-i Inv-loop μ-loop
-add-i c = search needs
-
-loop-less : tie.Need-loop-less Inv-loop μ-loop
-loop-less c = search needs
 
 loop-again : tie.Need-loop-again Inv-loop μ-loop
 loop-again c = let w = c .before .before .before .before .before .before .before .before in
@@ -130,19 +97,19 @@ refusal-spec =
     (tie.spec
     Inv-loop
     μ-loop
-    over-limit-requires
+    (λ c κs. tt)
     returns
-    none-requires
+    (λ c κs. tt)
     loop-holds
-    mul-next
-    array-copy-out-next
-    behind-requires
-    judged-requires
-    enum-known-answer
-    number-requires
+    (λ c. search needs)
+    (λ c. search needs)
+    (λ c κs. tt)
+    (λ c κs. tt)
+    (λ c. search needs)
+    (λ c κs. tt)
     returns-2
-    with-requires
-    add-i
-    loop-less
+    (λ c κs. tt)
+    (λ c. search needs)
+    (λ c. search needs)
     loop-again
     returns-3)

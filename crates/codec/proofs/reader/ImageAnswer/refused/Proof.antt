@@ -4,12 +4,9 @@ use Rattle.codec.specs.declared.log.Log.{Log}
 use Rattle.codec.proofs.reader.ImageAnswer.refused.Statement.{statement}
 use Rattle.codec.proofs.reader.ImageAnswer.refused.Tie as tie
 
-new-requires : tie.Need-new-requires
-new-requires c κs = tt
-
 returns : tie.Need-returns
 unfolding values imageValues logIn
 returns c = ap (λ (l : Log). imageValues (record { answer = c .before .args .answer; index = c .before .args .index; log = l })) (c .new .ensures)
 
 pub refused-spec : {M : Type 1} → statement M
-refused-spec = tie.close (tie.spec new-requires returns)
+refused-spec = tie.close (tie.spec (λ c κs. tt) returns)

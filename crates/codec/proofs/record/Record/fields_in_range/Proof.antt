@@ -5,12 +5,6 @@ use borrow.Author.Needs.{needs}
 use Rattle.codec.proofs.record.Record.fields_in_range.Statement.{statement}
 use Rattle.codec.proofs.record.Record.fields_in_range.Tie as tie
 
-part-requires : tie.Need-part-requires
-part-requires c κs = search needs
-
-part-requires-2 : tie.Need-part-requires-2
-part-requires-2 c κs = search needs
-
 returns : tie.Need-returns
 returns c = rw (c .part .ensures) (sym (fields-init (c .before .before .args .self) (omega arith) (c .before .match .keys1)))
 
@@ -33,8 +27,8 @@ pub fields-in-range-spec : {M : Type 1} → statement M
 fields-in-range-spec =
     tie.close
     (tie.spec
-    part-requires
-    part-requires-2
+    (λ c κs. search needs)
+    (λ c κs. search needs)
     returns
     returns-2
     returns-3

@@ -11,27 +11,9 @@ returns c = sym (newest-no-kind (c .before .args .newest) (c .before .args .self
 returns-2 : tie.Need-returns-2
 returns-2 c = sym (next-no-kind (c .before .before .args .newest) (c .before .before .args .self) (c .if2 .taken))
 
-awaits-acks-requires : tie.Need-awaits-acks-requires
-awaits-acks-requires c κs = tt
-
 returns-3 : tie.Need-returns-3
 returns-3 c = let a = c .before .before .before .before .args in
     c .awaits-acks .ensures ∙ sym (end-behind-commit (a .newest) (a .self) (c .before .if3 .taken))
-
-cast-tabled : tie.Need-cast-tabled
-cast-tabled c = search needs
-
-mul-tabled : tie.Need-mul-tabled
-mul-tabled c = search needs
-
-array-read-tabled : tie.Need-array-read-tabled
-array-read-tabled c = search needs
-
-cast-tabled-2 : tie.Need-cast-tabled-2
-cast-tabled-2 c = search needs
-
-shr-tabled : tie.Need-shr-tabled
-shr-tabled c = search needs
 
 returns-4 : tie.Need-returns-4
 unfolding nextKinds
@@ -46,11 +28,11 @@ follows-spec =
     (tie.spec
     returns
     returns-2
-    awaits-acks-requires
+    (λ c κs. tt)
     returns-3
-    cast-tabled
-    mul-tabled
-    array-read-tabled
-    cast-tabled-2
-    shr-tabled
+    (λ c. search needs)
+    (λ c. search needs)
+    (λ c. search needs)
+    (λ c. search needs)
+    (λ c. search needs)
     returns-4)

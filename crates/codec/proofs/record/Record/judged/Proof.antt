@@ -12,9 +12,6 @@ use Rattle.codec.proofs.record.Record.judged.Tie as tie
 kind : (c : tie.Else1) → recordKindAt (c .before .before .args .site) (c .before .before .args .self .kind) ≡ true
 kind c = sym (c .before .kind-at .ensures) ∙ not-false _ (c .if1 .left)
 
-kind-at-requires : tie.Need-kind-at-requires
-kind-at-requires c κs = tt
-
 returns : tie.Need-returns
 unfolding answerTo
 returns c = let a = c .before .before .args in
@@ -25,17 +22,11 @@ unfolding answerTo
 returns-2 c = let a = c .before .before .before .args in
     rw (judged-by (a .site) (a .self) (recordIn (a .newest)), kind (c .before), lt-ltb _ _ (c .if2 .taken))
 
-fields-in-range-requires : tie.Need-fields-in-range-requires
-fields-in-range-requires c κs = tt
-
 returns-3 : tie.Need-returns-3
 unfolding answerTo
 returns-3 c = let low = c .before .before in
     let a = low .before .before .before .args in
     rw (judged-by (a .site) (a .self) (recordIn (a .newest)), kind (low .before), le-ltb _ _ (low .if2 .left), sym (c .before .fields-in-range .ensures) ∙ not-true _ (c .if3 .taken))
-
-follows-requires : tie.Need-follows-requires
-follows-requires c κs = tt
 
 returns-4 : tie.Need-returns-4
 unfolding answerTo
@@ -55,11 +46,11 @@ pub judged-spec : {M : Type 1} → statement M
 judged-spec =
     tie.close
     (tie.spec
-    kind-at-requires
+    (λ c κs. tt)
     returns
     returns-2
-    fields-in-range-requires
+    (λ c κs. tt)
     returns-3
-    follows-requires
+    (λ c κs. tt)
     returns-4
     returns-5)

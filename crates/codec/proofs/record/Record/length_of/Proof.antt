@@ -11,9 +11,6 @@ returns : tie.Need-returns
 unfolding lengthOf lengths
 returns c = sym (List·getD-eq-default lengths 0 (c .if1 .taken))
 
-array-read-result : tie.Need-array-read-result
-array-read-result c = search needs
-
 cast-result : tie.Need-cast-result
 unfolding lengthOf lengths
 cast-result c = omega (arith, length-most (c .before .args .kind))
@@ -23,4 +20,4 @@ unfolding lengthOf lengths
 returns-2 c = refl
 
 pub length-of-spec : {M : Type 1} → statement M
-length-of-spec = tie.close (tie.spec returns array-read-result cast-result returns-2)
+length-of-spec = tie.close (tie.spec returns (λ c. search needs) cast-result returns-2)

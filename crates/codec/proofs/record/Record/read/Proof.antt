@@ -9,24 +9,12 @@ use Rattle.codec.specs.laws.Fields.{wrong-length, read-as}
 use Rattle.codec.proofs.record.Record.read.Statement.{statement}
 use Rattle.codec.proofs.record.Record.read.Tie as tie
 
-from-bytes-requires : tie.Need-from-bytes-requires
-from-bytes-requires c κs = tt
-
-length-of-requires : tie.Need-length-of-requires
-length-of-requires c κs = tt
-
 returns : tie.Need-returns
 unfolding answerTo recordFrom
 returns c = let w = c .before .before in
     let a = w .before .before .args in
     let size = c .before .length-of .ensures ∙ ap (λ (x : Record). lengthOf (x .kind)) (w .from-bytes .ensures) in
     rw (wrong-length (a .site) (now (a .bytes)) (λ e. c .if1 .taken (e ∙ sym size)))
-
-behind-requires : tie.Need-behind-requires
-behind-requires c κs = tt
-
-judged-requires : tie.Need-judged-requires
-judged-requires c κs = tt
 
 returns-2 : tie.Need-returns-2
 unfolding recordFrom
@@ -39,9 +27,9 @@ pub read-spec : {M : Type 1} → statement M
 read-spec =
     tie.close
     (tie.spec
-    from-bytes-requires
-    length-of-requires
+    (λ c κs. tt)
+    (λ c κs. tt)
     returns
-    behind-requires
-    judged-requires
+    (λ c κs. tt)
+    (λ c κs. tt)
     returns-2)

@@ -1,13 +1,10 @@
 use mathlib.Core.Path.{ap}
 use borrow.Author.Needs.{needs}
-use Rattle.joint.specs.Stand.{answerIn, refusalNumber}
+use Rattle.joint.specs.Answers.{answerIn, refusalNumber}
 use Rattle.joint.specs.Run.{Answer}
-use Rattle.joint.proofs.stand.AnswerCounts.{refused-counts}
+use Rattle.joint.proofs.engine.Refused.{refused-counts}
 use Rattle.joint.proofs.answers.Answer.records.Statement.{statement}
 use Rattle.joint.proofs.answers.Answer.records.Tie as tie
-
-enum-known-self : tie.Need-enum-known-self
-enum-known-self c = search needs
 
 returns : tie.Need-returns
 unfolding answerIn
@@ -18,4 +15,4 @@ unfolding refusalNumber
 returns-2 c = ap (λ (a : Answer). a .records) (refused-counts (c .before .args .self) (c .match .keys2))
 
 pub records-spec : {M : Type 1} → statement M
-records-spec = tie.close (tie.spec enum-known-self returns returns-2)
+records-spec = tie.close (tie.spec (λ c. search needs) returns returns-2)

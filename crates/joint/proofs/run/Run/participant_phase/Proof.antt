@@ -4,16 +4,10 @@ use Rattle.joint.specs.State as plain
 use Rattle.joint.proofs.run.Run.participant_phase.Statement.{statement}
 use Rattle.joint.proofs.run.Run.participant_phase.Tie as tie
 
-transaction-requires : tie.Need-transaction-requires
-transaction-requires c κs = search needs
-
-participant-phase-requires : tie.Need-participant-phase-requires
-participant-phase-requires c κs = search needs
-
 returns : tie.Need-returns
 returns c =
     let a = c .before .before .args in
     c .participant-phase .ensures ∙ ap (λ (x : plain.Transaction). x .participant (a .participant)) (c .before .transaction .ensures)
 
 pub participant-phase-spec : {M : Type 1} → statement M
-participant-phase-spec = tie.close (tie.spec transaction-requires participant-phase-requires returns)
+participant-phase-spec = tie.close (tie.spec (λ c κs. search needs) (λ c κs. search needs) returns)

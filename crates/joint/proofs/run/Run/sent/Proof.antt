@@ -4,16 +4,10 @@ use Rattle.joint.specs.State as plain
 use Rattle.joint.proofs.run.Run.sent.Statement.{statement}
 use Rattle.joint.proofs.run.Run.sent.Tie as tie
 
-transaction-requires : tie.Need-transaction-requires
-transaction-requires c κs = search needs
-
-sent-requires : tie.Need-sent-requires
-sent-requires c κs = search needs
-
 returns : tie.Need-returns
 returns c =
     let a = c .before .before .args in
     c .sent .ensures ∙ ap (λ (x : plain.Transaction). x .sent (a .participant) (a .kind)) (c .before .transaction .ensures)
 
 pub sent-spec : {M : Type 1} → statement M
-sent-spec = tie.close (tie.spec transaction-requires sent-requires returns)
+sent-spec = tie.close (tie.spec (λ c κs. search needs) (λ c κs. search needs) returns)

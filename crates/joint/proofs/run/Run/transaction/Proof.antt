@@ -1,26 +1,17 @@
 use mathlib.Core.Path.{_≡_, sym, ap, _∙_}
 use lib.ListN.{length}
 use borrow.Author.Needs.{needs}
-use Rattle.joint.specs.Stand.{transactionIn}
-use Rattle.joint.proofs.stand.Arrays.{length-shown}
-use Rattle.joint.proofs.stand.Reads.{transaction-read, transaction-past}
+use Rattle.joint.specs.Answers.{transactionIn}
+use Rattle.joint.proofs.engine.Arrays.{length-shown}
+use Rattle.joint.proofs.engine.Reads.{transaction-read, transaction-past}
 use Rattle.joint.proofs.run.Run.transaction.Statement.{statement}
 use Rattle.joint.proofs.run.Run.transaction.Tie as tie
-
-new-requires : tie.Need-new-requires
-new-requires c κs = search needs
 
 returns : tie.Need-returns
 returns c =
     let a = c .before .before .args in
     let e : length (a .t1 .transactions) ≡ 8 = search length-shown in
     ap transactionIn (c .new .ensures) ∙ sym (transaction-past (a .t1) (a .transaction) e (search needs))
-
-mul-result : tie.Need-mul-result
-mul-result c = search needs
-
-element-copy-out-result : tie.Need-element-copy-out-result
-element-copy-out-result c = search needs
 
 returns-2 : tie.Need-returns-2
 returns-2 c =
@@ -30,4 +21,4 @@ returns-2 c =
 
 pub transaction-spec : {M : Type 1} → statement M
 transaction-spec =
-    tie.close (tie.spec new-requires returns mul-result element-copy-out-result returns-2)
+    tie.close (tie.spec (λ c κs. search needs) returns (λ c. search needs) (λ c. search needs) returns-2)

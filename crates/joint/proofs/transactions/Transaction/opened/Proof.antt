@@ -1,6 +1,6 @@
 use mathlib.Core.Path.{refl}
 use Rattle.codec.specs.Sets.{empty}
-use Rattle.joint.specs.Stand.{transactionIn}
+use Rattle.joint.specs.Answers.{transactionIn}
 use Rattle.joint.proofs.transactions.Transaction.opened.Statement.{statement}
 use Rattle.joint.proofs.transactions.Transaction.opened.Tie as tie
 

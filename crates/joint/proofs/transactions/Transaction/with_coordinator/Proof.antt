@@ -1,6 +1,6 @@
 use mathlib.Core.Path.{refl}
 use Rattle.joint.specs.State.{withCoordinator}
-use Rattle.joint.specs.Stand.{transactionIn}
+use Rattle.joint.specs.Answers.{transactionIn}
 use Rattle.joint.proofs.transactions.Transaction.with_coordinator.Statement.{statement}
 use Rattle.joint.proofs.transactions.Transaction.with_coordinator.Tie as tie
 

@@ -10,18 +10,6 @@ use Rattle.site.proofs.Rows.{abort-closed}
 use Rattle.site.proofs.coordinator.Coordinator.aborting.Statement.{statement}
 use Rattle.site.proofs.coordinator.Coordinator.aborting.Tie as tie
 
-owing-requires : tie.Need-owing-requires
-owing-requires c κs = tt
-
-both-requires : tie.Need-both-requires
-both-requires c κs = tt
-
-writes-init-requires : tie.Need-writes-init-requires
-writes-init-requires c κs = tt
-
-until-acked-requires : tie.Need-until-acked-requires
-until-acked-requires c κs = tt
-
 returns : tie.Need-returns
 unfolding aborting tellAll inOrder empty effectsIn appending entryOf sending messages given
 returns c =
@@ -31,4 +19,4 @@ returns c =
     rw (c .until-acked .ensures, closed, init .writes-init .ensures, made .both .ensures, made .before .owing .ensures)
 
 pub aborting-spec : {M : Type 1} → statement M
-aborting-spec = tie.close (tie.spec owing-requires both-requires writes-init-requires until-acked-requires returns)
+aborting-spec = tie.close (tie.spec (λ c κs. tt) (λ c κs. tt) (λ c κs. tt) (λ c κs. tt) returns)

@@ -7,15 +7,9 @@ use Rattle.site.specs.Coordinator.{committing, tellAll, inOrder}
 use Rattle.site.proofs.coordinator.Coordinator.committing.Statement.{statement}
 use Rattle.site.proofs.coordinator.Coordinator.committing.Tie as tie
 
-owing-requires : tie.Need-owing-requires
-owing-requires c κs = tt
-
-until-acked-requires : tie.Need-until-acked-requires
-until-acked-requires c κs = tt
-
 returns : tie.Need-returns
 unfolding effectsIn appending entryOf closing sending lengths lengthOf messages given masksOf committing tellAll inOrder
 returns c = rw (c .until-acked .ensures, c .before .owing .ensures)
 
 pub committing-spec : {M : Type 1} → statement M
-committing-spec = tie.close (tie.spec owing-requires until-acked-requires returns)
+committing-spec = tie.close (tie.spec (λ c κs. tt) (λ c κs. tt) returns)

@@ -9,27 +9,6 @@ use Rattle.site.proofs.coordinator.Coordinator.on_ack.Tie as tie
 enum-told : tie.Need-enum-told
 enum-told c = search needs
 
-enum-known-phase : tie.Need-enum-known-phase
-enum-known-phase c = search needs
-
-without-requires : tie.Need-without-requires
-without-requires c κs = tt
-
-acked-requires : tie.Need-acked-requires
-acked-requires c κs = tt
-
-enum-told-2 : tie.Need-enum-told-2
-enum-told-2 c = search needs
-
-enum-known-phase-2 : tie.Need-enum-known-phase-2
-enum-known-phase-2 c = search needs
-
-without-requires-2 : tie.Need-without-requires-2
-without-requires-2 c κs = tt
-
-acked-requires-2 : tie.Need-acked-requires-2
-acked-requires-2 c κs = tt
-
 returns : tie.Need-returns
 unfolding answered onAck ackedIf sameOutcome
 returns c =
@@ -71,13 +50,13 @@ on-ack-spec =
     tie.close
     (tie.spec
     enum-told
-    enum-known-phase
-    without-requires
-    acked-requires
-    enum-told-2
-    enum-known-phase-2
-    without-requires-2
-    acked-requires-2
+    (λ c. search needs)
+    (λ c κs. tt)
+    (λ c κs. tt)
+    (λ c. search needs)
+    (λ c. search needs)
+    (λ c κs. tt)
+    (λ c κs. tt)
     returns
     returns-2
     returns-3

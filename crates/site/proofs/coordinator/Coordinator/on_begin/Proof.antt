@@ -9,9 +9,6 @@ use Rattle.site.proofs.coordinator.Coordinator.on_begin.Tie as tie
 enum-told : tie.Need-enum-told
 enum-told c = search needs
 
-preparing-requires : tie.Need-preparing-requires
-preparing-requires c κs = tt
-
 returns : tie.Need-returns
 unfolding answered onBegin
 returns c = rw (c .preparing .ensures, c .before .enum-told .given .1)
@@ -21,4 +18,4 @@ unfolding answered
 returns-2 c = rw (no-begin (cohortIn (c .before .args .self)) (c .before .args .self .phase) (c .match .keys2))
 
 pub on-begin-spec : {M : Type 1} → statement M
-on-begin-spec = tie.close (tie.spec enum-told preparing-requires returns returns-2)
+on-begin-spec = tie.close (tie.spec enum-told (λ c κs. tt) returns returns-2)

@@ -9,12 +9,6 @@ use Rattle.site.proofs.coordinator.Coordinator.on_no.Tie as tie
 enum-told : tie.Need-enum-told
 enum-told c = search needs
 
-without-requires : tie.Need-without-requires
-without-requires c κs = tt
-
-aborting-requires : tie.Need-aborting-requires
-aborting-requires c κs = tt
-
 returns : tie.Need-returns
 unfolding answered onNo
 returns c = rw (c .aborting .ensures, c .before .without .ensures, c .before .before .enum-told .given .1)
@@ -24,4 +18,4 @@ unfolding answered
 returns-2 c = rw (no-no (cohortIn (c .before .args .self)) (c .before .args .participant) (c .before .args .self .phase) (c .match .keys2))
 
 pub on-no-spec : {M : Type 1} → statement M
-on-no-spec = tie.close (tie.spec enum-told without-requires aborting-requires returns returns-2)
+on-no-spec = tie.close (tie.spec enum-told (λ c κs. tt) (λ c κs. tt) returns returns-2)

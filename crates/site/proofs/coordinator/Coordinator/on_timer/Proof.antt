@@ -9,21 +9,6 @@ use Rattle.site.proofs.coordinator.Coordinator.on_timer.Tie as tie
 enum-told : tie.Need-enum-told
 enum-told c = search needs
 
-aborting-requires : tie.Need-aborting-requires
-aborting-requires c κs = tt
-
-enum-known-phase : tie.Need-enum-known-phase
-enum-known-phase c = search needs
-
-telling-requires : tie.Need-telling-requires
-telling-requires c κs = tt
-
-enum-known-phase-2 : tie.Need-enum-known-phase-2
-enum-known-phase-2 c = search needs
-
-telling-requires-2 : tie.Need-telling-requires-2
-telling-requires-2 c κs = tt
-
 returns : tie.Need-returns
 unfolding answered coordinatorTimer
 returns c = rw (c .aborting .ensures, c .before .enum-told .given .1)
@@ -45,11 +30,11 @@ on-timer-spec =
     tie.close
     (tie.spec
     enum-told
-    aborting-requires
-    enum-known-phase
-    telling-requires
-    enum-known-phase-2
-    telling-requires-2
+    (λ c κs. tt)
+    (λ c. search needs)
+    (λ c κs. tt)
+    (λ c. search needs)
+    (λ c κs. tt)
     returns
     returns-2
     returns-3

@@ -12,48 +12,6 @@ use Rattle.site.proofs.coordinator.Coordinator.on_yes.Tie as tie
 enum-told : tie.Need-enum-told
 enum-told c = search needs
 
-enum-known-phase : tie.Need-enum-known-phase
-enum-known-phase c = search needs
-
-without-requires : tie.Need-without-requires
-without-requires c κs = tt
-
-voted-requires : tie.Need-voted-requires
-voted-requires c κs = tt
-
-enum-told-2 : tie.Need-enum-told-2
-enum-told-2 c = search needs
-
-only-requires : tie.Need-only-requires
-only-requires c κs = tt
-
-telling-requires : tie.Need-telling-requires
-telling-requires c κs = tt
-
-enum-told-3 : tie.Need-enum-told-3
-enum-told-3 c = search needs
-
-only-requires-2 : tie.Need-only-requires-2
-only-requires-2 c κs = tt
-
-telling-requires-2 : tie.Need-telling-requires-2
-telling-requires-2 c κs = tt
-
-enum-told-4 : tie.Need-enum-told-4
-enum-told-4 c = search needs
-
-presumption-requires : tie.Need-presumption-requires
-presumption-requires c κs = tt
-
-silence-requires : tie.Need-silence-requires
-silence-requires c κs = tt
-
-only-requires-3 : tie.Need-only-requires-3
-only-requires-3 c κs = tt
-
-telling-requires-3 : tie.Need-telling-requires-3
-telling-requires-3 c κs = tt
-
 returns : tie.Need-returns
 unfolding answered onYes
 returns c = rw (c .enum-told .given .1)
@@ -106,20 +64,20 @@ on-yes-spec =
     tie.close
     (tie.spec
     enum-told
-    enum-known-phase
-    without-requires
-    voted-requires
-    enum-told-2
-    only-requires
-    telling-requires
-    enum-told-3
-    only-requires-2
-    telling-requires-2
-    enum-told-4
-    presumption-requires
-    silence-requires
-    only-requires-3
-    telling-requires-3
+    (λ c. search needs)
+    (λ c κs. tt)
+    (λ c κs. tt)
+    (λ c. search needs)
+    (λ c κs. tt)
+    (λ c κs. tt)
+    (λ c. search needs)
+    (λ c κs. tt)
+    (λ c κs. tt)
+    (λ c. search needs)
+    (λ c κs. tt)
+    (λ c κs. tt)
+    (λ c κs. tt)
+    (λ c κs. tt)
     returns
     returns-2
     returns-3

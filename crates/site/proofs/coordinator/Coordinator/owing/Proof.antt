@@ -7,15 +7,6 @@ use Rattle.site.proofs.coordinator.Coordinator.owing.Tie as tie
 enum-told : tie.Need-enum-told
 enum-told c = search needs
 
-minus-requires : tie.Need-minus-requires
-minus-requires c κs = tt
-
-enum-told-2 : tie.Need-enum-told-2
-enum-told-2 c = search needs
-
-both-requires : tie.Need-both-requires
-both-requires c κs = tt
-
 returns : tie.Need-returns
 returns c = rw (c .minus .ensures, c .before .enum-told .given .1, owing-commit (cohortIn (c .before .before .before .args .self)))
 
@@ -24,4 +15,4 @@ returns-2 c = rw (c .both .ensures, c .before .enum-told2 .given .1, owing-abort
 
 pub owing-spec : {M : Type 1} → statement M
 owing-spec =
-    tie.close (tie.spec enum-told minus-requires enum-told-2 both-requires returns returns-2)
+    tie.close (tie.spec enum-told (λ c κs. tt) (λ c. search needs) (λ c κs. tt) returns returns-2)

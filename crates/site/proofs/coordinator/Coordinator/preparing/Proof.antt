@@ -9,9 +9,6 @@ use Rattle.site.proofs.Sent.{ordered-by-turn}
 use Rattle.site.proofs.coordinator.Coordinator.preparing.Statement.{statement}
 use Rattle.site.proofs.coordinator.Coordinator.preparing.Tie as tie
 
-writes-init-requires : tie.Need-writes-init-requires
-writes-init-requires c κs = tt
-
 returns : tie.Need-returns
 unfolding preparing masksOf effectsIn appending entryOf closing sending lengths lengthOf messages given
 returns c = rw (c .if1 .taken, sym (c .before .writes-init .ensures) ∙ c .if1 .taken, ordered-by-turn (c .before .before .args .self .members))
@@ -21,4 +18,4 @@ unfolding preparing masksOf effectsIn appending entryOf closing sending lengths 
 returns-2 c = rw (c .if1 .left, sym (c .before .writes-init .ensures) ∙ c .if1 .left, ordered-by-turn (c .before .before .args .self .members))
 
 pub preparing-spec : {M : Type 1} → statement M
-preparing-spec = tie.close (tie.spec writes-init-requires returns returns-2)
+preparing-spec = tie.close (tie.spec (λ c κs. tt) returns returns-2)

@@ -3,9 +3,6 @@ use Rattle.site.specs.Cohort.{presumptionOf}
 use Rattle.site.proofs.coordinator.Coordinator.presumption.Statement.{statement}
 use Rattle.site.proofs.coordinator.Coordinator.presumption.Tie as tie
 
-member-requires : tie.Need-member-requires
-member-requires c κs = tt
-
 returns : tie.Need-returns
 unfolding presumptionOf
 returns c = rw (sym (c .before .member .ensures), c .if1 .taken)
@@ -15,4 +12,4 @@ unfolding presumptionOf
 returns-2 c = rw (sym (c .before .member .ensures), c .if1 .left)
 
 pub presumption-spec : {M : Type 1} → statement M
-presumption-spec = tie.close (tie.spec member-requires returns returns-2)
+presumption-spec = tie.close (tie.spec (λ c κs. tt) returns returns-2)

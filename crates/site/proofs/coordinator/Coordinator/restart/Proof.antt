@@ -10,24 +10,6 @@ use Rattle.site.proofs.Rows.{tell-owing}
 use Rattle.site.proofs.coordinator.Coordinator.restart.Statement.{statement}
 use Rattle.site.proofs.coordinator.Coordinator.restart.Tie as tie
 
-has-requires : tie.Need-has-requires
-has-requires c κs = tt
-
-has-requires-2 : tie.Need-has-requires-2
-has-requires-2 c κs = tt
-
-has-requires-3 : tie.Need-has-requires-3
-has-requires-3 c κs = tt
-
-has-requires-4 : tie.Need-has-requires-4
-has-requires-4 c κs = tt
-
-owing-requires : tie.Need-owing-requires
-owing-requires c κs = tt
-
-resuming-requires : tie.Need-resuming-requires
-resuming-requires c κs = tt
-
 returns : tie.Need-returns
 unfolding coordinatorRestart restartFrom
 returns c =
@@ -42,9 +24,6 @@ returns c =
       sym (h .before .has3 .ensures),
       c .before .before .before .if1 .taken,
     )
-
-resuming-requires-2 : tie.Need-resuming-requires-2
-resuming-requires-2 c κs = tt
 
 returns-2 : tie.Need-returns-2
 unfolding coordinatorRestart restartFrom
@@ -78,13 +57,13 @@ pub restart-spec : {M : Type 1} → statement M
 restart-spec =
     tie.close
     (tie.spec
-    has-requires
-    has-requires-2
-    has-requires-3
-    has-requires-4
-    owing-requires
-    resuming-requires
+    (λ c κs. tt)
+    (λ c κs. tt)
+    (λ c κs. tt)
+    (λ c κs. tt)
+    (λ c κs. tt)
+    (λ c κs. tt)
     returns
-    resuming-requires-2
+    (λ c κs. tt)
     returns-2
     returns-3)

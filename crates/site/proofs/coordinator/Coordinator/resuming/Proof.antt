@@ -8,18 +8,6 @@ use Rattle.site.proofs.Rows.{entering-outcome}
 use Rattle.site.proofs.coordinator.Coordinator.resuming.Statement.{statement}
 use Rattle.site.proofs.coordinator.Coordinator.resuming.Tie as tie
 
-owing-requires : tie.Need-owing-requires
-owing-requires c κs = tt
-
-number-requires : tie.Need-number-requires
-number-requires c κs = tt
-
-message-requires : tie.Need-message-requires
-message-requires c κs = tt
-
-until-acked-requires : tie.Need-until-acked-requires
-until-acked-requires c κs = tt
-
 returns : tie.Need-returns
 unfolding effectsIn appending closing given tellAll inOrder
 returns c =
@@ -36,4 +24,4 @@ returns c =
 pub resuming-spec : {M : Type 1} → statement M
 resuming-spec =
     tie.close
-    (tie.spec owing-requires number-requires message-requires until-acked-requires returns)
+    (tie.spec (λ c κs. tt) (λ c κs. tt) (λ c κs. tt) (λ c κs. tt) returns)

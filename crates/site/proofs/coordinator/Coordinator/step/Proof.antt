@@ -8,9 +8,6 @@ use Rattle.site.proofs.ByKind.{coordinator-stranger, coordinator-takes,
 use Rattle.site.proofs.coordinator.Coordinator.step.Statement.{statement}
 use Rattle.site.proofs.coordinator.Coordinator.step.Tie as tie
 
-member-requires : tie.Need-member-requires
-member-requires c κs = tt
-
 returns : tie.Need-returns
 returns c =
     let s = c .before .before .args in
@@ -18,21 +15,6 @@ returns c =
 
 on-yes-requires : tie.Need-on-yes-requires
 on-yes-requires c κs = rw (sym (c .before .before .member .ensures)) (not-false (c .before .before .member .result) (rw (c .match .keys1) at (c .before .if1 .left)))
-
-on-no-requires : tie.Need-on-no-requires
-on-no-requires c κs = tt
-
-on-ack-requires : tie.Need-on-ack-requires
-on-ack-requires c κs = tt
-
-on-ack-requires-2 : tie.Need-on-ack-requires-2
-on-ack-requires-2 c κs = tt
-
-on-begin-requires : tie.Need-on-begin-requires
-on-begin-requires c κs = tt
-
-on-timer-requires : tie.Need-on-timer-requires
-on-timer-requires c κs = tt
 
 returns-2 : tie.Need-returns-2
 unfolding receives kindsReceived any inputOf messages coordinatorStep
@@ -99,14 +81,14 @@ pub step-spec : {M : Type 1} → statement M
 step-spec =
     tie.close
     (tie.spec
-    member-requires
+    (λ c κs. tt)
     returns
     on-yes-requires
-    on-no-requires
-    on-ack-requires
-    on-ack-requires-2
-    on-begin-requires
-    on-timer-requires
+    (λ c κs. tt)
+    (λ c κs. tt)
+    (λ c κs. tt)
+    (λ c κs. tt)
+    (λ c κs. tt)
     returns-2
     returns-3
     returns-4

@@ -8,9 +8,6 @@ use Rattle.site.specs.laws.Sets.{ordered-none}
 use Rattle.site.proofs.coordinator.Coordinator.voted.Statement.{statement}
 use Rattle.site.proofs.coordinator.Coordinator.voted.Tie as tie
 
-committing-requires : tie.Need-committing-requires
-committing-requires c κs = tt
-
 returns : tie.Need-returns
 unfolding voted empty
 returns c = rw (c .committing .ensures, c .before .if1 .taken)
@@ -20,4 +17,4 @@ unfolding voted empty effectsIn appending entryOf closing sending messages given
 returns-2 c = rw (ne-eqb (c .before .args .waiting) 0 (c .if1 .left), ordered-none 0)
 
 pub voted-spec : {M : Type 1} → statement M
-voted-spec = tie.close (tie.spec committing-requires returns returns-2)
+voted-spec = tie.close (tie.spec (λ c κs. tt) returns returns-2)

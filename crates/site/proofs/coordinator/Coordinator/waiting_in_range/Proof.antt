@@ -7,21 +7,6 @@ use mathlib.Core.Path.{sym}
 use Rattle.site.proofs.coordinator.Coordinator.waiting_in_range.Statement.{statement}
 use Rattle.site.proofs.coordinator.Coordinator.waiting_in_range.Tie as tie
 
-part-requires : tie.Need-part-requires
-part-requires c κs = tt
-
-owing-requires : tie.Need-owing-requires
-owing-requires c κs = tt
-
-part-requires-2 : tie.Need-part-requires-2
-part-requires-2 c κs = tt
-
-owing-requires-2 : tie.Need-owing-requires-2
-owing-requires-2 c κs = tt
-
-part-requires-3 : tie.Need-part-requires-3
-part-requires-3 c κs = tt
-
 returns : tie.Need-returns
 unfolding waitingInRange empty
 returns c = elim (c .match .keys1) [ inl e ↦ rw e | inr e ↦ rw e ]
@@ -47,11 +32,11 @@ pub waiting-in-range-spec : {M : Type 1} → statement M
 waiting-in-range-spec =
     tie.close
     (tie.spec
-    part-requires
-    owing-requires
-    part-requires-2
-    owing-requires-2
-    part-requires-3
+    (λ c κs. tt)
+    (λ c κs. tt)
+    (λ c κs. tt)
+    (λ c κs. tt)
+    (λ c κs. tt)
     returns
     returns-2
     returns-3

@@ -8,24 +8,6 @@ use Rattle.site.proofs.Rows.{entering-outcome, outcome-appended}
 use Rattle.site.proofs.participant.Participant.finish.Statement.{statement}
 use Rattle.site.proofs.participant.Participant.finish.Tie as tie
 
-acks-requires : tie.Need-acks-requires
-acks-requires c κs = tt
-
-outcome-record-requires : tie.Need-outcome-record-requires
-outcome-record-requires c κs = tt
-
-number-requires : tie.Need-number-requires
-number-requires c κs = tt
-
-ack-requires : tie.Need-ack-requires
-ack-requires c κs = tt
-
-own-requires : tie.Need-own-requires
-own-requires c κs = tt
-
-decided-requires : tie.Need-decided-requires
-decided-requires c κs = tt
-
 returns : tie.Need-returns
 unfolding effectsIn closing given acking finish
 returns c =
@@ -47,10 +29,10 @@ pub finish-spec : {M : Type 1} → statement M
 finish-spec =
     tie.close
     (tie.spec
-    acks-requires
-    outcome-record-requires
-    number-requires
-    ack-requires
-    own-requires
-    decided-requires
+    (λ c κs. tt)
+    (λ c κs. tt)
+    (λ c κs. tt)
+    (λ c κs. tt)
+    (λ c κs. tt)
+    (λ c κs. tt)
     returns)

@@ -10,23 +10,11 @@ enum-told c = search needs
 promising-requires : tie.Need-promising-requires
 promising-requires c κs = c .before .before .pre
 
-enum-told-2 : tie.Need-enum-told-2
-enum-told-2 c = search needs
-
 voting-requires : tie.Need-voting-requires
 voting-requires c κs = c .before .before .pre
 
-enum-told-3 : tie.Need-enum-told-3
-enum-told-3 c = search needs
-
-enum-told-4 : tie.Need-enum-told-4
-enum-told-4 c = search needs
-
 voting-requires-2 : tie.Need-voting-requires-2
 voting-requires-2 c κs = c .before .before .pre
-
-enum-told-5 : tie.Need-enum-told-5
-enum-told-5 c = search needs
 
 voting-requires-3 : tie.Need-voting-requires-3
 voting-requires-3 c κs = c .before .before .pre
@@ -57,12 +45,12 @@ on-prepare-spec =
     (tie.spec
     enum-told
     promising-requires
-    enum-told-2
+    (λ c. search needs)
     voting-requires
-    enum-told-3
-    enum-told-4
+    (λ c. search needs)
+    (λ c. search needs)
     voting-requires-2
-    enum-told-5
+    (λ c. search needs)
     voting-requires-3
     returns
     returns-2

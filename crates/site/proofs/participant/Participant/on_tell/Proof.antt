@@ -8,51 +8,6 @@ use Rattle.site.proofs.participant.Participant.on_tell.Tie as tie
 enum-told : tie.Need-enum-told
 enum-told c = search needs
 
-enum-told-2 : tie.Need-enum-told-2
-enum-told-2 c = search needs
-
-enum-told-3 : tie.Need-enum-told-3
-enum-told-3 c = search needs
-
-finish-requires : tie.Need-finish-requires
-finish-requires c κs = search needs
-
-enum-told-4 : tie.Need-enum-told-4
-enum-told-4 c = search needs
-
-finish-requires-2 : tie.Need-finish-requires-2
-finish-requires-2 c κs = search needs
-
-enum-told-5 : tie.Need-enum-told-5
-enum-told-5 c = search needs
-
-enum-told-6 : tie.Need-enum-told-6
-enum-told-6 c = search needs
-
-acknowledging-requires : tie.Need-acknowledging-requires
-acknowledging-requires c κs = search needs
-
-enum-told-7 : tie.Need-enum-told-7
-enum-told-7 c = search needs
-
-enum-told-8 : tie.Need-enum-told-8
-enum-told-8 c = search needs
-
-enum-told-9 : tie.Need-enum-told-9
-enum-told-9 c = search needs
-
-enum-told-10 : tie.Need-enum-told-10
-enum-told-10 c = search needs
-
-acknowledging-requires-2 : tie.Need-acknowledging-requires-2
-acknowledging-requires-2 c κs = search needs
-
-enum-told-11 : tie.Need-enum-told-11
-enum-told-11 c = search needs
-
-acknowledging-requires-3 : tie.Need-acknowledging-requires-3
-acknowledging-requires-3 c κs = search needs
-
 returns : tie.Need-returns
 unfolding answered onTell
 returns c = rw (c .before .before .enum-told .given .1, c .enum-told2 .given .1)
@@ -90,21 +45,21 @@ on-tell-spec =
     tie.close
     (tie.spec
     enum-told
-    enum-told-2
-    enum-told-3
-    finish-requires
-    enum-told-4
-    finish-requires-2
-    enum-told-5
-    enum-told-6
-    acknowledging-requires
-    enum-told-7
-    enum-told-8
-    enum-told-9
-    enum-told-10
-    acknowledging-requires-2
-    enum-told-11
-    acknowledging-requires-3
+    (λ c. search needs)
+    (λ c. search needs)
+    (λ c κs. search needs)
+    (λ c. search needs)
+    (λ c κs. search needs)
+    (λ c. search needs)
+    (λ c. search needs)
+    (λ c κs. search needs)
+    (λ c. search needs)
+    (λ c. search needs)
+    (λ c. search needs)
+    (λ c. search needs)
+    (λ c κs. search needs)
+    (λ c. search needs)
+    (λ c κs. search needs)
     returns
     returns-2
     returns-3

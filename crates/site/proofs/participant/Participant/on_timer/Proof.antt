@@ -12,12 +12,6 @@ use Rattle.site.proofs.participant.Participant.on_timer.Tie as tie
 enum-told : tie.Need-enum-told
 enum-told c = search needs
 
-enum-told-2 : tie.Need-enum-told-2
-enum-told-2 c = search needs
-
-voting-requires : tie.Need-voting-requires
-voting-requires c κs = search needs
-
 returns : tie.Need-returns
 unfolding answered participantTimer effectsIn appending entryOf closing sending messages given
 returns c = rw (c .enum-told .given .1, ordered-none 0)
@@ -32,4 +26,4 @@ returns-3 c = rw (no-own-timer (presumptionIn (c .before .args .self .presumptio
 
 pub on-timer-spec : {M : Type 1} → statement M
 on-timer-spec =
-    tie.close (tie.spec enum-told enum-told-2 voting-requires returns returns-2 returns-3)
+    tie.close (tie.spec enum-told (λ c. search needs) (λ c κs. search needs) returns returns-2 returns-3)

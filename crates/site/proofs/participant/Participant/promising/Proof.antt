@@ -7,12 +7,6 @@ use Rattle.site.proofs.Sent.{own-sent}
 use Rattle.site.proofs.participant.Participant.promising.Statement.{statement}
 use Rattle.site.proofs.participant.Participant.promising.Tie as tie
 
-number-requires : tie.Need-number-requires
-number-requires c κs = tt
-
-own-requires : tie.Need-own-requires
-own-requires c κs = tt
-
 returns : tie.Need-returns
 unfolding promising effectsIn appending entryOf closing given lengths lengthOf messageKind
 returns c =
@@ -20,4 +14,4 @@ returns c =
     rw (c .own .ensures, c .before .number .ensures, own-sent voteYes (s .args .self .number) (s .pre))
 
 pub promising-spec : {M : Type 1} → statement M
-promising-spec = tie.close (tie.spec number-requires own-requires returns)
+promising-spec = tie.close (tie.spec (λ c κs. tt) (λ c κs. tt) returns)

@@ -13,9 +13,6 @@ use Rattle.site.proofs.participant.Participant.restart.Tie as tie
 returns : tie.Need-returns
 returns c = let s = c .before in rw (no-restart (s .args .self) (omega arith) (hasKind (s .args .records)) (c .if1 .taken))
 
-has-requires : tie.Need-has-requires
-has-requires c κs = tt
-
 returns-2 : tie.Need-returns-2
 unfolding participantRestart restartWith effectsIn appending entryOf closing sending messages given
 returns-2 c =
@@ -26,9 +23,6 @@ returns-2 c =
       c .if2 .taken,
       ordered-none 0,
     )
-
-has-requires-2 : tie.Need-has-requires-2
-has-requires-2 c κs = tt
 
 returns-3 : tie.Need-returns-3
 unfolding participantRestart restartWith effectsIn appending entryOf closing sending messages given
@@ -42,9 +36,6 @@ returns-3 c =
       c .if3 .taken,
       ordered-none 0,
     )
-
-has-requires-3 : tie.Need-has-requires-3
-has-requires-3 c κs = tt
 
 voting-requires : tie.Need-voting-requires
 voting-requires c κs = numbered (c .before .before .before .before .before .before .before .args .self .number) (c .before .before .before .before .before .before .if1 .left)
@@ -84,11 +75,11 @@ restart-spec =
     tie.close
     (tie.spec
     returns
-    has-requires
+    (λ c κs. tt)
     returns-2
-    has-requires-2
+    (λ c κs. tt)
     returns-3
-    has-requires-3
+    (λ c κs. tt)
     voting-requires
     returns-4
     returns-5)

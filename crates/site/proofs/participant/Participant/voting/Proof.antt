@@ -7,9 +7,6 @@ use Rattle.site.proofs.Sent.{vote-sent}
 use Rattle.site.proofs.participant.Participant.voting.Statement.{statement}
 use Rattle.site.proofs.participant.Participant.voting.Tie as tie
 
-own-requires : tie.Need-own-requires
-own-requires c κs = tt
-
 returns : tie.Need-returns
 unfolding voting effectsIn appending entryOf closing given
 returns c =
@@ -18,4 +15,4 @@ returns c =
     rw (c .own .ensures, v)
 
 pub voting-spec : {M : Type 1} → statement M
-voting-spec = tie.close (tie.spec own-requires returns)
+voting-spec = tie.close (tie.spec (λ c κs. tt) returns)

@@ -8,12 +8,9 @@ returns : tie.Need-returns
 unfolding untilAcked empty
 returns c = rw (c .if1 .taken)
 
-awaiting-requires : tie.Need-awaiting-requires
-awaiting-requires c κs = tt
-
 returns-2 : tie.Need-returns-2
 unfolding untilAcked empty
 returns-2 c = rw (c .awaiting .ensures, ne-eqb (c .before .before .args .waiting) 0 (c .before .if1 .left))
 
 pub until-acked-spec : {M : Type 1} → statement M
-until-acked-spec = tie.close (tie.spec returns awaiting-requires returns-2)
+until-acked-spec = tie.close (tie.spec returns (λ c κs. tt) returns-2)

@@ -5,15 +5,6 @@ use borrow.Author.Needs.{needs}
 use Rattle.site.proofs.phases.CoordinatorPhase.waiting.Statement.{statement}
 use Rattle.site.proofs.phases.CoordinatorPhase.waiting.Tie as tie
 
-enum-known-self : tie.Need-enum-known-self
-enum-known-self c = search needs
-
-enum-known-self-2 : tie.Need-enum-known-self-2
-enum-known-self-2 c = search needs
-
-enum-known-self-3 : tie.Need-enum-known-self-3
-enum-known-self-3 c = search needs
-
 returns : tie.Need-returns
 unfolding waitingSet
 returns c = rw (c .before .self .given .1)
@@ -33,9 +24,9 @@ pub waiting-spec : {M : Type 1} → statement M
 waiting-spec =
     tie.close
     (tie.spec
-    enum-known-self
-    enum-known-self-2
-    enum-known-self-3
+    (λ c. search needs)
+    (λ c. search needs)
+    (λ c. search needs)
     returns
     returns-2
     returns-3

@@ -6,9 +6,6 @@ use Rattle.site.proofs.presumption.Outcome.number.Tie as tie
 enum-told : tie.Need-enum-told
 enum-told c = search needs
 
-enum-told-2 : tie.Need-enum-told-2
-enum-told-2 c = search needs
-
 returns : tie.Need-returns
 unfolding outcomeNumber
 returns c = rw (c .enum-told .given .1)
@@ -18,4 +15,4 @@ unfolding outcomeNumber
 returns-2 c = rw (c .enum-told2 .given .1)
 
 pub number-spec : {M : Type 1} → statement M
-number-spec = tie.close (tie.spec enum-told enum-told-2 returns returns-2)
+number-spec = tie.close (tie.spec enum-told (λ c. search needs) returns returns-2)

@@ -1,0 +1,100 @@
+-- Plans: the refusals that did not strike, what holds of a plan by the way it is made, and that a restart writes no log.
+use Prim.Native.Nat.{ℕ, zero, suc}
+use mathlib.Core.Path.{_≡_, refl}
+use mathlib.Core.Bool.{Bool, true, false}
+use mathlib.Core.List.{List, [], _∷_, map}
+use mathlib.Core.Option.{Option, none, some}
+use native.Mathlib.Omega.{arith}
+use borrow.Author.Tests.{not-false}
+use Rattle.codec.specs.Lists.{first, onlyIf}
+use Rattle.site.specs.Presumption.{Outcome, commit, abort, Presumption}
+use Rattle.site.specs.Step.{Message, tell, Input, Effect, append, force, enter, send, Row, given}
+use Rattle.site.specs.Cohort.{Cohort}
+use Rattle.site.specs.Coordinator.{inOrder, tellAll, restartFrom, coordinatorRestart}
+use Rattle.site.specs.Participant.{voting, restartWith, participantRestart}
+use Rattle.joint.specs.State.{Run, Transaction}
+use Rattle.joint.specs.Refusals.{isDown}
+use Rattle.joint.specs.Plan.{Plan, settling, rowPlan, planned, step, orNothing}
+use Rattle.joint.proofs.base.Lists.{Each}
+
+-- ---- refusals
+
+-- a refusal that did not strike, and those behind it
+pub not-struck : (n : ℕ) (b : Bool) (l : List (ℕ × Bool)) → first ((suc n, b) ∷ l) ≡ 0 → (b ≡ false) × (first l ≡ 0)
+unfolding first
+not-struck n true l e = absurd (omega arith)
+not-struck n false l e = (refl, e)
+
+pub is-up : (r : Run) (s : ℕ) (l : List (ℕ × Bool)) → first ((5, isDown r s) ∷ l) ≡ 0 → r .site s .up ≡ true
+unfolding isDown
+is-up r s l e = not-false _ (not-struck 4 _ l e .0)
+
+-- ---- what holds of a plan, if there is one
+
+abbrev pub All : (Plan → Type 0) → Option Plan → Type 0
+All P none = Unit {0}
+All P (some p) = P p
+
+module _ (P : Plan → Type 0) where
+  pub all-planned : {X : Type 0} (s t : ℕ) (g : X → Transaction → Transaction) (o : Option (Row X)) → ((x : Row X) → o ≡ some x → P (rowPlan s t g x))
+      → All P (planned s t g o)
+  unfolding planned
+  all-planned s t g none h = tt
+  all-planned s t g (some x) h = h x refl
+
+  pub all-step : (r : Run) (t s : ℕ) (i : Input) → ((X : Type 0) (g : X → Transaction → Transaction) (x : Row X) → P (rowPlan s t g x)) → All P (step r t s i)
+  unfolding step
+  all-step r t zero i h = all-planned 0 t _ _ (λ x e. h _ _ x)
+  all-step r t (suc n) i h = all-planned (suc n) t _ _ (λ x e. h _ _ x)
+
+  pub all-or : (s : ℕ) (o : Option Plan) → P (settling s (λ r. r)) → All P o → P (orNothing s o)
+  unfolding orNothing
+  all-or s none h k = h
+  all-or s (some p) h k = k
+
+  pub all-only : (b : Bool) (p : Plan) → (b ≡ true → P p) → All P (onlyIf b p)
+  unfolding onlyIf
+  all-only true p h = h refl
+  all-only false p h = tt
+
+-- ---- a restart writes no log
+
+abbrev pub Logless : Effect → Type 0
+Logless (append k fs) = ⊥
+Logless force = ⊥
+Logless (enter o) = Unit {0}
+Logless (send m p) = Unit {0}
+
+logless-sends : (m : Message) (l : List ℕ) → Each Logless (map (send m) l)
+logless-sends m [] = tt
+logless-sends m (p ∷ l) = (tt, logless-sends m l)
+
+logless-all : (g : Cohort) (o : Outcome) (to : ℕ) → Each Logless (tellAll g o to)
+unfolding tellAll
+logless-all g o to = logless-sends (tell o) (inOrder g o to)
+
+logless-given : (b : Bool) (es : List Effect) → Each Logless es → Each Logless (given b es)
+unfolding given
+logless-given true es h = h
+logless-given false es h = tt
+
+logless-from : (g : Cohort) (c i : Bool) → Each Logless (restartFrom g c i .effects)
+unfolding restartFrom
+logless-from g true i = (tt, logless-given _ _ (logless-all g commit (g .members)))
+logless-from g false true = (tt, logless-all g abort (g .members))
+logless-from g false false = tt
+
+logless-with : (c : Presumption) (p : ℕ) (a b v : Bool) → Each Logless (restartWith c p a b v .effects)
+unfolding restartWith voting
+logless-with c p true b v = (tt, tt)
+logless-with c p false true v = (tt, tt)
+logless-with c p false false true = (tt, tt)
+logless-with c p false false false = tt
+
+pub coordinator-logless : (g : Cohort) (f : ℕ → Bool) → Each Logless (coordinatorRestart g f .effects)
+unfolding coordinatorRestart
+coordinator-logless g f = logless-from g _ _
+
+pub participant-logless : (c : Presumption) (p : ℕ) (f : ℕ → Bool) → Each Logless (participantRestart c p f .effects)
+unfolding participantRestart
+participant-logless c p f = logless-with c p _ _ _

@@ -1,0 +1,60 @@
+-- A row at its site: its records and its force, and what follows these.
+use Prim.Native.Nat.{ℕ}
+use mathlib.Core.Path.{_≡_, refl, sym, ap, _∙_}
+use mathlib.Core.Bool.{false, not, _||_}
+use mathlib.Core.List.{List, [], _∷_}
+use lib.Dec.{T, eqb}
+use borrow.Author.Tests.{eqb-true, not-false}
+use denote.Enum.Declared.{tagOf}
+use mir.Val.{hasKey}
+use types.Run.{OneOf, miss}
+use Rattle.codec.specs.laws.Tests.{or-none}
+use Rattle.site.specs.Step.{force, given}
+use Rattle.site.specs.Answers.{effectsIn}
+use Rattle.joint.specs.State.{Site}
+use Rattle.joint.specs.Inside.{siteAfter, thenSite, drops, writesLog}
+use Rattle.joint.specs.declared.rows.Row.{Row}
+use Rattle.joint.specs.declared.rows.Then.{Then}
+use Rattle.joint.specs.declared.rows.Then.the-variants as follows
+use Rattle.joint.proofs.rows.Then.{the-type}
+use Rattle.joint.proofs.base.Booleans.{clash}
+use Rattle.joint.proofs.engine.Effects.{site-row, kind-none}
+
+-- ---- what follows, by the keys that a match leaves: 4 is Discarded, 5 is Down
+
+pub undropped : (ks : List ℕ) → T (not (hasKey ks 4)) → (x : Then) → OneOf ks (tagOf the-type x) → drops x ≡ false
+unfolding drops
+undropped ks off follows.Same k = refl
+undropped ks off (follows.Coordinator c) k = refl
+undropped ks off (follows.Participant c) k = refl
+undropped ks off (follows.Opened c) k = refl
+undropped ks off (follows.Discarded last) k = absurd (miss ks 4 off k)
+undropped ks off (follows.Down keep) k = refl
+
+-- no record is dropped, and the site stays up
+pub unchanged : (ks : List ℕ) → T (not (hasKey ks 5)) → (x : Then) → OneOf ks (tagOf the-type x) → drops x ≡ false
+    → (t : ℕ) (a : Site) → a ≡ thenSite t x a
+unfolding drops thenSite
+unchanged ks off follows.Same k d t a = refl
+unchanged ks off (follows.Coordinator c) k d t a = refl
+unchanged ks off (follows.Participant c) k d t a = refl
+unchanged ks off (follows.Opened c) k d t a = refl
+unchanged ks off (follows.Discarded last) k d t a = absurd (clash d)
+unchanged ks off (follows.Down keep) k d t a = absurd (miss ks 5 off k)
+
+-- ---- a row that leaves the records
+
+-- it has a force at most, and drops none
+pub recordless : (x : Row) → writesLog x ≡ false
+    → (drops (x .then) ≡ false) × ((t : ℕ) (a : Site) → siteAfter t (given (x .effects .forced) (force ∷ [])) a ≡ siteAfter t (effectsIn (x .effects)) a)
+unfolding writesLog
+recordless x h =
+    let e = x .effects in
+    let p = or-none (not (eqb (e .appended) 0) || not (eqb (e .last) 0)) (drops (x .then)) h in
+    let q = or-none (not (eqb (e .appended) 0)) (not (eqb (e .last) 0)) (p .0) in (
+      p .1,
+      λ t a. sym
+          (site-row t a e
+          ∙ sym (kind-none t (e .last) _ _ (eqb-true (e .last) 0 (not-false _ (q .1))))
+          ∙ ap (siteAfter t (given (e .forced) (force ∷ []))) (sym (kind-none t (e .appended) _ a (eqb-true (e .appended) 0 (not-false _ (q .0)))))),
+    )

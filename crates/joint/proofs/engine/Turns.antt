@@ -1,0 +1,290 @@
+-- One turn of the loop over events: an event more is read, decided, and stored in the run's arrays.
+use Prim.Native.Nat.{ℕ, zero, suc, _+_, _*_, _≤_, _<_}
+use mathlib.Core.Path.{_≡_, refl, sym, ap, _∙_}
+use mathlib.Core.Bool.{Bool, true, false, not, _||_}
+use mathlib.Core.List.{List, [], _∷_}
+use mathlib.Core.Option.{Option, none, some}
+use lib.ListN.{length, take, getD, set, length-take}
+use lib.Seq.{getD-set-same, getD-set-other}
+use lib.Dec.{eqb}
+use native.Mathlib.Omega.{arith}
+use denote.Enum.Declared.{tagOf}
+use types.Run.{OneOf, miss}
+use borrow.Author.Tests.{eqb-true, eqb-false, leb-true}
+use Rattle.codec.specs.Lists.{first, select}
+use Rattle.codec.specs.Image.{stored}
+use Rattle.codec.specs.declared.record.Record.{Record}
+use Rattle.site.specs.Step.{prepare, messages, receiver}
+use Rattle.site.specs.Answers.{effectsIn}
+use Rattle.joint.specs.State as plain
+use Rattle.joint.specs.State.{update, performAll}
+use Rattle.joint.specs.Event as events
+use Rattle.joint.specs.Event.{parse, Parsed}
+use Rattle.joint.specs.Refusals.{refusals}
+use Rattle.joint.specs.Plan.{Plan, plan, acting, rowPlan}
+use Rattle.joint.specs.Run.{event, eventParsed, carryUnless, carryPlan, carry, cutShort, canCut, refuse, answerOf, count, isAppend, isForce, isSend}
+use Rattle.joint.specs.Run as answers
+use Rattle.joint.specs.Drill.{answerBytes}
+use Rattle.joint.specs.Program.{hasRoom, roomParsed, roomFor, roomForPlan}
+use Rattle.joint.specs.Answers.{siteFrom, noSite, noRecords, transactionsIn, runIn, answerIn, refusalNumber, Seen, seen}
+use Rattle.joint.specs.Inside.{transactionAfter, counted, size, Fits, thenIn, thenTransaction, goesDown, rowSite, planIn, Asks, begins, delivers, times, taken, changeIn, Here, stepIn, stepSite, stepTransaction, StepInRange, restartedIn}
+use Rattle.joint.specs.declared.answers.Answer.{Answer}
+use Rattle.joint.specs.declared.answers.Counts.{Counts}
+use Rattle.joint.specs.declared.answers.Answer.the-variants as answer
+use Rattle.joint.specs.declared.sites.Site.{Site}
+use Rattle.joint.specs.declared.records.Records.{Records}
+use Rattle.joint.specs.declared.records.SiteLog.{SiteLog}
+use Rattle.joint.specs.declared.transactions.Transaction.{Transaction}
+use Rattle.joint.specs.declared.rows.Row.{Row}
+use Rattle.joint.specs.declared.changes.Change.{Change}
+use Rattle.joint.specs.declared.events.Step.{Step}
+use Rattle.joint.specs.declared.events.Step.the-variants as steps
+use Rattle.joint.specs.declared.restarts.Restarted.{Restarted}
+use Rattle.joint.specs.declared.run.Run.{Run}
+use Rattle.joint.proofs.answers.Answer.{the-type}
+use Rattle.joint.proofs.base.Lists.{select-take, among}
+use Rattle.joint.proofs.base.Plans.{All, all-step, all-or, all-only}
+use Rattle.joint.proofs.engine.Placed.{run-path, acting-counted}
+use Rattle.joint.proofs.engine.Reads.{siteAt, getD-within, site-read, counts-stored, site-stored}
+use Rattle.joint.proofs.engine.Sites.{log-counted}
+use Rattle.joint.proofs.engine.Refused.{refusedBy, refuse-seen}
+use Rattle.joint.proofs.engine.Rows.{forgottenIf, row-happens}
+use Rattle.joint.proofs.engine.Replays.{Ahead, ahead-next, eventAt}
+
+-- ---- the run's arrays are whole
+
+pub record Full (r : Run) : Type 0 where
+  pub nine : length (r .sites) ≡ 9
+  pub logs : length (r .records) ≡ 9
+  pub whole : (i : ℕ) → i ≤ 8 → length (getD (r .records) i noRecords .of) ≡ 24
+  pub eight : length (r .transactions) ≡ 8
+
+-- one site's records are stored
+pub whole-stored : (l : List Records) (s : ℕ) (y : Records) → length l ≡ 9 → s ≤ 8 → length (y .of) ≡ 24
+    → ((i : ℕ) → i ≤ 8 → length (getD l i noRecords .of) ≡ 24) → (i : ℕ) → i ≤ 8 → length (getD (set l s y) i noRecords .of) ≡ 24
+whole-stored l s y n h e w i k = go (eqb i s) refl
+  where
+    go : (b : Bool) → eqb i s ≡ b → length (getD (set l s y) i noRecords .of) ≡ 24
+    go true q = rw (eqb-true i s q, getD-set-same l s y noRecords (omega (arith, n, h))) e
+    go false q = rw (getD-set-other l s i y noRecords (eqb-false i s q)) (w i k)
+
+-- ---- the first `count` events have been run
+
+pub record Going (r : plain.Run) (bytes start : List ℕ) (events : ℕ) (buffer : List ℕ) (run : Run) (last : Answer) (count : ℕ) : Type 0 where
+  pub full : Full run
+  pub ahead : Ahead r bytes start events buffer (runIn run) last count
+
+pub going-next : {r : plain.Run} {bytes start : List ℕ} {events : ℕ} {buffer : List ℕ} {run : Run} {last : Answer} {count : ℕ}
+    → Going r bytes start events buffer run last count
+    → (n : Answer) (next : Run) (x now : List ℕ) → Full next → count < events → x ≡ eventAt count bytes
+    → (hasRoom (runIn run) x ≡ true → record { answer = answerIn n; run = runIn next } ≡ seen (event (runIn run) x))
+    → now ≡ stored (4 * count) (answerBytes (answerIn n)) buffer
+    → Going r bytes start events now next n (count + 1)
+going-next g n next x now f h e k s = record { full = f; ahead = ahead-next (g .ahead) n (runIn next) x now h e k s }
+
+-- ---- an event read
+
+module _ (w : plain.Run) (x : List ℕ) where
+  pub malformed-seen : parse x ≡ none → refusedBy 1 w ≡ seen (event w x)
+  unfolding event eventParsed
+  malformed-seen e = sym (ap (λ (p : Option Parsed). seen (eventParsed w p)) e ∙ refuse-seen w 1)
+
+  module _ (p : Parsed) (e : parse x ≡ some p) where
+    pub parsed-seen : taken w (p .event) (p .cut) ≡ seen (event w x)
+    unfolding event eventParsed taken
+    parsed-seen = sym (ap (λ (p : Option Parsed). seen (eventParsed w p)) e)
+
+    pub parsed-room : hasRoom w x ≡ true → roomFor w (p .event) ≡ true
+    unfolding hasRoom roomParsed
+    parsed-room h = sym (ap (roomParsed w) e) ∙ h
+
+-- ---- a refusal changes nothing
+
+pub refusal-keeps : (w : plain.Run) (e : events.Event) (c : Option (ℕ × ℕ)) (n : ℕ) → taken w e c .answer .number ≡ suc n → taken w e c .run ≡ w
+unfolding taken eventParsed seen answerOf carryUnless carryPlan carry cutShort refuse
+refusal-keeps w e c n = unless (first (refusals w e))
+  where
+    cut-keeps : (b : Bool) (p : Plan) (a k : ℕ) → cutShort b w p a k .answer ≡ suc n → cutShort b w p a k .run ≡ w
+    cut-keeps true p a k q = absurd (omega (arith, q))
+    cut-keeps false p a k q = refl
+
+    carried : (p : Plan) (c : Option (ℕ × ℕ)) → carry w p c .answer ≡ suc n → carry w p c .run ≡ w
+    carried p none q = absurd (omega (arith, q))
+    carried p (some c) q = cut-keeps (canCut w p (c .0) (c .1)) p (c .0) (c .1) q
+
+    planned : (o : Option Plan) → carryPlan w o c .answer ≡ suc n → carryPlan w o c .run ≡ w
+    planned none q = refl
+    planned (some p) q = carried p c q
+
+    unless : (m : ℕ) → carryUnless m w (record { event = e; cut = c }) .answer ≡ suc n → carryUnless m w (record { event = e; cut = c }) .run ≡ w
+    unless zero q = planned (plan w e) q
+    unless (suc m) q = refl
+
+-- ---- a row that happens has room
+
+-- the acts of an event's plan are at site s
+module _ (w : plain.Run) (s : ℕ) (small : size (w .site s) ≤ 24) where
+  held-none : (n : ℕ) → size (w .site s) + count isAppend (refuse w n .acts) ≤ 24
+  unfolding refuse count select
+  held-none n = omega (arith, small)
+
+  module _ (p : Plan) (own : p .site ≡ s) (room : roomForPlan w (some p) ≡ true) where
+    held-all : size (w .site s) + count isAppend (p .acts) ≤ 24
+    unfolding roomForPlan size
+    held-all = leb-true _ 24 (rw own at room)
+
+    held-first : (n : ℕ) → size (w .site s) + count isAppend (take n (p .acts)) ≤ 24
+    unfolding count
+    held-first n =
+        let f : plain.Act → Bool = λ a. isAppend (a .effect) in
+        omega (arith, held-all, ap length (select-take f n (p .acts)), length-take (among f n (p .acts)) (select f (p .acts)))
+
+    held-cut : (b : Bool) (n k : ℕ) → size (w .site s) + count isAppend (cutShort b w p n k .acts) ≤ 24
+    unfolding cutShort
+    held-cut true n k = held-first n
+    held-cut false n k = held-none 9
+
+    held-carried : (c : Option (ℕ × ℕ)) → size (w .site s) + count isAppend (carry w p c .acts) ≤ 24
+    unfolding carry
+    held-carried none = held-all
+    held-carried (some c) = held-cut (canCut w p (c .0) (c .1)) (c .0) (c .1)
+
+  held-planned : (o : Option Plan) (c : Option (ℕ × ℕ)) → All (λ p. p .site ≡ s) o → roomForPlan w o ≡ true → size (w .site s) + count isAppend (carryPlan w o c .acts) ≤ 24
+  unfolding carryPlan
+  held-planned none c h r = held-none 8
+  held-planned (some p) c h r = held-carried p h r c
+
+  -- what an event appends
+  held-taken : (e : events.Event) (c : Option (ℕ × ℕ)) → All (λ p. p .site ≡ s) (plan w e) → roomFor w e ≡ true → size (w .site s) + taken w e c .answer .records ≤ 24
+  unfolding taken eventParsed seen answerOf roomFor carryUnless
+  held-taken e c h r = unless (first (refusals w e)) r
+    where
+      unless : (m : ℕ) → (not (eqb m 0) || roomForPlan w (plan w e)) ≡ true → size (w .site s) + count isAppend (carryUnless m w (record { event = e; cut = c }) .acts) ≤ 24
+      unless zero r = held-planned (plan w e) c h r
+      unless (suc m) r = held-none (suc m)
+
+  pub row-fits : (t : ℕ) (x : Row) (e : events.Event) (c : Option (ℕ × ℕ)) → seen (carry w (planIn s t x) none) ≡ taken w e c
+      → All (λ p. p .site ≡ s) (plan w e) → roomFor w e ≡ true → Fits (effectsIn (x .effects)) (w .site s)
+  unfolding carry seen answerOf
+  row-fits t x e c q h r =
+      omega (arith, held-taken e c h r, ap (λ (v : Seen). v .answer .records) q, acting-counted t isAppend (effectsIn (x .effects)))
+
+-- ---- a row happens: what is stored
+
+module _ (w : plain.Run) (s t : ℕ) (x : Row) where
+  pub happens-seen : (n : Counts) (f : ℕ → plain.Site) (g : ℕ → plain.Transaction)
+      → (n .records ≡ counted isAppend (effectsIn (x .effects))) × ((n .forces ≡ counted isForce (effectsIn (x .effects))) × (n .sends ≡ counted isSend (effectsIn (x .effects))))
+      → f ≡ update s (λ _. rowSite t x (w .site s)) (w .site)
+      → g ≡ forgottenIf (goesDown (x .then)) s (update t (λ _. thenTransaction s (x .then) (transactionAfter s (effectsIn (x .effects)) (w .transaction t))) (w .transaction))
+      → _≡_ {A = Seen} (record { answer = answerIn (answer.Accepted n); run = record { site = f; transaction = g } }) (seen (carry w (planIn s t x) none))
+  unfolding answerIn seen answerOf carry rowSite
+  happens-seen n f g c p q =
+      let es = effectsIn (x .effects) in
+      let same : _≡_ {A = plain.Run} (record { site = f; transaction = g }) (thenIn s t (x .then) (performAll s (acting t es) w)) = run-path p q ∙ sym (row-happens s t (x .then) es w) in
+      λ i. record {
+        answer =
+            record {
+              number = 0;
+              records = (c .0 ∙ sym (acting-counted t isAppend es)) i;
+              forces = (c .1 .0 ∙ sym (acting-counted t isForce es)) i;
+              sends = (c .1 .1 ∙ sym (acting-counted t isSend es)) i;
+            };
+        run = same i;
+      }
+
+-- ---- where an event's plan is
+
+input-site : (w : plain.Run) {e : events.Event} {t s kind p : ℕ} → Asks e t s kind p → All (λ p. p .site ≡ s) (plan w e)
+unfolding plan rowPlan
+input-site w (begins t) = all-step (λ p. p .site ≡ 0) w t 0 _ (λ X g x. refl)
+input-site w (delivers t kind p h l u) =
+    let m = getD messages kind prepare in
+    all-or (λ q. q .site ≡ receiver m p) (receiver m p) _ refl (all-step (λ q. q .site ≡ receiver m p) w t (receiver m p) _ (λ X g x. refl))
+input-site w (times t s h) = all-step (λ p. p .site ≡ s) w t s _ (λ X g x. refl)
+
+pub step-site : (w : plain.Run) (e : Step) → StepInRange e → All (λ p. p .site ≡ stepSite e) (plan w (stepIn e .event))
+unfolding stepIn plan
+step-site w (steps.Open e) h = refl
+step-site w (steps.Input e) h = input-site w (h .1 .1)
+step-site w (steps.Force s) h = refl
+step-site w (steps.Discard e) h = all-only (λ p. p .site ≡ e .site) _ _ (λ _. refl)
+step-site w (steps.Crash e) h = refl
+
+pub step-low : (e : Step) → StepInRange e → (stepSite e ≤ 8) × (stepTransaction e ≤ 7)
+step-low (steps.Open e) h = (omega arith, h)
+step-low (steps.Input e) h = (h .1 .0, h .0)
+step-low (steps.Force s) h = (h, omega arith)
+step-low (steps.Discard e) h = (h .1, h .0)
+step-low (steps.Crash e) h = (h, omega arith)
+
+-- ---- a restart: one site's counts and all transactions are stored, if it is accepted
+
+pub refused-number : (a : Answer) → OneOf (1 ∷ 2 ∷ 3 ∷ 4 ∷ 5 ∷ 6 ∷ 7 ∷ 8 ∷ 9 ∷ []) (tagOf the-type a) → (n : ℕ) × (answerIn a .number ≡ suc n)
+unfolding answerIn refusalNumber
+refused-number (answer.Accepted c) k = absurd (miss (1 ∷ 2 ∷ 3 ∷ 4 ∷ 5 ∷ 6 ∷ 7 ∷ 8 ∷ 9 ∷ []) 0 tt k)
+refused-number answer.Malformed k = (0, refl)
+refused-number answer.OpenedBefore k = (1, refl)
+refused-number answer.NeverOpened k = (2, refl)
+refused-number answer.NoMember k = (3, refl)
+refused-number answer.SiteDown k = (4, refl)
+refused-number answer.SiteUp k = (5, refl)
+refused-number answer.NeverSent k = (6, refl)
+refused-number answer.NotAllowed k = (7, refl)
+refused-number answer.CutTooFar k = (8, refl)
+
+module _ (r : Run) (f : Full r) (s : ℕ) (low : s ≤ 8) (d : Site) (e : Records) (c : Restarted) (ev : events.Event) (cut : Option (ℕ × ℕ))
+    (promise : (x : plain.Run) → siteFrom (getD (r .sites) s d) (getD (r .records) s e .of) ≡ x .site s → transactionsIn (r .transactions) ≡ x .transaction
+    → restartedIn s x (getD (r .records) s e .of) c ≡ taken x ev cut) where
+  restarts : restartedIn s (runIn r) (getD (r .records) s noRecords .of) c ≡ taken (runIn r) ev cut
+  unfolding runIn
+  restarts =
+      ap (λ (y : Records). restartedIn s (runIn r) (y .of) c) (getD-within (r .records) s noRecords e (omega (arith, f .logs, low)))
+      ∙ promise (runIn r) (site-read r s d e (f .nine) (f .logs) low) refl
+
+  pub restart-stored : _≡_ {A = Seen} (record { answer = answerIn (c .answer); run = runIn (record { sites = set (r .sites) s (c .site); records = r .records; transactions = c .transactions }) }) (taken (runIn r) ev cut)
+  unfolding restartedIn runIn
+  restart-stored =
+      (λ i. record { answer = answerIn (c .answer); run = record { site = counts-stored (r .sites) (r .records) s (c .site) (f .nine) low i; transaction = transactionsIn (c .transactions) } })
+      ∙ restarts
+
+  pub restart-refused : OneOf (1 ∷ 2 ∷ 3 ∷ 4 ∷ 5 ∷ 6 ∷ 7 ∷ 8 ∷ 9 ∷ []) (tagOf the-type (c .answer)) → _≡_ {A = Seen} (record { answer = answerIn (c .answer); run = runIn r }) (taken (runIn r) ev cut)
+  unfolding restartedIn
+  restart-refused k =
+      let n = refused-number (c .answer) k in
+      let q = ap (λ (v : Seen). v .answer) restarts in
+      λ i. record { answer = q i; run = sym (refusal-keeps (runIn r) ev cut (n .0) (ap (λ (a : answers.Answer). a .number) (sym q) ∙ n .1)) i }
+
+-- ---- what is decided of an event at one site, by the kind of event
+
+pub decided-as : (w : plain.Run) {e f : Step} {s t : ℕ} {a b : Change} → e ≡ f → s ≡ stepSite e → t ≡ stepTransaction e → a ≡ b
+    → changeIn w (stepSite f) (stepTransaction f) b ≡ taken w (stepIn f .event) (stepIn f .cut) → changeIn w s t a ≡ taken w (stepIn e .event) (stepIn e .cut)
+decided-as w p qs qt q h = rw (qs, qt, q, p) h
+
+module _ (r : Run) (f : Full r) (s : ℕ) (low : s ≤ 8) where
+  pub here : (d : Site) {z : ℕ} → s ≡ z → Here (getD (r .sites) s d) (runIn r) z
+  here d e = (getD (r .records) s noRecords .of, (f .whole s low, site-read r s d noRecords (f .nine) (f .logs) low ∙ ap (runIn r .site) e))
+
+  -- its log holds 24 records
+  pub held : size (runIn r .site s) ≤ 24
+  held = omega (arith, ap size (site-read r s noSite noRecords (f .nine) (f .logs) low), log-counted (getD (r .sites) s noSite) (getD (r .records) s noRecords .of) (f .whole s low))
+
+-- ---- a row's site is stored: with its records, or its counts alone
+
+module _ (r : Run) (f : Full r) (s : ℕ) (low : s ≤ 8) (d : Site) (t : ℕ) (x : Row) where
+  pub log-stored : (e : Records) (y : SiteLog)
+      → (Fits (effectsIn (x .effects)) (siteFrom (getD (r .sites) s d) (getD (r .records) s e .of)) → siteFrom (y .site) (y .records .of) ≡ rowSite t x (siteFrom (getD (r .sites) s d) (getD (r .records) s e .of)))
+      → Fits (effectsIn (x .effects)) (runIn r .site s)
+      → siteAt (set (r .sites) s (y .site)) (set (r .records) s (y .records)) ≡ update s (λ _. rowSite t x (runIn r .site s)) (runIn r .site)
+  unfolding runIn
+  log-stored e y after fits =
+      let own = site-read r s d e (f .nine) (f .logs) low in
+      site-stored (r .sites) (r .records) s (y .site) (f .nine) low (y .records) (f .logs)
+      ∙ ap (λ (a : plain.Site). update s (λ _. a) (siteAt (r .sites) (r .records))) (after (rw own fits) ∙ ap (rowSite t x) own)
+
+  pub site-settled : (y : Site) → ((rs : List Record) (t : ℕ) → length rs ≡ 24 → siteFrom y rs ≡ rowSite t x (siteFrom (getD (r .sites) s d) rs))
+      → siteAt (set (r .sites) s y) (r .records) ≡ update s (λ _. rowSite t x (runIn r .site s)) (runIn r .site)
+  unfolding runIn
+  site-settled y after =
+      counts-stored (r .sites) (r .records) s y (f .nine) low
+      ∙ ap (λ (a : plain.Site). update s (λ _. a) (siteAt (r .sites) (r .records)))
+      (after (getD (r .records) s noRecords .of) t (f .whole s low) ∙ ap (rowSite t x) (site-read r s d noRecords (f .nine) (f .logs) low))
