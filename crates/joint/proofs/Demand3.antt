@@ -14,12 +14,12 @@ use Rattle.site.specs.Step.{prepare}
 use Rattle.site.specs.Coordinator.{CoordinatorPhase}
 use Rattle.joint.specs.State.{Run, Site, fresh, holds}
 use Rattle.joint.specs.Run.{event, after}
-use Rattle.joint.specs.Safety.{Moment, happened, history, along, isEntry, isVote, isReply, inDoubt, commitStable, outcome, Happens, Safe, Demand3}
+use Rattle.joint.specs.Safety.{Moment, happened, history, along, isEntry, isEntryAt, isVote, isReply, inDoubt, commitStable, outcome, Happens, Safe, Demand3}
 use Rattle.joint.proofs.base.History.{history-snoc}
 use Rattle.joint.proofs.base.Lists.{any-found, any-more, any-middle}
 use Rattle.joint.proofs.base.Moments.{placed, moment-start, moment-cohort}
 use Rattle.joint.proofs.base.EventMoments.{reply-silence}
-use Rattle.joint.proofs.view.View.{View, siteView, isEntryAt, view}
+use Rattle.joint.proofs.view.View.{View, siteView, view}
 use Rattle.joint.proofs.view.Acts.{holds-select}
 use Rattle.joint.proofs.safety.Tables.{Status, stableKinds, has, doubtful, conforms, isWorking, Stage, done, mayEnter}
 use Rattle.joint.proofs.safety.Sets.{empty-none, no-zero}

@@ -11,14 +11,13 @@ use Rattle.site.specs.Presumption.{Outcome, commit, abort}
 use Rattle.site.specs.Coordinator.{CoordinatorPhase, initial, collecting, awaitingAcks}
 use Rattle.joint.specs.State.{fresh}
 use Rattle.joint.specs.Drill.{eventsIn}
-use Rattle.joint.specs.Safety.{Moment, moments, happened, history, leaves, along, enters, sends, isEntry, isReply, inDoubt, commitStable, outcome, Happens}
+use Rattle.joint.specs.Safety.{Moment, moments, happened, history, leaves, along, enters, sends, isEntry, isEntryAt, isReply, inDoubt, commitStable, outcome, Happens}
 use Rattle.codec.specs.Open.{codec-opens}
 use Rattle.site.specs.Open.{site-opens}
 use Rattle.joint.proofs.Open.{joint-opens}
 use Rattle.joint.proofs.Cases.{hex}
 use Rattle.joint.proofs.base.Moments.{any-placed}
 use Rattle.joint.proofs.Demand3.{isUnknown}
-use Rattle.joint.proofs.view.View.{isEntryAt}
 
 -- what the theorems by computation below open
 unfoldable safety-opens : Unit {0}

@@ -12,6 +12,7 @@ use Rattle.joint.specs.declared.answers.Answer.{Answer}
 use Rattle.joint.specs.declared.run.Run.{Run}
 use Rattle.joint.specs.declared.run.Next.{Next}
 use Rattle.joint.proofs.base.History.{after-snoc}
+use Rattle.joint.proofs.base.Recorded.{entries-happened, messages-happened}
 use Rattle.joint.proofs.Demand3.{demand3}
 use Rattle.joint.proofs.Reachable.{images-read}
 use Rattle.joint.proofs.engine.Replays.{answers-snoc}
@@ -38,7 +39,15 @@ same-answers (goes {es} {given} {r} x bytes next h) =
     rw (map-append, same-answers x, one, answers-snoc)
 
 pub program : Demand3OfProgram
-program es given r x = record { answers = same-answers x; run = same-run x; safe = demand3 es }
+program es given r x =
+    let stands : runIn r ≡ run.after fresh es = same-run x in
+    record {
+      answers = same-answers x;
+      run = stands;
+      entries = λ t s o. ap (λ (p : plain.Run). p .transaction t .entered s o) stands ∙ entries-happened es t s o;
+      messages = λ t p k. ap (λ (y : plain.Run). y .transaction t .sent p k) stands ∙ messages-happened es t p k;
+      safe = demand3 es;
+    }
 
 -- and the image of each site's log is accepted, and reads back as its stable records
 pub program-images : {es : List (List ℕ)} {given : List Answer} {r : Run} → Execution es given r → (s : ℕ) → s ≤ 8

@@ -7,3 +7,4 @@ pub mod History
 pub mod Moments
 pub mod Plans
 pub mod EventMoments
+pub mod Recorded

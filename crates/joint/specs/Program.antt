@@ -6,7 +6,8 @@ use mathlib.Core.List.{List, [], _∷_, _++_, map}
 use mathlib.Core.Option.{Option, none, some}
 use lib.ListN.{length}
 use lib.Dec.{eqb, leb}
-use Rattle.codec.specs.Lists.{first}
+use Rattle.codec.specs.Lists.{any, first}
+use Rattle.site.specs.Presumption.{Outcome}
 use Rattle.joint.specs.State as plain
 use Rattle.joint.specs.State.{fresh}
 use Rattle.joint.specs.Event.{Event, Parsed, parse}
@@ -14,7 +15,7 @@ use Rattle.joint.specs.Refusals.{refusals}
 use Rattle.joint.specs.Plan.{Plan, plan}
 use Rattle.joint.specs.Run as run
 use Rattle.joint.specs.Run.{isAppend, count}
-use Rattle.joint.specs.Safety.{Safe}
+use Rattle.joint.specs.Safety.{history, isEntryAt, isMessage, Safe}
 use Rattle.joint.specs.Answers.{runIn, answerIn, seen, nextIn}
 use Rattle.joint.specs.declared.answers.Answer.{Answer}
 use Rattle.joint.specs.declared.run.Run.{Run}
@@ -65,6 +66,10 @@ pub record Faithful (es : List (List ℕ)) (given : List Answer) (r : Run) : Typ
   pub answers : map answerIn given ≡ run.answers fresh es
   -- so are its records, messages, phases and entries: what can be seen of r is promised of `runIn r`
   pub run : runIn r ≡ run.after fresh es
+  -- what it stores as entered is what happened: outcome o of transaction t was entered at site s
+  pub entries : (t s : ℕ) (o : Outcome) → runIn r .transaction t .entered s o ≡ any (isEntryAt t s o) (history fresh es)
+  -- and so is what it stores as sent: a message of transaction t of kind k, to participant p or from it, was sent
+  pub messages : (t p k : ℕ) → runIn r .transaction t .sent p k ≡ any (isMessage t p k) (history fresh es)
   -- and the plain run's list keeps the three sentences
   pub safe : Safe es
 

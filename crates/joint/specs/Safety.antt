@@ -9,7 +9,7 @@ use lib.Dec.{T, eqb}
 use Rattle.codec.specs.Lists.{any, every, same}
 use Rattle.codec.specs.Sets.{member}
 use Rattle.site.specs.Presumption.{Outcome, commit, abort, sameOutcome}
-use Rattle.site.specs.Step.{Message, voteYes, tell, messageKind, Effect, append, force, enter, send}
+use Rattle.site.specs.Step.{voteYes, tell, messageKind, Effect, append, force, enter, send}
 use Rattle.site.specs.Coordinator.{CoordinatorPhase}
 use Rattle.joint.specs.State.{Run, Act, fresh, holds, perform}
 use Rattle.joint.specs.Run.{event}
@@ -57,15 +57,24 @@ enters o force = false
 enters o (enter d) = sameOutcome o d
 enters o (send m p) = false
 
-unfoldable pub sends : Message → ℕ → Effect → Bool
-sends m p (append k fs) = false
-sends m p force = false
-sends m p (enter d) = false
-sends m p (send n q) = eqb (messageKind m) (messageKind n) && eqb p q
+-- a message of kind k, to participant p or from it
+unfoldable pub sends : ℕ → ℕ → Effect → Bool
+sends k p (append j fs) = false
+sends k p force = false
+sends k p (enter d) = false
+sends k p (send m q) = eqb k (messageKind m) && eqb p q
 
 -- an entry: outcome o of transaction t is entered, at whichever site
 unfoldable pub isEntry : ℕ → Outcome → Moment → Bool
 isEntry t o m = every (eqb (m .act .transaction) t ∷ enters o (m .act .effect) ∷ [])
+
+-- the same at site s
+unfoldable pub isEntryAt : ℕ → ℕ → Outcome → Moment → Bool
+isEntryAt t s o m = eqb (m .site) s && isEntry t o m
+
+-- a message of transaction t of kind k, to participant p or from it, is sent
+unfoldable pub isMessage : ℕ → ℕ → ℕ → Moment → Bool
+isMessage t p k m = every (eqb (m .act .transaction) t ∷ sends k p (m .act .effect) ∷ [])
 
 -- participant p votes Yes on t from a stable record: it sends a Yes while its stable log holds its record 5 of t
 unfoldable pub isVote : ℕ → ℕ → Moment → Bool
@@ -73,7 +82,7 @@ isVote t p m =
     every
     (eqb (m .site) p
     ∷ eqb (m .act .transaction) t
-    ∷ sends voteYes p (m .act .effect)
+    ∷ sends (messageKind voteYes) p (m .act .effect)
     ∷ holds t 5 (m .before .site p .stable)
     ∷ [])
 
@@ -84,7 +93,7 @@ isReply t p o m =
     (same (take 4 (m .event)) (2 ∷ t ∷ p ∷ messageKind voteYes ∷ [])
     ∷ eqb (m .site) 0
     ∷ eqb (m .act .transaction) t
-    ∷ sends (tell o) p (m .act .effect)
+    ∷ sends (messageKind (tell o)) p (m .act .effect)
     ∷ [])
 
 -- in its stable log p has voted on t and has no outcome

@@ -1,8 +1,10 @@
 -- Laws of Booleans, by cases.
-use mathlib.Core.Path.{_≡_, refl, sym, subst}
+use Prim.Native.Nat.{ℕ}
+use mathlib.Core.Path.{_≡_, refl, sym, subst, _∙_}
 use mathlib.Core.Logic.{_⊎_, inl, inr}
 use mathlib.Core.Bool.{Bool, true, false, not, _&&_, _||_}
-use lib.Dec.{T}
+use lib.Dec.{T, eqb}
+use borrow.Author.Tests.{eq-eqb, ne-eqb, eqb-true, eqb-false}
 
 -- a test that is asked for only where another holds
 abbrev pub _⇒_ : Bool → Bool → Bool
@@ -68,3 +70,10 @@ both-ways false t u = t
 
 pub clash : true ≡ false → ⊥
 clash e = subst (λ (b : Bool). T b) e tt
+
+pub eqb-sym : (m n : ℕ) → eqb m n ≡ eqb n m
+eqb-sym m n = go (eqb m n) refl
+  where
+    go : (b : Bool) → eqb m n ≡ b → eqb m n ≡ eqb n m
+    go true q = q ∙ sym (eq-eqb n m (sym (eqb-true m n q)))
+    go false q = q ∙ sym (ne-eqb n m (λ e. eqb-false m n q (sym e)))

@@ -52,7 +52,7 @@ sole (suc n) a b [] v e = cc
 sole (suc zero) a b (c ∷ u) v e = absurd (not-empty u b v (cc))
 sole (suc (suc n)) a b (c ∷ u) v e = absurd (not-empty u b v (cc))
 
-told : (o d : Outcome) (p q : ℕ) → T (sends (tell o) p (send (tell d) q)) → o ≡ d
+told : (o d : Outcome) (p q : ℕ) → T (sends (messageKind (tell o)) p (send (tell d) q)) → o ≡ d
 unfolding sends messageKind
 told commit commit p q h = refl
 told commit abort p q h = absurd h

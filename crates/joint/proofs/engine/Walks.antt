@@ -17,7 +17,7 @@ use Rattle.site.specs.Answers.{hasKind}
 use Rattle.joint.specs.State.{holds}
 use Rattle.joint.specs.Plan.{newest}
 use Rattle.joint.specs.Inside.{oldestAt}
-use Rattle.joint.proofs.base.Booleans.{clash}
+use Rattle.joint.proofs.base.Booleans.{eqb-sym, clash}
 use Rattle.joint.proofs.base.Lists.{select-append, any-append}
 
 -- ---- lists
@@ -48,13 +48,6 @@ module _ (f : LogRecord → Bool) where
       go : (b : Bool) → ltb (oldestAt f xs) (length xs) ≡ any f xs → ltb (cond b 0 (suc (oldestAt f xs))) (suc (length xs)) ≡ (b || any f xs)
       go true more = lt-ltb 0 (suc (length xs)) (omega arith)
       go false more = leb·suc-suc (suc (oldestAt f xs)) (length xs) ∙ more
-
-eqb-sym : (m n : ℕ) → eqb m n ≡ eqb n m
-eqb-sym m n = go (eqb m n) refl
-  where
-    go : (b : Bool) → eqb m n ≡ b → eqb m n ≡ eqb n m
-    go true q = q ∙ sym (eq-eqb n m (sym (eqb-true m n q)))
-    go false q = q ∙ sym (ne-eqb n m (λ e. eqb-false m n q (sym e)))
 
 -- ---- a record's transaction
 

@@ -11,7 +11,7 @@ use Rattle.codec.specs.laws.Tests.{and-left, of-true}
 use Rattle.site.specs.Coordinator.{CoordinatorPhase}
 use Rattle.site.specs.Presumption.{Outcome, commit}
 use Rattle.site.specs.Cohort.{Cohort, writesInit}
-use Rattle.site.specs.Step.{voteYes, Effect, append, force, enter, send}
+use Rattle.site.specs.Step.{voteYes, messageKind, Effect, append, force, enter, send}
 use Rattle.joint.specs.State.{forced, holds, withCoordinator, forgotten}
 use Rattle.joint.specs.Safety.{sends}
 use Rattle.joint.proofs.base.Booleans.{or-either}
@@ -53,7 +53,7 @@ perform-voted t force v n u = u
 perform-voted t (enter o) v n u = u
 perform-voted t (send m p) v n u =
     or-either (v .voted (suc n)) _ (λ k. k)
-    (λ k. absurd (subst T (own-number n) (and-left (eqb 0 (suc n)) _ (and-left (eqb 0 (suc n) && sends voteYes (suc n) (send m p)) (holds t 5 (v .site (suc n) .stable)) k)))) u
+    (λ k. absurd (subst T (own-number n) (and-left (eqb 0 (suc n)) _ (and-left (eqb 0 (suc n) && sends (messageKind voteYes) (suc n) (send m p)) (holds t 5 (v .site (suc n) .stable)) k)))) u
 
 effects-voted : (t : ℕ) (es : List Effect) (v : View) (n : ℕ) → T (viewEffects 0 t es v .voted (suc n)) → T (v .voted (suc n))
 unfolding viewEffects

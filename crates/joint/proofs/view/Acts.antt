@@ -12,10 +12,10 @@ use Rattle.site.specs.Presumption.{Outcome}
 use Rattle.site.specs.Step.{voteYes, messageKind, Effect, append, force, enter, send}
 use Rattle.joint.specs.State.{Run, Site, Transaction, Act, holds, atSite, atTransaction, appended, forced, stopped, withCoordinator, withParticipant, withSent, withEntered, forgotten, down, perform, performAll}
 use Rattle.joint.specs.Run.{isForce}
-use Rattle.joint.specs.Safety.{Moment, moments, enters, sends, isEntry, isVote}
+use Rattle.joint.specs.Safety.{Moment, moments, enters, sends, isEntry, isEntryAt, isVote}
 use Rattle.joint.proofs.base.Lists.{select-append, among, select-take, any-append}
 use Rattle.joint.proofs.base.Updates.{update-at, update-keeps, update-same, update-other}
-use Rattle.joint.proofs.view.View.{siteView, isEntryAt, withoutEntries, view, view-path, viewAt, viewPerform, viewEffects, viewDown}
+use Rattle.joint.proofs.view.View.{siteView, withoutEntries, view, view-path, viewAt, viewPerform, viewEffects, viewDown}
 
 -- ---- sites
 
@@ -66,9 +66,9 @@ module _ (bytes : List ℕ) (start : Run) where
   moment s u e r = record { event = bytes; start = start; before = r; site = s; act = record { transaction = u; effect = e } }
 
   vote-own : (t s p : ℕ) (e : Effect) (r : Run)
-      → isVote t p (moment s t e r) ≡ (eqb s p && sends voteYes p e && holds t 5 (siteView t (r .site p) .stable))
+      → isVote t p (moment s t e r) ≡ (eqb s p && sends (messageKind voteYes) p e && holds t 5 (siteView t (r .site p) .stable))
   unfolding isVote every siteView
-  vote-own t s p e r = rw (eq-eqb t t refl, holds-select) (go (eqb s p) (sends voteYes p e) (holds t 5 (r .site p .stable)))
+  vote-own t s p e r = rw (eq-eqb t t refl, holds-select) (go (eqb s p) (sends (messageKind voteYes) p e) (holds t 5 (r .site p .stable)))
     where
       go : (a b c : Bool) → (a && (true && (b && (c && true)))) ≡ (a && b && c)
       go true true true = refl
@@ -94,7 +94,7 @@ module _ (bytes : List ℕ) (start : Run) where
   entry-other t u s z o e r h = rw (ne-eqb u t h) (and-false (eqb s z))
 
   -- neither a vote nor an entry
-  no-vote : (t s p : ℕ) (e : Effect) (r : Run) → sends voteYes p e ≡ false → isVote t p (moment s t e r) ≡ false
+  no-vote : (t s p : ℕ) (e : Effect) (r : Run) → sends (messageKind voteYes) p e ≡ false → isVote t p (moment s t e r) ≡ false
   no-vote t s p e r h = vote-own t s p e r ∙ rw (h, and-false (eqb s p))
 
   no-entry : (t s z : ℕ) (o : Outcome) (e : Effect) (r : Run) → enters o e ≡ false → isEntryAt t z o (moment s t e r) ≡ false

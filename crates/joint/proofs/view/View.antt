@@ -12,7 +12,7 @@ use Rattle.codec.specs.Records.{ofTransaction}
 use Rattle.site.specs.Presumption.{Outcome, sameOutcome}
 use Rattle.site.specs.Step.{voteYes, messageKind, Effect, append, force, enter, send}
 use Rattle.joint.specs.State.{Run, Site, Transaction, opened, holds, update, appended, forced, stopped, withSent, forgotten}
-use Rattle.joint.specs.Safety.{Moment, sends, isEntry, isVote}
+use Rattle.joint.specs.Safety.{Moment, sends, isEntryAt, isVote}
 
 unfoldable pub siteView : ℕ → Site → Site
 siteView t x = record { up = x .up; stable = select (ofTransaction t) (x .stable); unforced = select (ofTransaction t) (x .unforced) }
@@ -23,10 +23,6 @@ pub record View : Type 0 where
   pub site : ℕ → Site
   pub voted : ℕ → Bool
   pub entered : ℕ → Outcome → Bool
-
--- outcome o of transaction t is entered at site s
-unfoldable pub isEntryAt : ℕ → ℕ → Outcome → Moment → Bool
-isEntryAt t s o m = eqb (m .site) s && isEntry t o m
 
 -- a transaction without the entries that the run stores
 abbrev pub withoutEntries : Transaction → Transaction
@@ -86,7 +82,7 @@ viewPerform s t (send m p) v =
     record {
       transaction = withSent p (messageKind m) (v .transaction);
       site = v .site;
-      voted = λ q. v .voted q || (eqb s q && sends voteYes q (send m p) && holds t 5 (v .site q .stable));
+      voted = λ q. v .voted q || (eqb s q && sends (messageKind voteYes) q (send m p) && holds t 5 (v .site q .stable));
       entered = v .entered;
     }
 
