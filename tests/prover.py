@@ -6,7 +6,7 @@ OUT = os.path.join(TOP, "target", "definitions")
 CRATES = {
     "codec": ["Lists", "Sets", "Records", "Image", "Messages"],
     "site": ["Presumption", "Cohort", "Step", "Coordinator", "Participant", "Numbers"],
-    "joint": ["State", "Event", "Refusals", "Plan", "Run", "Drill", "Safety"],
+    "joint": ["State", "Event", "Refusals", "Plan", "Run", "Drill", "Safety", "Screen"],
 }
 # the types and constructors that the equations' support names
 TYPES = {
@@ -16,6 +16,7 @@ TYPES = {
     "State": ["Run"],
     "Step": ["force"],
     "Safety": ["Moment", "Safe"],
+    "Screen": ["Screen"],
 }
 HEAD = """use Prim.Native.Nat.{ℕ, zero, suc}
 use mathlib.Core.Path.{_≡_, refl, ap, subst}

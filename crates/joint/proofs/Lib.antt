@@ -3,6 +3,7 @@ mod base
 mod view
 mod safety
 mod Demand3
+mod Screen
 mod logs
 mod Reachable
 mod engine

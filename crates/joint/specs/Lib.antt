@@ -5,6 +5,7 @@ pub mod Plan
 pub mod Run
 pub mod Drill
 pub mod Safety
+pub mod Screen
 pub mod Answers
 pub mod Program
 pub mod Inside

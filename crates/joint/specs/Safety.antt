@@ -73,8 +73,8 @@ unfoldable pub isEntryAt : ℕ → ℕ → Outcome → Moment → Bool
 isEntryAt t s o m = eqb (m .site) s && isEntry t o m
 
 -- a message of transaction t of kind k, to participant p or from it, is sent
-unfoldable pub isMessage : ℕ → ℕ → ℕ → Moment → Bool
-isMessage t p k m = every (eqb (m .act .transaction) t ∷ sends k p (m .act .effect) ∷ [])
+unfoldable pub isSending : ℕ → ℕ → ℕ → Moment → Bool
+isSending t p k m = every (eqb (m .act .transaction) t ∷ sends k p (m .act .effect) ∷ [])
 
 -- participant p votes Yes on t from a stable record: it sends a Yes while its stable log holds its record 5 of t
 unfoldable pub isVote : ℕ → ℕ → Moment → Bool

@@ -12,7 +12,7 @@ use Rattle.joint.specs.State.{Run, Transaction, Act, fresh, update, atSi
 use Rattle.joint.specs.Event.{Event, opening, beginning, delivery, timeout, forcing, discarding, crash, restart}
 use Rattle.joint.specs.Plan.{Plan, rowPlan, step, openedAs, forgottenUnless, discard, restarting, joined, restartAll, plan}
 use Rattle.joint.specs.Run.{Result, refuse, carry, cutShort, partly, event, after}
-use Rattle.joint.specs.Safety.{Moment, moments, happened, history, enters, sends, isEntry, isEntryAt, isMessage}
+use Rattle.joint.specs.Safety.{Moment, moments, happened, history, enters, sends, isEntry, isEntryAt, isSending}
 use Rattle.joint.proofs.base.Booleans.{eqb-sym}
 use Rattle.joint.proofs.base.Lists.{any-append}
 use Rattle.joint.proofs.base.Updates.{update-keeps}
@@ -138,8 +138,8 @@ module _ (e : List ℕ) (r x : Run) (s t : ℕ) where
       at-keeps t (λ sent entered. entered z o) u (withSent p (messageKind m)) (λ y. refl) x
       ∙ none-added (x .transaction t .entered z o) (eqb s z) (eqb u t)
 
-  message-stored : (q k u : ℕ) (w : Effect) → perform s u w x .transaction t .sent q k ≡ (x .transaction t .sent q k || isMessage t q k (now u w))
-  unfolding perform atSite withEntered isMessage every sends
+  message-stored : (q k u : ℕ) (w : Effect) → perform s u w x .transaction t .sent q k ≡ (x .transaction t .sent q k || isSending t q k (now u w))
+  unfolding perform atSite withEntered isSending every sends
   message-stored q k u (append j fs) = none-added (x .transaction t .sent q k) (eqb u t) true
   message-stored q k u force = none-added (x .transaction t .sent q k) (eqb u t) true
   message-stored q k u (enter o) =
@@ -158,7 +158,7 @@ entries-happened es t s o =
     stored-is-history t (λ sent entered. entered s o) (isEntryAt t s o) (λ e r x z a. entry-stored e r x z t s o (a .transaction) (a .effect))
     (unfold fresh in refl) es
 
-pub messages-happened : (es : List (List ℕ)) (t p k : ℕ) → after fresh es .transaction t .sent p k ≡ any (isMessage t p k) (history fresh es)
+pub messages-happened : (es : List (List ℕ)) (t p k : ℕ) → after fresh es .transaction t .sent p k ≡ any (isSending t p k) (history fresh es)
 messages-happened es t p k =
-    stored-is-history t (λ sent entered. sent p k) (isMessage t p k) (λ e r x z a. message-stored e r x z t p k (a .transaction) (a .effect))
+    stored-is-history t (λ sent entered. sent p k) (isSending t p k) (λ e r x z a. message-stored e r x z t p k (a .transaction) (a .effect))
     (unfold fresh in refl) es
