@@ -17,7 +17,11 @@
  *   `buffer_len` bytes, `parts` to read and write three bytes, `events` to read `len` bytes, `text` to read and write
  *   `text_len` bytes; no alignment is needed;
  * - no pointer is null. For a length of 0 any other pointer will do, since nothing is read or written through it;
- * - `image` and `buffer` do not overlap in any byte, whatever the offset; nor do `events` and `text`.
+ * - `image` and `buffer` do not overlap in any byte, whatever the offset; nor do `events` and `text`;
+ * - calls follow System V's convention for x86-64: the stack is aligned to 16 bytes at the call, and the direction flag is
+ *   clear. The functions may use SSE registers, and the 128 bytes below the stack pointer. So the handler of an interrupt
+ *   leaves these 128 bytes as they are, and where it makes a call of its own it saves the SSE state with the other
+ *   registers and aligns the stack first.
  */
 #ifndef DPR_H
 #define DPR_H
@@ -151,6 +155,19 @@ uint8_t dpr_message_parts(uint16_t number, uint8_t parts[3]);
 /* One step of one site on one handover. The caller keeps the site's phase and waiting set, passes them, acts on the
  * number that comes back, and stores the phase and the waiting set that are in it.
  *
+ * A handover. Before it is opened every site is Unknown for it. Opening it names members and presume_commit; the hub is
+ * then DPR_HUB_OPEN and each member DPR_BOX_WORKING, with an empty waiting set. A handover's number is opened once for
+ * ever, also where all of it was discarded: its old messages may still come, and would be taken for new ones.
+ *
+ * Loss of power. Phase and waiting set are kept in RAM, and no copy of them may survive: only the log does. While a site is
+ * down, all its handovers are Unknown to it. Then the rules of restart below give each of them anew from the log. A
+ * DPR_BOX_WORKING that survives books both ways: its timer has entered abort, power goes before Unknown is stored, and
+ * still Working it votes Yes on a late Prepare and enters commit too.
+ *
+ * The presumption. DPR_YES, DPR_COMMIT and DPR_ABORT carry the box's presumption with them: a site that has forgotten the
+ * handover takes it from the message and never guesses it. DPR_PREPARE, DPR_NO and the acks carry none, and to a site in
+ * Unknown they mean the same with either.
+ *
  * Each argument has to be as follows, or the whole number is DPR_REFUSED_ARGUMENT, its other bytes 0:
  *   site            0 to 8.
  *   kind            at the hub DPR_YES, DPR_NO, DPR_COMMIT_ACK, DPR_ABORT_ACK, DPR_BEGIN or DPR_TIMER; at a box
@@ -182,11 +199,21 @@ uint8_t dpr_message_parts(uint16_t number, uint8_t parts[3]);
  * it, the lowest first, then to the others, the lowest first. For DPR_COMMIT the boxes that are not in presume_commit owe
  * one, for DPR_ABORT those that are in it.
  *
- * Restart is no kind of this call, and the arguments are bytes: C cuts a wider number before the call is made.
+ * The arguments are bytes: C cuts a wider number before the call is made.
  *
  * A step may change nothing: the phase and the waiting set as they came, all other bytes 0. Either there is no rule for
  * the kind in this phase, or its rule has nothing to do, as for a vote that comes again; the number does not tell
- * which. */
+ * which.
+ *
+ * Restart is no kind of this call. A site that comes up again does this for each handover, by the stable records that its
+ * log has of it; sends go in the order above, and nothing is appended or forced:
+ *   hub, DPR_RECORD_COMMIT without DPR_RECORD_COMMIT_END: enter commit. Where members of the record are not in its
+ *      presume_commit: send DPR_COMMIT to all its members, then DPR_HUB_COMMITTING, waiting for those. Else Unknown.
+ *   hub, DPR_RECORD_INIT without DPR_RECORD_COMMIT and DPR_RECORD_ABORT_END: enter abort, send DPR_ABORT to all its
+ *      members, then DPR_HUB_ABORTING, waiting for its presume_commit.
+ *   box, DPR_RECORD_COMMITTED: enter commit, DPR_BOX_COMMITTED. DPR_RECORD_ABORTED: enter abort, DPR_BOX_ABORTED.
+ *   box, DPR_RECORD_PREPARED alone: send DPR_YES, DPR_BOX_PREPARED.
+ *   anything else: Unknown, and nothing is done. */
 uint64_t dpr_site_step(uint8_t site, uint8_t kind, uint8_t handover, uint8_t box, uint8_t presumption, uint8_t phase,
                        uint8_t waiting, uint8_t members, uint8_t presume_commit);
 
@@ -200,7 +227,8 @@ uint64_t dpr_site_step(uint8_t site, uint8_t kind, uint8_t handover, uint8_t box
  * from the start of the `text_len` bytes at `text`. Each event has a line: its number from 1, its answer (0, or 1 to 9
  * for a refusal), and how many records, forces and sends happened. A broken last event, of 1 to 5 bytes, answers 1. Then
  * each opened handover has a line: HANDOVER, its number, and for each of the sites 0 to 8 a letter: C (commit was
- * entered), A (abort), X (both) or - (none). Every line ends with a newline, and no zero byte follows the text.
+ * entered), A (abort), X (both) or - (none). No such line has an X, and none has both a C and an A: that is proved for all
+ * bytes. Every line ends with a newline, and no zero byte follows the text.
  *
  * Returns the length of the text, which has been written; the bytes of the buffer behind it are as they were.
  * Returns 0 where `text_len` is under that length, and then nothing has been written. Without events the text is empty:
