@@ -13,20 +13,13 @@ answer j n l a b = (sym (digits-at 5 j n l a b), omega (arith, l))
 returns : tie.Need-returns
 returns c = let one = ap length (decimal-one 5 _ (c .if1 .taken)) in (sym one, omega arith)
 
-returns-2 : tie.Need-returns-2
-returns-2 c = answer 1 _ (omega arith) (omega arith) (omega arith)
-
-returns-3 : tie.Need-returns-3
-returns-3 c = answer 2 _ (omega arith) (omega arith) (omega arith)
-
-returns-4 : tie.Need-returns-4
-returns-4 c = answer 3 _ (omega arith) (omega arith) (omega arith)
-
-returns-5 : tie.Need-returns-5
-returns-5 c = answer 4 _ (omega arith) (omega arith) (omega arith)
-
-returns-6 : tie.Need-returns-6
-returns-6 c = answer 5 _ (omega arith) (omega arith) (omega arith)
-
 pub digits-spec : {M : Type 1} → statement M
-digits-spec = tie.close (tie.spec returns returns-2 returns-3 returns-4 returns-5 returns-6)
+digits-spec =
+    tie.close
+    (tie.spec
+    returns
+    (λ c. answer 1 _ (omega arith) (omega arith) (omega arith))
+    (λ c. answer 2 _ (omega arith) (omega arith) (omega arith))
+    (λ c. answer 3 _ (omega arith) (omega arith) (omega arith))
+    (λ c. answer 4 _ (omega arith) (omega arith) (omega arith))
+    (λ c. answer 5 _ (omega arith) (omega arith) (omega arith)))

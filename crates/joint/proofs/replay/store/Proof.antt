@@ -6,15 +6,6 @@ use borrow.Author.Needs.{needs}
 use Rattle.joint.proofs.replay.store.Statement.{statement}
 use Rattle.joint.proofs.replay.store.Tie as tie
 
-slice-write-answers-2 : tie.Need-slice-write-answers-2
-slice-write-answers-2 c = simp length-set (omega arith)
-
-slice-write-answers-3 : tie.Need-slice-write-answers-3
-slice-write-answers-3 c = simp length-set (omega arith)
-
-slice-write-answers-4 : tie.Need-slice-write-answers-4
-slice-write-answers-4 c = simp length-set (omega arith)
-
 returns : tie.Need-returns
 returns c =
     let n = c .before .before .before in
@@ -29,12 +20,12 @@ store-spec =
     (λ c. search needs)
     (λ c κs. search needs)
     (λ c. search needs)
-    slice-write-answers-2
+    (λ c. simp length-set (omega arith))
     (λ c κs. search needs)
     (λ c. search needs)
-    slice-write-answers-3
+    (λ c. simp length-set (omega arith))
     (λ c κs. search needs)
     (λ c. search needs)
-    slice-write-answers-4
+    (λ c. simp length-set (omega arith))
     (λ c. search needs)
     returns)

@@ -1,9 +1,12 @@
-use mathlib.Core.Path.{refl, sym}
+use Prim.Native.Nat.{ℕ}
+use mathlib.Core.Path.{_≡_, refl, sym}
+use mathlib.Core.Bool.{true}
 use borrow.Author.Tests.{not-false}
 use Rattle.codec.specs.Lists.{any}
-use Rattle.site.specs.Step.{messages}
+use Rattle.site.specs.Step.{messages, answered}
 use Rattle.site.specs.Coordinator.{coordinatorStep}
-use Rattle.site.specs.Numbers.{kindsReceived, receives, inputOf}
+use Rattle.site.specs.Numbers.{kindsReceived, receives, inputOf, coordinatorAnswer}
+use Rattle.site.specs.Answers.{cohortIn, coordinatorIn}
 use Rattle.site.proofs.ByKind.{coordinator-stranger, coordinator-takes, coordinator-never, not-received}
 use Rattle.site.proofs.coordinator.Coordinator.step.Statement.{statement}
 use Rattle.site.proofs.coordinator.Coordinator.step.Tie as tie
@@ -16,53 +19,14 @@ returns c =
 on-yes-requires : tie.Need-on-yes-requires
 on-yes-requires c κs = rw (sym (c .before .before .member .ensures)) (not-false (c .before .before .member .result) (rw (c .match .keys1) at (c .before .if1 .left)))
 
-returns-2 : tie.Need-returns-2
-unfolding receives kindsReceived any inputOf messages coordinatorStep
-returns-2 c =
-    let s = c .before .before .before .before .args in
-    let m = c .before .before .before .member in
-    rw (c .on-yes .ensures)
-    (coordinator-takes (s .self) (s .kind) (s .participant) (m .result) (m .ensures) 1 (c .before .before .if1 .left) (c .before .match .keys1) refl)
-
-returns-3 : tie.Need-returns-3
-unfolding receives kindsReceived any inputOf messages coordinatorStep
-returns-3 c =
-    let s = c .before .before .before .before .args in
-    let m = c .before .before .before .member in
-    rw (c .on-no .ensures)
-    (coordinator-takes (s .self) (s .kind) (s .participant) (m .result) (m .ensures) 2 (c .before .before .if1 .left) (c .before .match .keys2) refl)
-
-returns-4 : tie.Need-returns-4
-unfolding receives kindsReceived any inputOf messages coordinatorStep
-returns-4 c =
-    let s = c .before .before .before .before .args in
-    let m = c .before .before .before .member in
-    rw (c .on-ack .ensures)
-    (coordinator-takes (s .self) (s .kind) (s .participant) (m .result) (m .ensures) 5 (c .before .before .if1 .left) (c .before .match .keys3) refl)
-
-returns-5 : tie.Need-returns-5
-unfolding receives kindsReceived any inputOf messages coordinatorStep
-returns-5 c =
-    let s = c .before .before .before .before .args in
-    let m = c .before .before .before .member in
-    rw (c .on-ack2 .ensures)
-    (coordinator-takes (s .self) (s .kind) (s .participant) (m .result) (m .ensures) 6 (c .before .before .if1 .left) (c .before .match .keys4) refl)
-
-returns-6 : tie.Need-returns-6
-unfolding receives kindsReceived any inputOf messages coordinatorStep
-returns-6 c =
-    let s = c .before .before .before .before .args in
-    let m = c .before .before .before .member in
-    rw (c .on-begin .ensures)
-    (coordinator-takes (s .self) (s .kind) (s .participant) (m .result) (m .ensures) 16 (c .before .before .if1 .left) (c .before .match .keys5) refl)
-
-returns-7 : tie.Need-returns-7
-unfolding receives kindsReceived any inputOf messages coordinatorStep
-returns-7 c =
-    let s = c .before .before .before .before .args in
-    let m = c .before .before .before .member in
-    rw (c .on-timer .ensures)
-    (coordinator-takes (s .self) (s .kind) (s .participant) (m .result) (m .ensures) 17 (c .before .before .if1 .left) (c .before .match .keys6) refl)
+-- a kind k that is received, behind the test
+takes : (d : tie.Else1) (k : ℕ) → d .before .before .args .kind ≡ k → receives 0 k ≡ true
+    → let s = d .before .before .args in
+    answered (coordinatorStep (cohortIn (s .self)) (inputOf k (s .participant)) (coordinatorIn (s .self .phase)))
+    ≡ coordinatorAnswer (cohortIn (s .self)) (s .kind) (s .participant) (coordinatorIn (s .self .phase))
+takes d k =
+    let s = d .before .before .args in
+    coordinator-takes (s .self) (s .kind) (s .participant) (d .before .member .result) (d .before .member .ensures) k (d .if1 .left)
 
 returns-8 : tie.Need-returns-8
 unfolding receives kindsReceived any
@@ -78,6 +42,7 @@ returns-9 c =
     (not-received (s .kind) (r .0 .0 .0 .0 .0 .1) (r .0 .0 .0 .0 .1) (r .0 .0 .0 .1) (r .0 .0 .1) (r .0 .1) (r .1))
 
 pub step-spec : {M : Type 1} → statement M
+unfolding receives kindsReceived any inputOf messages coordinatorStep
 step-spec =
     tie.close
     (tie.spec
@@ -89,11 +54,11 @@ step-spec =
     (λ c κs. tt)
     (λ c κs. tt)
     (λ c κs. tt)
-    returns-2
-    returns-3
-    returns-4
-    returns-5
-    returns-6
-    returns-7
+    (λ c. rw (c .on-yes .ensures) (takes (c .before .before) 1 (c .before .match .keys1) refl))
+    (λ c. rw (c .on-no .ensures) (takes (c .before .before) 2 (c .before .match .keys2) refl))
+    (λ c. rw (c .on-ack .ensures) (takes (c .before .before) 5 (c .before .match .keys3) refl))
+    (λ c. rw (c .on-ack2 .ensures) (takes (c .before .before) 6 (c .before .match .keys4) refl))
+    (λ c. rw (c .on-begin .ensures) (takes (c .before .before) 16 (c .before .match .keys5) refl))
+    (λ c. rw (c .on-timer .ensures) (takes (c .before .before) 17 (c .before .match .keys6) refl))
     returns-8
     returns-9)

@@ -1,10 +1,13 @@
-use mathlib.Core.Path.{refl}
+use Prim.Native.Nat.{ℕ, _≤_}
+use mathlib.Core.Path.{_≡_, refl}
+use mathlib.Core.Bool.{true}
 use native.Mathlib.Omega.{arith}
 use Rattle.codec.specs.Lists.{any}
 use Rattle.codec.specs.laws.Members.{numbered}
-use Rattle.site.specs.Step.{messages}
+use Rattle.site.specs.Step.{messages, answered}
 use Rattle.site.specs.Participant.{participantStep}
-use Rattle.site.specs.Numbers.{kindsReceived, receives, inputOf}
+use Rattle.site.specs.Numbers.{kindsReceived, receives, inputOf, participantAnswer}
+use Rattle.site.specs.Answers.{presumptionIn, participantIn}
 use Rattle.site.proofs.ByKind.{no-participant, participant-takes, participant-never}
 use Rattle.site.proofs.participant.Participant.step.Statement.{statement}
 use Rattle.site.proofs.participant.Participant.step.Tie as tie
@@ -12,41 +15,18 @@ use Rattle.site.proofs.participant.Participant.step.Tie as tie
 returns : tie.Need-returns
 returns c = let s = c .before .args in no-participant (s .self) (omega arith) (s .kind) (c .if1 .taken)
 
-on-prepare-requires : tie.Need-on-prepare-requires
-on-prepare-requires c κs = numbered (c .before .before .args .self .number) (c .before .if1 .left)
+-- behind the test it is one of 1 to 8
+in-range : (d : tie.Else1) → (1 ≤ d .before .args .self .number) × (d .before .args .self .number ≤ 8)
+in-range d = numbered (d .before .args .self .number) (d .if1 .left)
 
-on-tell-requires : tie.Need-on-tell-requires
-on-tell-requires c κs = numbered (c .before .before .args .self .number) (c .before .if1 .left)
-
-on-tell-requires-2 : tie.Need-on-tell-requires-2
-on-tell-requires-2 c κs = numbered (c .before .before .args .self .number) (c .before .if1 .left)
-
-on-timer-requires : tie.Need-on-timer-requires
-on-timer-requires c κs = numbered (c .before .before .args .self .number) (c .before .if1 .left)
-
-returns-2 : tie.Need-returns-2
-unfolding receives kindsReceived any inputOf messages participantStep
-returns-2 c =
-    let s = c .before .before .before .args in
-    rw (c .on-prepare .ensures) (participant-takes (s .self) (omega arith) (s .kind) 0 (c .before .before .if1 .left) (c .before .match .keys1) refl)
-
-returns-3 : tie.Need-returns-3
-unfolding receives kindsReceived any inputOf messages participantStep
-returns-3 c =
-    let s = c .before .before .before .args in
-    rw (c .on-tell .ensures) (participant-takes (s .self) (omega arith) (s .kind) 3 (c .before .before .if1 .left) (c .before .match .keys2) refl)
-
-returns-4 : tie.Need-returns-4
-unfolding receives kindsReceived any inputOf messages participantStep
-returns-4 c =
-    let s = c .before .before .before .args in
-    rw (c .on-tell2 .ensures) (participant-takes (s .self) (omega arith) (s .kind) 4 (c .before .before .if1 .left) (c .before .match .keys3) refl)
-
-returns-5 : tie.Need-returns-5
-unfolding receives kindsReceived any inputOf messages participantStep
-returns-5 c =
-    let s = c .before .before .before .args in
-    rw (c .on-timer .ensures) (participant-takes (s .self) (omega arith) (s .kind) 17 (c .before .before .if1 .left) (c .before .match .keys4) refl)
+-- a kind k that is received, behind the test
+takes : (d : tie.Else1) (k : ℕ) → d .before .args .kind ≡ k → receives 1 k ≡ true
+    → let s = d .before .args in
+    answered (participantStep (presumptionIn (s .self .presumption)) (s .self .number) (inputOf k (s .self .number)) (participantIn (s .self .phase)))
+    ≡ participantAnswer (presumptionIn (s .self .presumption)) (s .self .number) (s .kind) (participantIn (s .self .phase))
+takes d k =
+    let s = d .before .args in
+    participant-takes (s .self) (omega arith) (s .kind) k (d .if1 .left)
 
 returns-6 : tie.Need-returns-6
 returns-6 c =
@@ -55,16 +35,17 @@ returns-6 c =
     participant-never (s .self) (omega arith) (s .kind) (r .0 .0 .0 .1) (r .0 .0 .1) (r .0 .1) (r .1)
 
 pub step-spec : {M : Type 1} → statement M
+unfolding receives kindsReceived any inputOf messages participantStep
 step-spec =
     tie.close
     (tie.spec
     returns
-    on-prepare-requires
-    on-tell-requires
-    on-tell-requires-2
-    on-timer-requires
-    returns-2
-    returns-3
-    returns-4
-    returns-5
+    (λ c κs. in-range (c .before))
+    (λ c κs. in-range (c .before))
+    (λ c κs. in-range (c .before))
+    (λ c κs. in-range (c .before))
+    (λ c. rw (c .on-prepare .ensures) (takes (c .before .before) 0 (c .before .match .keys1) refl))
+    (λ c. rw (c .on-tell .ensures) (takes (c .before .before) 3 (c .before .match .keys2) refl))
+    (λ c. rw (c .on-tell2 .ensures) (takes (c .before .before) 4 (c .before .match .keys3) refl))
+    (λ c. rw (c .on-timer .ensures) (takes (c .before .before) 17 (c .before .match .keys4) refl))
     returns-6)

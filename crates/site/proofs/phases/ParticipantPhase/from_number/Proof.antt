@@ -5,24 +5,16 @@ use Rattle.site.proofs.Phased.{last-participant}
 use Rattle.site.proofs.phases.ParticipantPhase.from_number.Statement.{statement}
 use Rattle.site.proofs.phases.ParticipantPhase.from_number.Tie as tie
 
-returns : tie.Need-returns
-unfolding participantOf
-returns c = rw (c .match .keys1)
-
-returns-2 : tie.Need-returns-2
-unfolding participantOf
-returns-2 c = rw (c .match .keys2)
-
-returns-3 : tie.Need-returns-3
-unfolding participantOf
-returns-3 c = rw (c .match .keys3)
-
-returns-4 : tie.Need-returns-4
-unfolding participantOf
-returns-4 c = rw (c .match .keys4)
-
 returns-5 : tie.Need-returns-5
 returns-5 c = let rest = c .match .rest in sym (last-participant (c .before .args .phase) (omega (arith, rest .0 .0 .0 .1, rest .0 .0 .1, rest .0 .1, rest .1)))
 
 pub from-number-spec : {M : Type 1} → statement M
-from-number-spec = tie.close (tie.spec returns returns-2 returns-3 returns-4 returns-5)
+unfolding participantOf
+from-number-spec =
+    tie.close
+    (tie.spec
+    (λ c. rw (c .match .keys1))
+    (λ c. rw (c .match .keys2))
+    (λ c. rw (c .match .keys3))
+    (λ c. rw (c .match .keys4))
+    returns-5)
