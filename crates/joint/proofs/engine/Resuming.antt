@@ -15,35 +15,33 @@ use Rattle.codec.specs.laws.Tests.{below-at}
 use Rattle.site.specs.Step.{Effect}
 use Rattle.site.specs.Answers.{effectsIn, hasKind}
 use Rattle.joint.specs.State as plain
-use Rattle.joint.specs.State.{Act, update, opened, holds, atSite, atTransaction, stopped, down, performAll}
-use Rattle.joint.specs.Plan.{Plan, acting, forgottenUnless, restarting, restartAll, transactions}
+use Rattle.joint.specs.State.{Act, fresh, update, opened, holds, atSite, stopped, down, performAll}
+use Rattle.joint.specs.Plan.{Plan, acting, restarting, restartAll, transactions}
 use Rattle.joint.specs.Run.{isSend, count}
 use Rattle.joint.specs.Answers.{transactionIn, transactionsIn, noTransaction}
-use Rattle.joint.specs.Inside.{transactionAfter, counted, thenIn, thenTransaction, planIn, KindsOf, Resumption, resumed}
+use Rattle.joint.specs.Inside.{transactionAfter, counted, thenIn, thenTransaction, goesDown, planIn, KindsOf, Resumption, resumed}
 use Rattle.joint.specs.declared.transactions.Transaction.{Transaction}
 use Rattle.joint.specs.declared.rows.Then.{Then}
 use Rattle.joint.specs.declared.rows.Then.the-variants as follows
 use Rattle.joint.specs.declared.rows.Row.{Row}
 use Rattle.joint.proofs.base.Updates.{update-same}
 use Rattle.joint.proofs.engine.Arrays.{stored}
-use Rattle.joint.proofs.engine.Placed.{update-twice, performed, acting-length, acting-take, acting-counted}
+use Rattle.joint.proofs.engine.Placed.{acting-length, acting-take, acting-counted}
+use Rattle.joint.proofs.engine.Rows.{forgottenIf, row-happens}
 use Rattle.joint.proofs.engine.Restarts.{resumes, resumedBy, resumed-joined}
 
 -- ---- one row
 
--- what follows a row that leaves its site: in a run with y as transaction t
-then-stored : (s t : ℕ) (h : Then) → ((x : plain.Run) → thenIn s t h x .site ≡ x .site) → (f : ℕ → plain.Site) (y : plain.Transaction) (g : ℕ → plain.Transaction)
-    → thenIn s t h (record { site = f; transaction = update t (λ _. y) g }) .transaction ≡ update t (λ _. thenTransaction s h y) g
-unfolding thenIn thenTransaction atTransaction atSite forgottenUnless down stopped
-then-stored s t follows.Same k f y g = refl
-then-stored s t (follows.Coordinator c) k f y g = update-twice t _ _ g
-then-stored s t (follows.Participant c) k f y g = update-twice t _ _ g
-then-stored s t (follows.Opened c) k f y g = update-twice t _ _ g
-then-stored s t (follows.Discarded true) k f y g = update-twice t _ _ g
-then-stored s t (follows.Discarded false) k f y g = refl
-then-stored s t (follows.Down n) k f y g =
-    let up : plain.Run = record { site = λ _. record { up = true; stable = []; unforced = [] }; transaction = g } in
-    absurd (true≢false (sym (ap (λ (f : ℕ → plain.Site). f s .up) (k up)) ∙ ap (λ (a : plain.Site). a .up) (update-same s (stopped n) (up .site))))
+-- where what follows a row leaves the sites, the site stays up
+stays-up : (s t : ℕ) (h : Then) → ((x : plain.Run) → thenIn s t h x .site ≡ x .site) → goesDown h ≡ false
+unfolding thenIn goesDown down stopped fresh
+stays-up s t follows.Same k = refl
+stays-up s t (follows.Coordinator c) k = refl
+stays-up s t (follows.Participant c) k = refl
+stays-up s t (follows.Opened c) k = refl
+stays-up s t (follows.Discarded b) k = refl
+stays-up s t (follows.Down n) k =
+    absurd (true≢false (sym (ap (λ (f : ℕ → plain.Site). f s .up) (k fresh)) ∙ ap (λ (a : plain.Site). a .up) (update-same s (stopped n) (fresh .site))))
 
 -- a row of a restart, with hs for the effects that happened
 row-resumed : (x : plain.Run) (s t : ℕ) (row : Row) → planIn s t row ≡ restarting x s t
@@ -61,8 +59,8 @@ row-resumed x s t row e z hs h =
     let kept : (y : plain.Run) → thenIn s t (row .then) y .site ≡ y .site = λ y. ap (λ (p : Plan). p .settle y .site) e ∙ resumes x s t .kept y in
     let changed : thenIn s t (row .then) (performAll s (take (z .left) (acting t es)) r) .transaction ≡ update t (λ _. thenTransaction s (row .then) (transactionAfter s hs (z .transaction t))) (z .transaction) =
     ap (λ l. thenIn s t (row .then) (performAll s l r) .transaction) happen
-    ∙ ap (λ (y : plain.Run). thenIn s t (row .then) y .transaction) (performed s t hs r)
-    ∙ then-stored s t (row .then) kept _ (transactionAfter s hs (z .transaction t)) (z .transaction) in
+    ∙ ap (λ (y : plain.Run). y .transaction) (row-happens s t (row .then) hs r)
+    ∙ ap (λ (b : Bool). forgottenIf b s (update t (λ _. thenTransaction s (row .then) (transactionAfter s hs (z .transaction t))) (z .transaction))) (stays-up s t (row .then) kept) in
     ap (λ p. resumedBy x s p z) (sym e)
     ∙ (λ i. record {
       transaction = changed i;
