@@ -1,49 +1,21 @@
--- The lowest members of a mask of a byte, how many it has, and unions. Assumes nothing.
+-- The lowest members of a mask of a byte, and how many it has. Assumes nothing.
 use mathlib.Core.Path.{_≡_, refl, ap, sym, _∙_}
-use mathlib.Core.Bool.{Bool, true, false, _&&_, _||_}
+use mathlib.Core.Bool.{Bool, true, false, _&&_}
 use mathlib.Core.Logic.{⊎-elim}
 use mathlib.Core.List.{List, [], _∷_}
-use Prim.Native.Nat.{ℕ, zero, suc, _+_, _-_, _*_, _/_, _%_, _^_, max, _<_, _≤_}
+use Prim.Native.Nat.{ℕ, zero, suc, _+_, _-_, _^_, _<_, _≤_}
 use native.Mathlib.Omega.{arith}
-use lib.Dec.{T, eqb, leb, ltb, eqb→eq}
-use borrow.Author.Tests.{leb-true, ltb-true}
-use lib.Bits.{bitOr, or-step, or-shr, or-lt}
+use lib.Dec.{eqb, leb, eqb→eq}
+use borrow.Author.Tests.{leb-true}
 use lib.Count.{ones, onesIn}
-use lib.ListN.{length, take, drop, getD, length-drop}
+use lib.ListN.{length, take, drop, length-drop}
 use lib.Seq.{take-all, drop-drop}
 use Rattle.codec.specs.Lists.{select, same}
-use Rattle.codec.specs.Sets.{participants, member, listed, bits, those, both, either, minus}
-use Rattle.codec.specs.laws.Tests.{alike, alike-eq, below, below-at, below-at-2, bools, bools-at, same-list, true-of, lt-or-le}
-use Rattle.codec.specs.laws.Masks.{those-alike, those-below, those-members}
+use Rattle.codec.specs.Sets.{participants, member, listed, bits, those, both, minus}
+use Rattle.codec.specs.laws.Tests.{alike, alike-eq, below, below-at, below-at-2, same-list, true-of, lt-or-le}
+use Rattle.codec.specs.laws.Masks.{those-below, in-those}
 
--- ---- the set of those that pass a test
-
-abbrev eight : (ℕ → Bool) → List Bool
-eight f = f 1 ∷ f 2 ∷ f 3 ∷ f 4 ∷ f 5 ∷ f 6 ∷ f 7 ∷ f 8 ∷ []
-
-eight-at : (f : ℕ → Bool) (i : ℕ) → i < 8 → getD (eight f) i false ≡ f (suc i)
-eight-at f zero h = refl
-eight-at f (suc zero) h = refl
-eight-at f (suc (suc zero)) h = refl
-eight-at f (suc (suc (suc zero))) h = refl
-eight-at f (suc (suc (suc (suc zero)))) h = refl
-eight-at f (suc (suc (suc (suc (suc zero))))) h = refl
-eight-at f (suc (suc (suc (suc (suc (suc zero)))))) h = refl
-eight-at f (suc (suc (suc (suc (suc (suc (suc zero))))))) h = refl
-eight-at f (suc (suc (suc (suc (suc (suc (suc (suc i)))))))) h = absurd (omega (arith, h))
-
-thoseTest : List Bool → ℕ → Bool
-thoseTest bs i = alike (member (suc i) (those (λ p. getD bs (p - 1) false))) (getD bs i false)
-
-those-tests : T (bools 8 (λ bs. below 8 (thoseTest bs)))
-unfolding member those bits participants thoseTest
-those-tests = tt
-
-pub in-those : (f : ℕ → Bool) (i : ℕ) → i < 8 → member (suc i) (those f) ≡ f (suc i)
-unfolding those bits participants thoseTest
-in-those f i h = alike-eq _ _ (below-at 8 (thoseTest (eight f)) (bools-at (λ bs. below 8 (thoseTest bs)) (eight f) those-tests) i h) ∙ eight-at f i h
-
--- the set of those that pass a test lists them
+-- ---- the set of those that pass a test, listed
 pub listed-those : (f : ℕ → Bool) → listed (those f) ≡ select f participants
 unfolding listed select participants
 listed-those f =
@@ -58,40 +30,6 @@ listed-those f =
       h 6 (omega arith),
       h 7 (omega arith),
     )
-
--- ---- unions
-
-double : (a b : ℕ) → 2 * bitOr a b ≡ bitOr (2 * a) (2 * b)
-double a b =
-    let ea : 2 * a / 2 ≡ a = omega arith in
-    let eb : 2 * b / 2 ≡ b = omega arith in
-    let za : 2 * a % 2 ≡ 0 = omega arith in
-    let zb : 2 * b % 2 ≡ 0 = omega arith in
-    let e = rw (ea, eb, za, zb) at (or-step (2 * a) (2 * b)) in
-    omega (arith, e)
-
-last-either : (x y : ℕ) → x < 2 → y < 2 → eqb (max x y) 1 ≡ (eqb x 1 || eqb y 1)
-last-either x y hx hy = alike-eq _ _ (below-at-2 2 2 (λ x y. alike (eqb (max x y) 1) (eqb x 1 || eqb y 1)) tt x y hx hy)
-
-max-below : (x y : ℕ) → x < 2 → y < 2 → max x y < 2
-max-below x y hx hy = ltb-true _ _ (true-of _ (below-at-2 2 2 (λ x y. ltb (max x y) 2) tt x y hx hy))
-
-last-bit : (x y : ℕ) → bitOr x y % 2 ≡ max (x % 2) (y % 2)
-last-bit x y = omega (arith, or-step x y, max-below (x % 2) (y % 2) (omega arith) (omega arith))
-
-member-or : (p a b : ℕ) → member p (bitOr a b) ≡ (member p a || member p b)
-unfolding member
-member-or p a b =
-    ap (λ (n : ℕ). eqb (n / 2 ^ p % 2) 1) (double a b)
-    ∙ ap (λ (n : ℕ). eqb (n % 2) 1) (or-shr (2 * a) (2 * b) p)
-    ∙ ap (λ (n : ℕ). eqb n 1) (last-bit (2 * a / 2 ^ p) (2 * b / 2 ^ p))
-    ∙ last-either (2 * a / 2 ^ p % 2) (2 * b / 2 ^ p % 2) (omega arith) (omega arith)
-
-pub either-or : (a b : ℕ) → a < 256 → b < 256 → either a b ≡ bitOr a b
-unfolding either
-either-or a b h hb =
-    those-alike (λ p. member p a || member p b) (λ p. member p (bitOr a b)) (λ i hi. sym (member-or (suc i) a b))
-    ∙ those-members (bitOr a b) (or-lt 8 a b h hb)
 
 -- ---- how many
 

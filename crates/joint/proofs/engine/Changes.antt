@@ -268,16 +268,20 @@ module _ (x y : Site) (rs qs : List Record) (w : Run) (t s : ℕ) (all : length 
       ap (any (ofTransaction t)) (log-taken y qs n)
       ∙ ap (λ (a : plain.Site). any (ofTransaction t) (a .stable ++ a .unforced)) (e ∙ ap (trimmed t) own)
 
+-- the first of 3 to 5 that strikes a discard, or 0
+abbrev pub discardStruck : Run → ℕ → ℕ → ℕ
+discardStruck w t s = struck (empty (w .transaction t .cohort .members)) (not (takesPart (w .transaction t) s)) (not (w .site s .up)) false
+
 module _ (w : Run) (t s : ℕ) where
-  pub discard-struck : first (refusals w (discarding t s)) ≡ struck (empty (w .transaction t .cohort .members)) (not (takesPart (w .transaction t) s)) (not (w .site s .up)) false
+  discard-struck : first (refusals w (discarding t s)) ≡ discardStruck w t s
   unfolding refusals first unopened opened isDown stranger
   discard-struck = rw (not-not (empty (w .transaction t .cohort .members))) refl
 
-  pub discard-refused : (n : ℕ) → struck (empty (w .transaction t .cohort .members)) (not (takesPart (w .transaction t) s)) (not (w .site s .up)) false ≡ suc n
+  pub discard-refused : (n : ℕ) → discardStruck w t s ≡ suc n
       → refusedBy (suc n) w ≡ taken w (discarding t s) none
   discard-refused n q = sym (refused-by w (discarding t s) none n (discard-struck ∙ q))
 
-  module _ (passed : struck (empty (w .transaction t .cohort .members)) (not (takesPart (w .transaction t) s)) (not (w .site s .up)) false ≡ 0) where
+  module _ (passed : discardStruck w t s ≡ 0) where
     discards : taken w (discarding t s) none ≡ seen (carryPlan w (onlyIf (mayDiscard w t s) (settling s (discard t s))) none)
     unfolding plan
     discards = not-refused w (discarding t s) none (discard-struck ∙ passed)

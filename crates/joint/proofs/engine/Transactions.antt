@@ -11,9 +11,8 @@ use borrow.Author.Tests.{eqb-true, eqb-false, ltb-true, ltb-false, lt-ltb, le-lt
 use Rattle.codec.specs.Lists.{select, any}
 use Rattle.codec.specs.Sets.{participants, member, listed, either}
 use Rattle.codec.specs.laws.Tests.{true-of, below-at}
-use Rattle.codec.specs.laws.Masks.{those-below}
+use Rattle.codec.specs.laws.Masks.{those-below, in-those}
 use Rattle.codec.specs.laws.Members.{noParticipant, numbered, no-member, member-participant}
-use Rattle.codec.specs.laws.Lowest.{in-those}
 use Rattle.site.specs.Presumption as outcomes
 use Rattle.site.specs.Presumption.{commit, abort, sameOutcome}
 use Rattle.site.specs.Cohort.{Cohort}

@@ -2,45 +2,18 @@
 use Prim.Native.Nat.{ℕ, zero, suc, _-_, _*_, _/_, _%_, _^_, _<_}
 use mathlib.Core.Path.{_≡_, refl, sym, ap, _∙_, subst}
 use mathlib.Core.Bool.{Bool, true, false, cond, not, _&&_}
-use mathlib.Core.List.{List, [], _∷_}
-use lib.ListN.{getD}
 use lib.Dec.{T, eqb}
 use native.Mathlib.Omega.{arith}
 use borrow.Author.Tests.{eq-eqb, eqb-true}
 use Rattle.codec.specs.Sets.{without, participants, member, empty, bits, those, both}
-use Rattle.codec.specs.laws.Tests.{and-left, and-right, true-of, of-true, alike, alike-eq, below, below-at, bools, bools-at}
-use Rattle.codec.specs.laws.Masks.{those-alike, those-below, those-members}
+use Rattle.codec.specs.laws.Tests.{and-left, and-right, true-of, of-true}
+use Rattle.codec.specs.laws.Masks.{those-alike, those-below, those-members, in-those}
 use Rattle.codec.specs.laws.Members.{none-in, numbered, member-participant}
 use Rattle.site.specs.Presumption.{Outcome, abort, presumedAbort, presumedCommit, acks}
 use Rattle.site.specs.Cohort.{Cohort, presumptionOf, owing}
 use Rattle.joint.proofs.base.Booleans.{both-ways, is-false}
 
 -- ---- the set of those that pass a test
-
-abbrev eight : (ℕ → Bool) → List Bool
-eight f = f 1 ∷ f 2 ∷ f 3 ∷ f 4 ∷ f 5 ∷ f 6 ∷ f 7 ∷ f 8 ∷ []
-
-eight-at : (f : ℕ → Bool) (i : ℕ) → i < 8 → getD (eight f) i false ≡ f (suc i)
-eight-at f zero h = refl
-eight-at f (suc zero) h = refl
-eight-at f (suc (suc zero)) h = refl
-eight-at f (suc (suc (suc zero))) h = refl
-eight-at f (suc (suc (suc (suc zero)))) h = refl
-eight-at f (suc (suc (suc (suc (suc zero))))) h = refl
-eight-at f (suc (suc (suc (suc (suc (suc zero)))))) h = refl
-eight-at f (suc (suc (suc (suc (suc (suc (suc zero))))))) h = refl
-eight-at f (suc (suc (suc (suc (suc (suc (suc (suc i)))))))) h = absurd (omega (arith, h))
-
-thoseTest : List Bool → ℕ → Bool
-thoseTest bs i = alike (member (suc i) (those (λ p. getD bs (p - 1) false))) (getD bs i false)
-
-those-tests : T (bools 8 (λ bs. below 8 (thoseTest bs)))
-unfolding member those bits participants thoseTest
-those-tests = tt
-
-pub in-those : (f : ℕ → Bool) (i : ℕ) → i < 8 → member (suc i) (those f) ≡ f (suc i)
-unfolding those bits participants thoseTest
-in-those f i h = alike-eq _ _ (below-at 8 (thoseTest (eight f)) (bools-at (λ bs. below 8 (thoseTest bs)) (eight f) those-tests) i h) ∙ eight-at f i h
 
 -- a member of a set that is made passes the test
 pub of-those : (f : ℕ → Bool) (n : ℕ) → T (member (suc n) (those f)) → T (f (suc n))

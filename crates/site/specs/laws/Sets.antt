@@ -10,8 +10,8 @@ use lib.Seq.{take-nil}
 use Rattle.codec.specs.Lists.{select}
 use Rattle.codec.specs.Sets.{participants, member, listed, both, either, minus}
 use Rattle.codec.specs.laws.Tests.{alike, alike-eq, bools-at}
-use Rattle.codec.specs.laws.Masks.{those-alike, those-below, those-members}
-use Rattle.codec.specs.laws.Lowest.{in-those, listed-those, lowest-part}
+use Rattle.codec.specs.laws.Masks.{those-alike, those-below, those-members, in-those}
+use Rattle.codec.specs.laws.Lowest.{listed-those, lowest-part}
 use Rattle.site.specs.Presumption.{commit, abort, acks, presumedAbort, presumedCommit}
 use Rattle.site.specs.Cohort.{Cohort, presumptionOf, owing}
 use Rattle.site.specs.Coordinator.{inTurn, ordered}

@@ -1,6 +1,6 @@
 use mathlib.Core.Path.{sym}
 use native.Mathlib.Omega.{arith}
-use Rattle.codec.specs.laws.Lowest.{either-or}
+use Rattle.codec.specs.laws.Masks.{either-or}
 use Rattle.codec.proofs.sets.either.Statement.{statement}
 use Rattle.codec.proofs.sets.either.Tie as tie
 

@@ -3,11 +3,13 @@ use mathlib.Core.Bool.{Bool, true, false, not, _&&_, _||_}
 use lib.ListN.{length}
 use lib.Dec.{eqb}
 use borrow.Author.Tests.{not-true, not-false}
+use Rattle.joint.specs.State as plain
 use Rattle.joint.specs.State.{Site}
-use Rattle.joint.specs.Answers.{siteFrom, answerIn}
+use Rattle.joint.specs.Plan.{mayDiscard}
+use Rattle.joint.specs.Answers.{siteFrom, transactionIn, answerIn}
 use Rattle.joint.specs.Inside.{changeIn}
 use Rattle.joint.proofs.engine.Arrays.{length-shown}
-use Rattle.joint.proofs.engine.Changes.{struck-by, may-discard, still-remembers, discard-refused, discard-unallowed, discard-drops}
+use Rattle.joint.proofs.engine.Changes.{discardStruck, struck-by, may-discard, still-remembers, discard-refused, discard-unallowed, discard-drops}
 use borrow.Author.Needs.{needs}
 use Rattle.joint.proofs.changes.discard.Statement.{statement}
 use Rattle.joint.proofs.changes.discard.Tie as tie
@@ -53,45 +55,55 @@ returns-3 c =
     (struck-by w (e .transaction) (e .site) (e .site) (λ x. false) own (o .opened .ensures) (p .takes-part .ensures) (ap (λ (a : Site). a .up) here)
     ∙ rw (p .before .if1 .left, d .if2 .left, c .if3 .taken) refl)
 
-returns-4 : tie.Need-returns-4
-unfolding changeIn answerIn siteFrom
-returns-4 c =
-    λ w here own.
-    let m = c .before in
-    let n = m .before in
-    let u = n .before in
+-- where the function began, seen from behind its three tests
+abbrev start : tie.Else3 → tie.Start
+start u = u .before .before .before .before .before .before
+
+-- behind the three tests: none of the refusals 3 to 5 strikes
+passed : (u : tie.Else3) (w : plain.Run)
+    → let a = start u .args in
+    siteFrom (a .site) (a .records .of) ≡ w .site (a .e .site) → transactionIn (a .before) ≡ w .transaction (a .e .transaction)
+    → discardStruck w (a .e .transaction) (a .e .site) ≡ 0
+unfolding siteFrom
+passed u w here own =
     let d = u .before .before in
     let p = d .before in
     let o = p .before .before in
-    let a = o .before .args in
-    let e = a .e in
-    discard-unallowed w (e .transaction) (e .site)
-    (struck-by w (e .transaction) (e .site) (e .site) (λ x. false) own (o .opened .ensures) (p .takes-part .ensures) (ap (λ (a : Site). a .up) here)
-    ∙ rw (p .before .if1 .left, d .if2 .left, u .if3 .left) refl)
-    (sym (rw (n .stable-count .ensures) at (m .may-discard .ensures) ∙ may-discard (a .site) (a .site) (a .records .of) (a .records .of) w (e .transaction) (e .site) (all (o .before)) here) ∙ not-true _ (c .if4 .taken))
+    let e = o .before .args .e in
+    struck-by w (e .transaction) (e .site) (e .site) (λ x. false) own (o .opened .ensures) (p .takes-part .ensures) (ap (λ (a : Site). a .up) here)
+    ∙ rw (p .before .if1 .left, d .if2 .left, u .if3 .left) refl
+
+-- whether it may be discarded
+allowed : (m : tie.After-may-discard) (w : plain.Run)
+    → let a = start (m .before .before) .args in
+    siteFrom (a .site) (a .records .of) ≡ w .site (a .e .site) → m .may-discard .result ≡ mayDiscard w (a .e .transaction) (a .e .site)
+allowed m w here =
+    let n = m .before in
+    let a = start (n .before) .args in
+    rw (n .stable-count .ensures) at (m .may-discard .ensures) ∙ may-discard (a .site) (a .site) (a .records .of) (a .records .of) w (a .e .transaction) (a .e .site) (all (start (n .before))) here
+
+returns-4 : tie.Need-returns-4
+unfolding changeIn answerIn
+returns-4 c =
+    λ w here own.
+    let m = c .before in
+    let u = m .before .before in
+    let e = start u .args .e in
+    discard-unallowed w (e .transaction) (e .site) (passed u w here own) (sym (allowed m w here) ∙ not-true _ (c .if4 .taken))
 
 returns-5 : tie.Need-returns-5
-unfolding changeIn siteFrom
+unfolding changeIn
 returns-5 c =
     λ w here own.
     let k = c .before in
     let r = k .before .before .before .before in
-    let f = r .before in
-    let m = f .before in
-    let n = m .before in
-    let u = n .before in
-    let d = u .before .before in
-    let p = d .before in
-    let o = p .before .before in
-    let a = o .before .args in
+    let m = r .before .before in
+    let u = m .before .before in
+    let a = start u .args in
     let e = a .e in
-    discard-drops w (e .transaction) (e .site)
-    (struck-by w (e .transaction) (e .site) (e .site) (λ x. false) own (o .opened .ensures) (p .takes-part .ensures) (ap (λ (a : Site). a .up) here)
-    ∙ rw (p .before .if1 .left, d .if2 .left, u .if3 .left) refl)
-    (sym (rw (n .stable-count .ensures) at (m .may-discard .ensures) ∙ may-discard (a .site) (a .site) (a .records .of) (a .records .of) w (e .transaction) (e .site) (all (o .before)) here) ∙ not-false _ (f .if4 .left))
-    _
+    discard-drops w (e .transaction) (e .site) (passed u w here own) (sym (allowed m w here) ∙ not-false _ (r .before .if4 .left)) _
     (forgets (eqb (e .site) 0) _ _ (rw (k .count .ensures) at (c .remember .ensures)
-    ∙ still-remembers (a .site) (r .trim .result .site) (a .records .of) (r .trim .result .records .of) w (e .transaction) (e .site) (all (o .before)) here (rest r) (r .trim .ensures)))
+    ∙ still-remembers (a .site) (r .trim .result .site) (a .records .of) (r .trim .result .records .of) w (e .transaction) (e .site) (all (start u)) here (rest r) (r .trim .ensures)))
 
 pub discard-spec : {M : Type 1} → statement M
 discard-spec =

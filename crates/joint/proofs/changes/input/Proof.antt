@@ -3,7 +3,8 @@ use mathlib.Core.Bool.{not, _&&_}
 use lib.Dec.{leb}
 use native.Mathlib.Omega.{arith}
 use Rattle.joint.specs.Answers.{transactionIn, answerIn}
-use Rattle.joint.specs.Inside.{changeIn, foundIn, cutFrom}
+use Rattle.joint.specs.State as plain
+use Rattle.joint.specs.Inside.{changeIn, foundIn, Here, cutFrom}
 use Rattle.joint.proofs.engine.InputEvents.{inputStruck, input-received}
 use Rattle.joint.proofs.engine.Changes.{up-here, struck-by, input-refused, input-carried, input-fits, input-unallowed, input-nothing, nothing-fits}
 use borrow.Author.Needs.{needs}
@@ -69,11 +70,16 @@ step-requires c κs =
 enum-told : tie.Need-enum-told
 enum-told c = search needs
 
-returns-5 : tie.Need-returns-5
-unfolding changeIn answerIn foundIn
-returns-5 c =
-    λ w here own room.
-    let i = c .before .before .before .before .before in
+-- where the function began, seen from behind its four tests
+abbrev start : tie.Else4 → tie.Start
+start i = i .before .before .before .before .before .before .before .before .before
+
+-- behind the four tests: none of the refusals 3 to 7 strikes
+passed : (i : tie.Else4) (w : plain.Run)
+    → let a = start i .args in
+    Here (a .site) w (a .e .site) → transactionIn (a .before) ≡ w .transaction (a .e .transaction)
+    → inputStruck w (a .e .transaction) (a .e .site) (a .e .kind) (a .e .participant) ≡ 0
+passed i w here own =
     let n = i .before in
     let u = n .before .before in
     let d = u .before .before in
@@ -81,50 +87,44 @@ returns-5 c =
     let o = p .before .before in
     let a = o .before .args in
     let e = a .e in
-    let passed : inputStruck w (e .transaction) (e .site) (e .kind) (e .participant) ≡ 0 = struck-by w (e .transaction) (e .site) (e .participant) (λ x. leb (e .kind) 6 && not (x .sent (e .participant) (e .kind))) own (o .opened .ensures) (p .takes-part .ensures) (up-here (a .site) w (e .site) here)
-    ∙ rw (p .before .if1 .left, d .if2 .left, u .if3 .left, sym (n .sent .ensures), i .if4 .left) refl in
+    struck-by w (e .transaction) (e .site) (e .participant) (λ x. leb (e .kind) 6 && not (x .sent (e .participant) (e .kind))) own (o .opened .ensures) (p .takes-part .ensures) (up-here (a .site) w (e .site) here)
+    ∙ rw (p .before .if1 .left, d .if2 .left, u .if3 .left, sym (n .sent .ensures), i .if4 .left) refl
+
+returns-5 : tie.Need-returns-5
+unfolding changeIn answerIn foundIn
+returns-5 c =
+    λ w here own room.
+    let i = c .before .before .before .before .before in
+    let a = start i .args in
+    let e = a .e in
     let st = c .before .before .before .before in
     let none = rw (c .before .before .enum-told .given .1) at (st .step .ensures w (e .transaction) own) in
-    input-unallowed w (o .before .pre) (cutFrom (e .cut) (e .keep)) passed none (omega arith)
+    input-unallowed w (start i .pre) (cutFrom (e .cut) (e .keep)) (passed i w here own) none (omega arith)
 
 returns-6 : tie.Need-returns-6
 unfolding foundIn
 returns-6 c =
     λ w here own room.
     let i = c .before .before .before .before .before in
-    let n = i .before in
-    let u = n .before .before in
-    let d = u .before .before in
-    let p = d .before in
-    let o = p .before .before in
-    let a = o .before .args in
+    let a = start i .args in
     let e = a .e in
-    let passed : inputStruck w (e .transaction) (e .site) (e .kind) (e .participant) ≡ 0 = struck-by w (e .transaction) (e .site) (e .participant) (λ x. leb (e .kind) 6 && not (x .sent (e .participant) (e .kind))) own (o .opened .ensures) (p .takes-part .ensures) (up-here (a .site) w (e .site) here)
-    ∙ rw (p .before .if1 .left, d .if2 .left, u .if3 .left, sym (n .sent .ensures), i .if4 .left) refl in
     let st = c .before .before .before .before in
     let row = c .before .before .found .given .0 .0 in
     let found = rw (c .before .before .found .given .1) at (st .step .ensures w (e .transaction) own) in
-    c .carry .ensures w (e .site) (e .transaction) here (input-fits w (o .before .pre) (cutFrom (e .cut) (e .keep)) passed row found room)
-    ∙ sym (input-carried w (o .before .pre) (cutFrom (e .cut) (e .keep)) passed row found)
+    c .carry .ensures w (e .site) (e .transaction) here (input-fits w (start i .pre) (cutFrom (e .cut) (e .keep)) (passed i w here own) row found room)
+    ∙ sym (input-carried w (start i .pre) (cutFrom (e .cut) (e .keep)) (passed i w here own) row found)
 
 returns-7 : tie.Need-returns-7
 unfolding foundIn
 returns-7 c =
     λ w here own room.
     let i = c .before .before .before .before .before .before in
-    let n = i .before in
-    let u = n .before .before in
-    let d = u .before .before in
-    let p = d .before in
-    let o = p .before .before in
-    let a = o .before .args in
+    let a = start i .args in
     let e = a .e in
-    let passed : inputStruck w (e .transaction) (e .site) (e .kind) (e .participant) ≡ 0 = struck-by w (e .transaction) (e .site) (e .participant) (λ x. leb (e .kind) 6 && not (x .sent (e .participant) (e .kind))) own (o .opened .ensures) (p .takes-part .ensures) (up-here (a .site) w (e .site) here)
-    ∙ rw (p .before .if1 .left, d .if2 .left, u .if3 .left, sym (n .sent .ensures), i .if4 .left) refl in
     let st = c .before .before .before .before .before in
     let none = rw (c .before .before .before .enum-told .given .1) at (st .step .ensures w (e .transaction) own) in
     c .carry2 .ensures w (e .site) (e .transaction) here (nothing-fits (a .site) w (e .site) here)
-    ∙ sym (input-nothing w (o .before .pre) (cutFrom (e .cut) (e .keep)) passed none (omega arith))
+    ∙ sym (input-nothing w (start i .pre) (cutFrom (e .cut) (e .keep)) (passed i w here own) none (omega arith))
 
 pub input-spec : {M : Type 1} → statement M
 input-spec =
