@@ -16,7 +16,7 @@ use Rattle.site.specs.Cohort.{presumptionOf}
 use Rattle.site.specs.Step.{Row, answerNumber, answered, answerIf}
 use Rattle.site.specs.Coordinator.{CoordinatorPhase}
 use Rattle.site.specs.Participant.{ParticipantPhase}
-use Rattle.site.specs.Numbers.{Arguments, kindsReceived, receives, coordinatorOf, participantOf, coordinatorAnswer, participantAnswer, waitingInRange, isMember, namesNone, inRangeAt, argumentsInRange, refusal, coordinatorValues, participantValues, coordinatorResult, participantResult, stepAt, siteStep}
+use Rattle.site.specs.Numbers.{Arguments, kindsReceived, receives, coordinatorFrom, participantFrom, coordinatorAnswer, participantAnswer, waitingInRange, isMember, namesNone, inRangeAt, argumentsInRange, refusal, coordinatorValues, participantValues, coordinatorResult, participantResult, stepAt, siteStep}
 use Rattle.site.specs.Inside.{coordinatorNumbers, participantNumbers}
 
 -- ---- the coordinator's
@@ -59,7 +59,7 @@ module _ (a : Arguments) where
 
   pub coordinator-taken : (named && fits) ≡ true
       → coordinatorNumbers a
-      ≡ coordinatorResult (a .phase) (a .waiting) (coordinatorAnswer (a .cohort) (a .kind) (a .participant) (coordinatorOf (a .phase) (a .waiting)))
+      ≡ coordinatorResult (a .phase) (a .waiting) (coordinatorAnswer (a .cohort) (a .kind) (a .participant) (coordinatorFrom (a .phase) (a .waiting)))
   unfolding stepAt coordinatorAnswer
   coordinator-taken e = split ∙ rw e (result-if _ (a .phase) (a .waiting) _)
 
@@ -78,7 +78,7 @@ module _ (a : Arguments) where
   pub participant-taken : isMember a ≡ true → any (eqb (a .participant)) participants ≡ true
       → participantNumbers a
       ≡ participantResult (a .phase)
-      (participantAnswer (presumptionOf (a .cohort) (a .participant)) (a .participant) (a .kind) (participantOf (a .phase)))
+      (participantAnswer (presumptionOf (a .cohort) (a .participant)) (a .participant) (a .kind) (participantFrom (a .phase)))
   unfolding participantNumbers participantAnswer
   participant-taken e n = rw (e, n) (own-result-if _ (a .phase) _)
 

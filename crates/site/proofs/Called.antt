@@ -15,7 +15,7 @@ use Rattle.site.specs.Cohort.{Cohort, presumptionOf, owing}
 use Rattle.site.specs.Step.{prepare, messages, begin, timer, received, Row}
 use Rattle.site.specs.Coordinator.{CoordinatorPhase, coordinatorStep}
 use Rattle.site.specs.Participant.{ParticipantPhase, participantStep}
-use Rattle.site.specs.Numbers.{Arguments, coordinatorOf, waitingSet, participantOf, inputOf, receives, waitingInRange, isMember, namesNone, inRangeAt, argumentsInRange, summary, done}
+use Rattle.site.specs.Numbers.{Arguments, coordinatorFrom, waitingSet, participantFrom, inputOf, receives, waitingInRange, isMember, namesNone, inRangeAt, argumentsInRange, summary, done}
 use Rattle.site.proofs.Sent.{member-numbered}
 use Rattle.site.proofs.ByKind.{not-received}
 use Rattle.site.proofs.Done.{Sender, coordinator-done, participant-done}
@@ -40,8 +40,8 @@ waiting-below g (suc (suc (suc zero))) w e = part-below w (owing g abort) e
 waiting-below g (suc (suc (suc (suc zero)))) w e = empty-below w e
 waiting-below g (suc (suc (suc (suc (suc n))))) w e = absurd (false≢true e)
 
-set-below : (phase w : ℕ) → w < 256 → waitingSet (coordinatorOf phase w) < 256
-unfolding coordinatorOf waitingSet
+set-below : (phase w : ℕ) → w < 256 → waitingSet (coordinatorFrom phase w) < 256
+unfolding coordinatorFrom waitingSet
 set-below zero w h = omega arith
 set-below (suc zero) w h = h
 set-below (suc (suc zero)) w h = h
@@ -79,7 +79,7 @@ sender a h r e = by (eqb (a .kind) 16) (eqb (a .kind) 17) (leb 16 (a .kind)) ref
     by false false false d f g q = member-numbered (a .participant) (a .cohort .members) h (and-eq-true-iff (member (a .participant) (a .cohort .members)) _ .0 q .0)
 
 pub coordinator-call : (a : Arguments) → argumentsInRange a ≡ true → a .site ≡ 0 → (r : Row CoordinatorPhase)
-    → coordinatorStep (a .cohort) (inputOf (a .kind) (a .participant)) (coordinatorOf (a .phase) (a .waiting)) ≡ some r
+    → coordinatorStep (a .cohort) (inputOf (a .kind) (a .participant)) (coordinatorFrom (a .phase) (a .waiting)) ≡ some r
     → done a (summary (r .effects)) ≡ r .effects
 unfolding inRangeAt
 coordinator-call a ok z r e =
@@ -87,10 +87,10 @@ coordinator-call a ok z r e =
     let k = subst (λ (s : ℕ). receives s (a .kind) ≡ true) z (x .known) in
     let q = and-eq-true-iff (waitingInRange (a .cohort) (a .phase) (a .waiting)) (cond (leb 16 (a .kind)) (namesNone a) (isMember a)) .0 (subst (λ (s : ℕ). inRangeAt s a ≡ true) z (x .rest)) in
     let w = set-below (a .phase) (a .waiting) (waiting-below (a .cohort) (a .phase) (a .waiting) (q .0)) in
-    coordinator-done a (x .byte) (inputOf (a .kind) (a .participant)) (coordinatorOf (a .phase) (a .waiting)) (sender a (x .byte) k (q .1)) w r e
+    coordinator-done a (x .byte) (inputOf (a .kind) (a .participant)) (coordinatorFrom (a .phase) (a .waiting)) (sender a (x .byte) k (q .1)) w r e
 
 pub participant-call : (a : Arguments) → argumentsInRange a ≡ true → (n : ℕ) → a .site ≡ suc n → (r : Row ParticipantPhase)
-    → participantStep (presumptionOf (a .cohort) (suc n)) (suc n) (inputOf (a .kind) (suc n)) (participantOf (a .phase)) ≡ some r
+    → participantStep (presumptionOf (a .cohort) (suc n)) (suc n) (inputOf (a .kind) (suc n)) (participantFrom (a .phase)) ≡ some r
     → done a (summary (r .effects)) ≡ r .effects
 unfolding inRangeAt isMember
 participant-call a ok n z r e =
@@ -101,4 +101,4 @@ participant-call a ok n z r e =
     let own : a .participant ≡ suc n = eqb-true (a .participant) (suc n) (every-at _ q 1) in
     let p = rw own at (member-numbered (a .participant) (a .cohort .members) (x .byte) (m .0)) in
     let s = rw own at (eqb-true (a .presumption) (presumptionNumber (presumptionOf (a .cohort) (a .participant))) (m .1)) in
-    participant-done a (presumptionOf (a .cohort) (suc n)) s (suc n) p (inputOf (a .kind) (suc n)) (participantOf (a .phase)) r e
+    participant-done a (presumptionOf (a .cohort) (suc n)) s (suc n) p (inputOf (a .kind) (suc n)) (participantFrom (a .phase)) r e

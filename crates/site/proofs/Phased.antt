@@ -14,21 +14,21 @@ use Rattle.codec.specs.laws.Members.{high-bits}
 use Rattle.site.specs.Cohort.{Cohort, owing}
 use Rattle.site.specs.Coordinator as coordinator
 use Rattle.site.specs.Participant as participant
-use Rattle.site.specs.Numbers.{waitingSet, coordinatorOf, participantOf, waitingInRange}
+use Rattle.site.specs.Numbers.{waitingSet, coordinatorFrom, participantFrom, waitingInRange}
 use Rattle.site.specs.Answers.{coordinatorIn, hasKind}
 use Rattle.site.specs.declared.phases.CoordinatorPhase.{CoordinatorPhase}
 use Rattle.site.specs.declared.phases.CoordinatorPhase.the-variants.{Open, Collecting, Committing, Aborting, Unknown}
 use Rattle.site.proofs.phases.CoordinatorPhase.{the-type}
 
-pub last-coordinator : (phase w : ℕ) → 4 ≤ phase → coordinatorOf phase w ≡ coordinator.unknown
-unfolding coordinatorOf
+pub last-coordinator : (phase w : ℕ) → 4 ≤ phase → coordinatorFrom phase w ≡ coordinator.unknown
+unfolding coordinatorFrom
 last-coordinator phase w h =
     List·getD-eq-default
     (coordinator.initial ∷ coordinator.collecting w ∷ coordinator.awaitingAcks commit w ∷ coordinator.awaitingAcks abort w ∷ [])
     coordinator.unknown h
 
-pub last-participant : (phase : ℕ) → 4 ≤ phase → participantOf phase ≡ participant.unknown
-unfolding participantOf
+pub last-participant : (phase : ℕ) → 4 ≤ phase → participantFrom phase ≡ participant.unknown
+unfolding participantFrom
 last-participant phase h =
     List·getD-eq-default
     (participant.working ∷ participant.prepared ∷ participant.decided commit ∷ participant.decided abort ∷ [])

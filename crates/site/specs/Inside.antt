@@ -8,7 +8,7 @@ use Rattle.site.specs.Cohort.{Cohort, presumptionOf, owing}
 use Rattle.site.specs.Step.{enter, Row, answered}
 use Rattle.site.specs.Coordinator.{CoordinatorPhase, untilAcked, tellAll}
 use Rattle.site.specs.Participant.{participantStep}
-use Rattle.site.specs.Numbers.{Arguments, participantOf, inputOf, receives, isMember, inRangeAt, refusal, participantResult, stepAt}
+use Rattle.site.specs.Numbers.{Arguments, participantFrom, inputOf, receives, isMember, inRangeAt, refusal, participantResult, stepAt}
 
 -- an outcome told to a set and nothing else, the phase as it is
 abbrev pub toldTo : Cohort → Outcome → ℕ → CoordinatorPhase → Row CoordinatorPhase
@@ -30,7 +30,7 @@ unfoldable pub participantNumbers : Arguments → List ℕ
 participantNumbers a =
     cond (receives 1 (a .kind) && isMember a)
     (participantResult (a .phase)
-    (answered (participantStep (presumptionOf (a .cohort) (a .participant)) (a .participant) (inputOf (a .kind) (a .participant)) (participantOf (a .phase)))))
+    (answered (participantStep (presumptionOf (a .cohort) (a .participant)) (a .participant) (inputOf (a .kind) (a .participant)) (participantFrom (a .phase)))))
     refusal
 
 -- ---- a row up to where power goes

@@ -28,8 +28,8 @@ waitingSet (collecting w) = w
 waitingSet (awaitingAcks o w) = w
 waitingSet CoordinatorPhase.unknown = 0
 
-unfoldable pub coordinatorOf : ℕ → ℕ → CoordinatorPhase
-coordinatorOf phase w = getD (initial ∷ collecting w ∷ awaitingAcks commit w ∷ awaitingAcks abort w ∷ []) phase CoordinatorPhase.unknown
+unfoldable pub coordinatorFrom : ℕ → ℕ → CoordinatorPhase
+coordinatorFrom phase w = getD (initial ∷ collecting w ∷ awaitingAcks commit w ∷ awaitingAcks abort w ∷ []) phase CoordinatorPhase.unknown
 
 unfoldable pub participantPhase : ParticipantPhase → ℕ
 participantPhase working = 0
@@ -38,8 +38,8 @@ participantPhase (decided commit) = 2
 participantPhase (decided abort) = 3
 participantPhase ParticipantPhase.unknown = 4
 
-unfoldable pub participantOf : ℕ → ParticipantPhase
-participantOf phase = getD (working ∷ prepared ∷ decided commit ∷ decided abort ∷ []) phase ParticipantPhase.unknown
+unfoldable pub participantFrom : ℕ → ParticipantPhase
+participantFrom phase = getD (working ∷ prepared ∷ decided commit ∷ decided abort ∷ []) phase ParticipantPhase.unknown
 
 -- kind 16 is begin, 17 the timer
 unfoldable pub inputOf : ℕ → ℕ → Input
@@ -186,10 +186,10 @@ refusal = 1 ∷ noValues
 unfoldable pub stepAt : ℕ → Arguments → List ℕ
 stepAt zero a =
     coordinatorResult (a .phase) (a .waiting)
-    (answered (coordinatorStep (a .cohort) (inputOf (a .kind) (a .participant)) (coordinatorOf (a .phase) (a .waiting))))
+    (answered (coordinatorStep (a .cohort) (inputOf (a .kind) (a .participant)) (coordinatorFrom (a .phase) (a .waiting))))
 stepAt (suc n) a =
     participantResult (a .phase)
-    (answered (participantStep (presumptionOf (a .cohort) (suc n)) (suc n) (inputOf (a .kind) (suc n)) (participantOf (a .phase))))
+    (answered (participantStep (presumptionOf (a .cohort) (suc n)) (suc n) (inputOf (a .kind) (suc n)) (participantFrom (a .phase))))
 
 unfoldable pub siteStep : Arguments → List ℕ
 siteStep a = cond (argumentsInRange a) (stepAt (a .site) a) refusal

@@ -24,13 +24,17 @@ messageKind (tell abort) = 4
 messageKind (ack commit) = 5
 messageKind (ack abort) = 6
 
--- the site that a message of participant p goes to: 0, 3 and 4 to the participant, the others to the coordinator
+-- the site that coordinates participant p
+unfoldable pub coordinatorOf : ℕ → ℕ
+coordinatorOf p = 0
+
+-- the site that a message of participant p goes to: 0, 3 and 4 to the participant, the others to its coordinator
 unfoldable pub receiver : Message → ℕ → ℕ
 receiver prepare p = p
-receiver voteYes p = 0
-receiver voteNo p = 0
+receiver voteYes p = coordinatorOf p
+receiver voteNo p = coordinatorOf p
 receiver (tell o) p = p
-receiver (ack o) p = 0
+receiver (ack o) p = coordinatorOf p
 
 -- what a site is given: begin, its timer, or a message of participant p
 pub data Input : Type 0 where

@@ -3,7 +3,7 @@ use crate::presumption::Outcome;
 ghost use mathlib.Core.Path.{_≡_};
 ghost use Rattle.site.specs.Coordinator as coordinator;
 ghost use Rattle.site.specs.Participant as participant;
-ghost use Rattle.site.specs.Numbers.{coordinatorPhase, waitingSet, coordinatorOf, participantPhase, participantOf};
+ghost use Rattle.site.specs.Numbers.{coordinatorPhase, waitingSet, coordinatorFrom, participantPhase, participantFrom};
 ghost use Rattle.site.specs.Answers.{outcomeIn, coordinatorIn, participantIn};
 
 // The set that is still waited for stands in the phase.
@@ -21,7 +21,7 @@ impl CoordinatorPhase {
 
     // What is no phase is Unknown.
     pub fn from_numbers(phase: u8, waiting: u8) -> CoordinatorPhase
-        ensures { λ r. ⌜ coordinatorIn r ≡ coordinatorOf phase waiting ⌝ }
+        ensures { λ r. ⌜ coordinatorIn r ≡ coordinatorFrom phase waiting ⌝ }
     {
         match phase {
             0 => CoordinatorPhase::Open,
@@ -86,7 +86,7 @@ pub enum ParticipantPhase {
 impl ParticipantPhase {
     // What is no phase is Unknown.
     pub fn from_number(phase: u8) -> ParticipantPhase
-        ensures { λ r. ⌜ participantIn r ≡ participantOf phase ⌝ }
+        ensures { λ r. ⌜ participantIn r ≡ participantFrom phase ⌝ }
     {
         match phase {
             0 => ParticipantPhase::Working,

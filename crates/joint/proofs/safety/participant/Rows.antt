@@ -15,7 +15,7 @@ use Rattle.site.specs.Presumption.{Outcome, commit, abort, sameOutcome, Presump
 use Rattle.site.specs.Cohort.{Cohort}
 use Rattle.site.specs.Step.{Message, prepare, voteYes, messageKind, Input, begin, timer, received, Effect, append, force, enter, send, Row}
 use Rattle.site.specs.Participant.{ParticipantPhase, participantStep, participantRestart}
-use Rattle.site.specs.Numbers.{participantPhase, participantOf}
+use Rattle.site.specs.Numbers.{participantPhase, participantFrom}
 use Rattle.joint.specs.Plan.{closes, newest}
 use Rattle.joint.proofs.base.Booleans.{_⇒_, mp}
 use Rattle.joint.proofs.safety.Tables.{Status, working, prepared, gone, half, lone, shut, off, offVoted, offShut, isUp, phaseOf, stableKinds, unforcedKinds, has, Stage, fits, may, mayEnter}
@@ -251,8 +251,8 @@ module _ (g : Cohort) (t p : ℕ) where
 
 -- ---- what a passed test says
 
-phase-number : (x : ParticipantPhase) → participantOf (participantPhase x) ≡ x
-unfolding participantOf participantPhase
+phase-number : (x : ParticipantPhase) → participantFrom (participantPhase x) ≡ x
+unfolding participantFrom participantPhase
 phase-number ParticipantPhase.working = refl
 phase-number ParticipantPhase.prepared = refl
 phase-number (ParticipantPhase.decided commit) = refl
@@ -270,7 +270,7 @@ is-as : (s : Status) (y : Part) → T (isAs s y) → As s y
 is-as s y h =
     record {
       up = sym (alike-eq (isUp s) (y .up) (and-left a b h1));
-      phase = sym (sym (phase-number (phaseOf s)) ∙ ap participantOf (eqb-true _ _ (true-of _ (and-right a b h1))) ∙ phase-number (y .phase));
+      phase = sym (sym (phase-number (phaseOf s)) ∙ ap participantFrom (eqb-true _ _ (true-of _ (and-right a b h1))) ∙ phase-number (y .phase));
       stable = sym (same-list _ _ (true-of _ (and-right (a && b) d h2)));
       unforced = sym (same-list _ _ (true-of _ (and-right (a && b && d) e h)));
     }
