@@ -10,9 +10,9 @@ use Rattle.codec.specs.Sets.{member}
 use Rattle.codec.specs.laws.Tests.{true-of, of-true}
 use Rattle.site.specs.Presumption.{Outcome, commit, abort, sameOutcome, silence}
 use Rattle.site.specs.Cohort.{Cohort, presumptionOf}
-use Rattle.site.specs.Step.{prepare}
+use Rattle.site.specs.Step.{prepare, coordinatorOf}
 use Rattle.site.specs.Coordinator.{CoordinatorPhase}
-use Rattle.joint.specs.State.{Run, Site, fresh, holds}
+use Rattle.joint.specs.State.{Run, Site, fresh, coordinatorAt, holds}
 use Rattle.joint.specs.Run.{event, after}
 use Rattle.joint.specs.Safety.{Moment, happened, history, along, isEntry, isEntryAt, isVote, isReply, inDoubt, commitStable, outcome, Happens, Safe, Demand3}
 use Rattle.joint.proofs.base.History.{history-snoc}
@@ -24,7 +24,7 @@ use Rattle.joint.proofs.view.Acts.{holds-select}
 use Rattle.joint.proofs.safety.Tables.{Status, stableKinds, has, doubtful, conforms, isWorking, Stage, done, mayEnter}
 use Rattle.joint.proofs.safety.Sets.{empty-none, no-zero}
 use Rattle.joint.proofs.safety.Holds.{holds-at}
-use Rattle.joint.proofs.safety.Invariant.{Log, waiting, resting, down, Standing, never, initial, collecting, decided, stageOf, hasDecided, sentIn, Member, Place, Mid, Inv, cohortOf}
+use Rattle.joint.proofs.safety.Invariant.{Log, waiting, resting, down, Standing, never, initial, collecting, decided, stageOf, hasDecided, sentIn, Here, here, Mid, Inv, cohortOf}
 use Rattle.joint.proofs.safety.Tracked.{seenAfter, next-kept, Tracked, tracked, track-later}
 use Rattle.joint.proofs.safety.Outcomes.{refl-outcome, same-outcome, one-outcome}
 
@@ -55,11 +55,11 @@ module _ {t : ℕ} {v : View} (h : Standing) (mid : Mid t h v) where
   entered : (o : Outcome) (P : Type 0) → (T (hasDecided h o) → P) → ((p : ℕ) (s : Status) → T (mayEnter (stageOf h p) s o) → P) → (s : ℕ)
       → T (v .entered s o) → P
   entered o P f g zero k = f (mid .entries o k)
-  entered o P f g (suc n) k = go (member (suc n) (cohortOf v .members)) (mid .places n)
+  entered o P f g (suc n) k = go (member (suc n) (cohortOf v .members)) (here mid n)
     where
-      go : (b : Bool) → Place b t (stageOf h (suc n)) n v → P
-      go true x = g (suc n) (x .status) (x .fine .entries o k)
-      go false x = absurd (subst T (x .entered o) k)
+      go : (b : Bool) → Here b t (stageOf h (suc n)) n v → P
+      go true x = g (suc n) (x .status) (x .fine tt .entries o k)
+      go false x = absurd (subst T (x .stands .entered o) k)
 
   entered-commit : (s : ℕ) → T (v .entered s commit) → T (hasDecided h commit)
   entered-commit = entered commit (T (hasDecided h commit)) (λ k. k) (member-commit h)
@@ -146,7 +146,7 @@ doubt-tests true false false k = k
 doubt-tests false b c k = k
 
 -- what the run's log says of a member's doubt
-in-doubt : (t : ℕ) (es : List (List ℕ)) (m : Stage) (n : ℕ) (x : Member t m n (seenAfter t es)) → T (inDoubt (after fresh es) t (suc n))
+in-doubt : (t : ℕ) (es : List (List ℕ)) (m : Stage) (n : ℕ) (x : Here true t m n (seenAfter t es)) → T (inDoubt (after fresh es) t (suc n))
     → T (doubtful (x .status))
 unfolding inDoubt view siteView
 in-doubt t es m n x k =
@@ -155,23 +155,23 @@ in-doubt t es m n x k =
   where
     kind : (k : ℕ) → holds t k (after fresh es .site (suc n) .stable) ≡ has k (stableKinds (x .status))
     kind k =
-        sym (holds-select t k (after fresh es .site (suc n) .stable)) ∙ holds-at (cohortOf (seenAfter t es)) t (suc n) (stableKinds (x .status)) (x .site) k
+        sym (holds-select t k (after fresh es .site (suc n) .stable)) ∙ holds-at (cohortOf (seenAfter t es)) t (suc n) (stableKinds (x .status)) (x .stands .site) k
 
 -- what silence means to a member in doubt is decided
 silence-decided : (t : ℕ) (es : List (List ℕ)) (h : Standing) → Inv t h (seenAfter t es) → Resting h → (n : ℕ)
     → T (member (suc n) (cohortOf (seenAfter t es) .members)) → T (inDoubt (after fresh es) t (suc n))
     → T (hasDecided h (silence (presumptionOf (cohortOf (seenAfter t es)) (suc n))))
-silence-decided t es h inv (rests o b l) n m d = go (member (suc n) (cohortOf (seenAfter t es) .members)) m (inv .mid .places n)
+silence-decided t es h inv (rests o b l) n m d = go (member (suc n) (cohortOf (seenAfter t es) .members)) m (here (inv .mid) n)
   where
     s : Outcome
     s = silence (presumptionOf (cohortOf (seenAfter t es)) (suc n))
 
-    go : (b : Bool) → T b → Place b t (done o true) n (seenAfter t es) → T (sameOutcome o s)
+    go : (b : Bool) → T b → Here b t (done o true) n (seenAfter t es) → T (sameOutcome o s)
     go false k x = absurd k
     go true k x =
         subst (λ (z : Outcome). T (sameOutcome o z)) (sym (same-outcome s o
         (doubt-law (doubtful (x .status)) (conforms (presumptionOf (cohortOf (seenAfter t es)) (suc n)) o (x .status)) (not (isWorking (x .status) && sentIn (seenAfter t es) (suc n) prepare)) (sameOutcome s o)
-        (in-doubt t es (done o true) n x d) (x .fine .shape)))) (refl-outcome o)
+        (in-doubt t es (done o true) n x d) (x .fine tt .shape)))) (refl-outcome o)
 
 outcome-is : (t : ℕ) (es : List (List ℕ)) (x : Tracked t es) (o : Outcome) → T (hasDecided (x .standing) o) → o ≡ outcome es t
 unfolding outcome
@@ -192,7 +192,8 @@ reply-decided t es (suc n) m up c d =
     silence-decided t es (x .standing) (x .inv) (resting-only (x .standing) (x .inv) (suc n) m up c) n m d
 
 replies : (es : List (List ℕ)) (earlier : List Moment) (m : Moment) → Happens es earlier m → (t p : ℕ) (o : Outcome) → T (isReply t p o m)
-    → m .start .transaction t .coordinator ≡ CoordinatorPhase.unknown → T (inDoubt (m .start) t p) → o ≡ outcome es t
+    → coordinatorAt (m .start .transaction t) (coordinatorOf p) ≡ CoordinatorPhase.unknown → T (inDoubt (m .start) t p) → o ≡ outcome es t
+unfolding coordinatorOf
 replies es earlier m h t p o r c d =
     let x = placed es earlier m h in
     let at = moment-start (after fresh (x .before)) (x .event) (x .seen) m (x .rest) (x .moments) in

@@ -102,7 +102,7 @@ Here x w s = (rs : List Record) × ((length rs ≡ 24) × (siteFrom x rs ≡ w .
 
 unfoldable pub thenIn : ℕ → ℕ → Then → plain.Run → plain.Run
 thenIn s t follows.Same = λ r. r
-thenIn s t (follows.Coordinator c) = atTransaction t (withCoordinator (coordinatorIn c))
+thenIn s t (follows.Coordinator c) = atTransaction t (withCoordinator 0 (coordinatorIn c))
 thenIn s t (follows.Participant c) = atTransaction t (withParticipant s (participantIn c))
 thenIn s t (follows.Opened c) = atTransaction t (openedAs (cohortIn c))
 thenIn s t (follows.Discarded last) = λ r. forgottenUnless (not last) t s (atSite s (trimmed t) r)
@@ -119,7 +119,7 @@ thenSite t (follows.Down keep) a = stopped keep a
 
 unfoldable pub thenTransaction : ℕ → Then → plain.Transaction → plain.Transaction
 thenTransaction s follows.Same x = x
-thenTransaction s (follows.Coordinator c) x = withCoordinator (coordinatorIn c) x
+thenTransaction s (follows.Coordinator c) x = withCoordinator 0 (coordinatorIn c) x
 thenTransaction s (follows.Participant c) x = withParticipant s (participantIn c) x
 thenTransaction s (follows.Opened c) x = openedAs (cohortIn c) x
 thenTransaction s (follows.Discarded last) x = cond last (withParticipant s ParticipantPhase.unknown x) x

@@ -11,7 +11,7 @@ use Rattle.site.specs.Step.{receiver, Input, begin, timer, received, Effect, fo
 use Rattle.site.specs.Cohort.{Cohort, presumptionOf}
 use Rattle.site.specs.Coordinator.{CoordinatorPhase, coordinatorStep, coordinatorRestart}
 use Rattle.site.specs.Participant.{ParticipantPhase, participantStep, participantRestart}
-use Rattle.joint.specs.State.{Run, Site, Transaction, Act, atSite, atTransaction, opened, holds, started, withCoordinator, withParticipant}
+use Rattle.joint.specs.State.{Run, Site, Transaction, Act, atSite, atTransaction, opened, cohortAt, coordinatorAt, holds, started, withCoordinator, withParticipant}
 use Rattle.joint.specs.Event.{Event, opening, beginning, delivery, timeout, forcing, discarding, crash, restart}
 
 pub record Plan : Type 0 where
@@ -40,7 +40,7 @@ planned s t g (some row) = some (rowPlan s t g row)
 unfoldable pub step : Run → ℕ → ℕ → Input → Option Plan
 step r t zero i =
     let x = r .transaction t in
-    planned 0 t withCoordinator (coordinatorStep (x .cohort) i (x .coordinator))
+    planned 0 t (withCoordinator 0) (coordinatorStep (cohortAt x 0) i (coordinatorAt x 0))
 step r t (suc n) i =
     let x = r .transaction t in
     planned (suc n) t (withParticipant (suc n))
@@ -109,7 +109,7 @@ transactions = 0 ∷ 1 ∷ 2 ∷ 3 ∷ 4 ∷ 5 ∷ 6 ∷ 7 ∷ []
 unfoldable pub restarting : Run → ℕ → ℕ → Plan
 restarting r zero t =
     let x = r .transaction t in
-    rowPlan 0 t withCoordinator (coordinatorRestart (x .cohort) (λ k. holds t k (r .site 0 .stable)))
+    rowPlan 0 t (withCoordinator 0) (coordinatorRestart (cohortAt x 0) (λ k. holds t k (r .site 0 .stable)))
 restarting r (suc n) t =
     let x = r .transaction t in
     rowPlan (suc n) t (withParticipant (suc n))

@@ -9,9 +9,9 @@ use lib.Dec.{T, eqb}
 use Rattle.codec.specs.Lists.{any, every, same}
 use Rattle.codec.specs.Sets.{member}
 use Rattle.site.specs.Presumption.{Outcome, commit, abort, sameOutcome}
-use Rattle.site.specs.Step.{voteYes, tell, messageKind, Effect, append, force, enter, send}
+use Rattle.site.specs.Step.{voteYes, tell, messageKind, coordinatorOf, Effect, append, force, enter, send}
 use Rattle.site.specs.Coordinator.{CoordinatorPhase}
-use Rattle.joint.specs.State.{Run, Act, fresh, holds, perform}
+use Rattle.joint.specs.State.{Run, Act, fresh, coordinatorAt, holds, perform}
 use Rattle.joint.specs.Run.{event}
 
 -- ---- history
@@ -86,12 +86,12 @@ isVote t p m =
     ∷ holds t 5 (m .before .site p .stable)
     ∷ [])
 
--- a reply: upon p's delivered Yes on t the coordinator sends p the outcome o
+-- a reply: upon p's delivered Yes on t the site that coordinates p sends it the outcome o
 unfoldable pub isReply : ℕ → ℕ → Outcome → Moment → Bool
 isReply t p o m =
     every
     (same (take 4 (m .event)) (2 ∷ t ∷ p ∷ messageKind voteYes ∷ [])
-    ∷ eqb (m .site) 0
+    ∷ eqb (m .site) (coordinatorOf p)
     ∷ eqb (m .act .transaction) t
     ∷ sends (messageKind (tell o)) p (m .act .effect)
     ∷ [])
@@ -126,7 +126,7 @@ pub record Safe (es : List (List ℕ)) : Type 0 where
   -- each reply from a coordinator in Unknown to a participant in doubt is the outcome; both are taken just before the event
   pub replies : (earlier : List Moment) (m : Moment) → Happens es earlier m
       → (t p : ℕ) (o : Outcome) → T (isReply t p o m)
-      → m .start .transaction t .coordinator ≡ CoordinatorPhase.unknown → T (inDoubt (m .start) t p) → o ≡ outcome es t
+      → coordinatorAt (m .start .transaction t) (coordinatorOf p) ≡ CoordinatorPhase.unknown → T (inDoubt (m .start) t p) → o ≡ outcome es t
 
 -- every list of events, of any bytes
 abbrev pub Demand3 : Type 0

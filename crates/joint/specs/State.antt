@@ -67,6 +67,17 @@ unfoldable pub takesPart : Transaction → ℕ → Bool
 takesPart x zero = true
 takesPart x (suc n) = member (suc n) (x .cohort .members)
 
+-- A site has a participant part and a coordinator part. The cohort as opened stands in the transaction; the cohort that a site coordinates:
+-- at site 0 the opened one, elsewhere nobody
+abbrev pub cohortAt : Transaction → ℕ → Cohort
+cohortAt x zero = x .cohort
+cohortAt x (suc n) = record { members = 0; presumeCommit = 0 }
+
+-- the phase of the coordinator part of site s
+abbrev pub coordinatorAt : Transaction → ℕ → CoordinatorPhase
+coordinatorAt x zero = x .coordinator
+coordinatorAt x (suc n) = CoordinatorPhase.unknown
+
 -- a log has a record of kind k of transaction t
 unfoldable pub holds : ℕ → ℕ → List LogRecord → Bool
 holds t k log = any (λ x. ofTransaction t x && eqb (x .kind) k) log
@@ -97,9 +108,11 @@ started s = record { up = true; stable = s .stable; unforced = s .unforced }
 
 -- ---- changes of a transaction
 
-unfoldable pub withCoordinator : CoordinatorPhase → Transaction → Transaction
-withCoordinator c x =
+-- the coordinator part of site s
+unfoldable pub withCoordinator : ℕ → CoordinatorPhase → Transaction → Transaction
+withCoordinator zero c x =
     record { cohort = x .cohort; coordinator = c; participant = x .participant; sent = x .sent; entered = x .entered }
+withCoordinator (suc n) c x = x
 
 unfoldable pub withParticipant : ℕ → ParticipantPhase → Transaction → Transaction
 withParticipant p c x =
@@ -133,10 +146,9 @@ withEntered s o x =
       entered = λ z d. (eqb z s && sameOutcome d o) || x .entered z d;
     }
 
--- the phase at site s is Unknown
+-- the phases at site s are Unknown
 unfoldable pub forgotten : ℕ → Transaction → Transaction
-forgotten zero x = withCoordinator CoordinatorPhase.unknown x
-forgotten (suc n) x = withParticipant (suc n) ParticipantPhase.unknown x
+forgotten s x = withCoordinator s CoordinatorPhase.unknown (withParticipant s ParticipantPhase.unknown x)
 
 -- ---- site s goes down: all phases there are Unknown
 

@@ -120,7 +120,7 @@ impl Transaction {
     // ---- changes
 
     pub fn with_coordinator(self, phase: CoordinatorPhase) -> Transaction
-        ensures { λ r. ⌜ transactionIn r ≡ withCoordinator (coordinatorIn phase) (transactionIn self) ⌝ }
+        ensures { λ r. ⌜ transactionIn r ≡ withCoordinator 0 (coordinatorIn phase) (transactionIn self) ⌝ }
     {
         let was = self.coordinator;
         let coordinator = Coordinator {
@@ -180,15 +180,16 @@ impl Transaction {
         entered.send(effects.message, effects.to)
     }
 
-    // The phase at a site is Unknown.
+    // The phases at a site are Unknown.
     pub(crate) fn forget(self, site: usize) -> Transaction
         requires { ⌜ site ≤ 8 ⌝ }
         ensures { λ r. ⌜ transactionIn r ≡ forgotten site (transactionIn self) ⌝ }
     {
+        let forgotten = self.with_participant(site, ParticipantPhase::Unknown);
         if site == 0 {
-            return self.with_coordinator(CoordinatorPhase::Unknown);
+            return forgotten.with_coordinator(CoordinatorPhase::Unknown);
         }
-        self.with_participant(site, ParticipantPhase::Unknown)
+        forgotten
     }
 
     // With what follows a row at a site. (Where the site goes down, its phases in all transactions are to be forgotten.)

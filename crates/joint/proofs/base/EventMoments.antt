@@ -15,7 +15,7 @@ use Rattle.codec.specs.Sets.{member}
 use Rattle.codec.specs.Records.{LogRecord}
 use Rattle.codec.specs.laws.Tests.{true-of, of-true, every-at, same-list}
 use Rattle.site.specs.Presumption.{Outcome, commit, abort, silence}
-use Rattle.site.specs.Step.{messages, voteYes, tell, messageKind, receiver, Input, begin, timer, received, Effect, append, force, enter, send}
+use Rattle.site.specs.Step.{messages, voteYes, tell, messageKind, coordinatorOf, receiver, Input, begin, timer, received, Effect, append, force, enter, send}
 use Rattle.site.specs.Cohort.{presumptionOf}
 use Rattle.site.specs.Coordinator.{CoordinatorPhase, telling, onYes, coordinatorStep}
 use Rattle.joint.specs.State.{Run, Site, Act, atSite, atTransaction, takesPart, holds, appended, forced, stopped, started, down, perform, performAll}
@@ -66,7 +66,7 @@ Silent r t p o = (o ≡ silence (presumptionOf (r .transaction t .cohort) p)) ×
 -- the acts of p's delivered Yes where the coordinator is Unknown
 yes-acts : (r : Run) (t p : ℕ) (q : Plan) → r .transaction t .coordinator ≡ CoordinatorPhase.unknown → plan r (delivery t p voteYes) ≡ some q
     → q .acts ≡ record { transaction = t; effect = send (tell (silence (presumptionOf (r .transaction t .cohort) p))) p } ∷ []
-unfolding plan receiver step coordinatorStep onYes telling planned rowPlan acting orNothing
+unfolding plan receiver coordinatorOf step coordinatorStep onYes telling planned rowPlan acting orNothing
 yes-acts r t p q u e = let d : some _ ≡ some q = rw u at e in cc
 
 part-member : (r : Run) (t p : ℕ) → 1 ≤ p → takesPart (r .transaction t) p ≡ true → T (member p (r .transaction t .cohort .members))
@@ -77,7 +77,7 @@ part-member r t (suc n) l h = of-true h
 -- a delivered Yes that is not refused is of a member, and site 0 is up
 yes-passes : (r : Run) (t p : ℕ) → 1 ≤ p → first (refusals r (delivery t p voteYes)) ≡ 0
     → T (member p (r .transaction t .cohort .members)) × (r .site 0 .up ≡ true)
-unfolding refusals receiver stranger
+unfolding refusals receiver coordinatorOf stranger
 yes-passes r t p l h =
     let k = not-struck 2 _ _ h .1 in
     (part-member r t p l (not-false _ (not-struck 3 _ _ k .0)), is-up r 0 _ (not-struck 3 _ _ k .1))

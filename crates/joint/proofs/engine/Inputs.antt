@@ -9,7 +9,7 @@ use lib.ListN.{getD, List·getD-map}
 use lib.Dec.{eqb}
 use borrow.Author.Tests.{ne-eqb}
 use Rattle.codec.specs.laws.Tests.{alike, alike-eq, below-at}
-use Rattle.site.specs.Step.{Message, prepare, voteYes, voteNo, tell, ack, messages, receiver}
+use Rattle.site.specs.Step.{Message, prepare, voteYes, voteNo, tell, ack, messages, coordinatorOf, receiver}
 use Rattle.joint.specs.Event.{delivery}
 use Rattle.joint.specs.Inside.{inputEvent, Asks, delivers}
 
@@ -18,7 +18,7 @@ abbrev pub inward : ℕ → Bool
 inward kind = eqb kind 1 || eqb kind 2 || eqb kind 5 || eqb kind 6
 
 pub goes-to : (kind p : ℕ) → kind < 256 → receiver (getD messages kind prepare) p ≡ cond (inward kind) 0 p
-unfolding receiver messages
+unfolding receiver coordinatorOf messages
 goes-to kind p h =
     let to : List Bool = map inward (0 ∷ 1 ∷ 2 ∷ 3 ∷ 4 ∷ 5 ∷ 6 ∷ []) in
     let same = alike-eq (getD to kind false) (inward kind) (below-at 256 (λ k. alike (getD to k false) (inward k)) tt kind h) in
@@ -27,7 +27,7 @@ goes-to kind p h =
     ∙ ap (λ (b : Bool). cond b 0 p) same
 
 receiver-most : (m : Message) (p : ℕ) → receiver m p ≤ p
-unfolding receiver
+unfolding receiver coordinatorOf
 receiver-most prepare p = le-refl p
 receiver-most voteYes p = zero-le
 receiver-most voteNo p = zero-le

@@ -124,12 +124,12 @@ pub record Phase (s : ℕ) (g : Transaction → Transaction) : Type 0 where
   pub sent-later : (p k : ℕ) (x : Transaction) → g (withSent p k x) ≡ withSent p k (g x)
   pub taken : (x : Transaction) → forgotten s (g x) ≡ forgotten s x
 
-pub coordinator-phase : (c : CoordinatorPhase) → Phase 0 (withCoordinator c)
-unfolding withCoordinator withEntered withSent forgotten
+pub coordinator-phase : (c : CoordinatorPhase) → Phase 0 (withCoordinator 0 c)
+unfolding withCoordinator withEntered withSent forgotten withParticipant
 coordinator-phase c = record { entered-later = λ z o x. refl; sent-later = λ p k x. refl; taken = λ x. refl }
 
 pub participant-phase : (n : ℕ) (c : ParticipantPhase) → Phase (suc n) (withParticipant (suc n) c)
-unfolding withParticipant withEntered withSent forgotten
+unfolding withParticipant withEntered withSent forgotten withCoordinator
 participant-phase n c =
     record {
       entered-later = λ z o x. refl;

@@ -92,7 +92,7 @@ module _ (s t : ℕ) (a : plain.Site) (x : plain.Transaction) (w : plain.Run) wh
       }
   unfolding thenIn thenSite thenTransaction goesDown forgottenUnless atSite down
   then-placed follows.Same = refl
-  then-placed (follows.Coordinator c) = placed-changed s t (withCoordinator (coordinatorIn c)) a x w
+  then-placed (follows.Coordinator c) = placed-changed s t (withCoordinator 0 (coordinatorIn c)) a x w
   then-placed (follows.Participant c) = placed-changed s t (withParticipant s (participantIn c)) a x w
   then-placed (follows.Opened c) = placed-changed s t (plan.openedAs (cohortIn c)) a x w
   then-placed (follows.Discarded true) =
@@ -152,19 +152,19 @@ no-participant-row participant.Refused k = refl
 module _ (x : Transaction) (w : plain.Run) (t : ℕ) (own : transactionIn x ≡ w .transaction t) where
   pub coordinator-found : (kind p : ℕ) (a : CoordinatorAnswer) → (receives 0 kind && (leb 16 kind || member p (x .coordinator .members))) ≡ true
       → coordinatorAnswerIn a ≡ coordinatorAnswer (cohortIn (x .coordinator)) kind p (coordinatorIn (x .coordinator .phase))
-      → planned 0 t withCoordinator (rowOf (coordinatorAnswerIn a)) ≡ step w t 0 (inputOf kind p)
+      → planned 0 t (withCoordinator 0) (rowOf (coordinatorAnswerIn a)) ≡ step w t 0 (inputOf kind p)
   unfolding step coordinatorAnswer transactionIn
   coordinator-found kind p a h e =
-      ap (planned 0 t withCoordinator) (ap rowOf e ∙ row-answered _ _ h)
-      ∙ ap (λ (y : plain.Transaction). planned 0 t withCoordinator (coordinatorStep (y .cohort) (inputOf kind p) (y .coordinator))) own
+      ap (planned 0 t (withCoordinator 0)) (ap rowOf e ∙ row-answered _ _ h)
+      ∙ ap (λ (y : plain.Transaction). planned 0 t (withCoordinator 0) (coordinatorStep (y .cohort) (inputOf kind p) (y .coordinator))) own
 
   pub coordinator-restarts : (f : ℕ → Bool) (r : CoordinatorRow) → coordinatorRowIn r ≡ coordinatorRestart (cohortIn (x .coordinator)) f
       → ((k : ℕ) → k ≤ 7 → f k ≡ holds t k (w .site 0 .stable))
-      → rowPlan 0 t withCoordinator (coordinatorRowIn r) ≡ restarting w 0 t
+      → rowPlan 0 t (withCoordinator 0) (coordinatorRowIn r) ≡ restarting w 0 t
   unfolding restarting coordinatorRestart transactionIn
   coordinator-restarts f r e h =
-      ap (rowPlan 0 t withCoordinator) (rw (h 1 (omega arith), h 2 (omega arith), h 3 (omega arith), h 4 (omega arith)) at e)
-      ∙ ap (λ (y : plain.Transaction). rowPlan 0 t withCoordinator (coordinatorRestart (y .cohort) (λ k. holds t k (w .site 0 .stable)))) own
+      ap (rowPlan 0 t (withCoordinator 0)) (rw (h 1 (omega arith), h 2 (omega arith), h 3 (omega arith), h 4 (omega arith)) at e)
+      ∙ ap (λ (y : plain.Transaction). rowPlan 0 t (withCoordinator 0) (coordinatorRestart (y .cohort) (λ k. holds t k (w .site 0 .stable)))) own
 
 -- ---- a participant
 

@@ -52,7 +52,7 @@ part-member x zero h = absurd (h refl)
 part-member x (suc n) h = refl
 
 pub forgotten-participant : (x : plain.Transaction) (s : ℕ) → (s ≡ 0 → ⊥) → forgotten s x ≡ withParticipant s participant.unknown x
-unfolding forgotten
+unfolding forgotten plain.withCoordinator withParticipant
 forgotten-participant x zero h = absurd (h refl)
 forgotten-participant x (suc n) h = refl
 

@@ -19,7 +19,7 @@ use Rattle.site.specs.Cohort.{Cohort, owing, writesInit}
 use Rattle.site.specs.Numbers.{coordinatorPhase, waitingSet, waitingInRange}
 use Rattle.joint.specs.State.{Run, opened}
 use Rattle.joint.proofs.base.Lists.{select-append, Each}
-use Rattle.joint.proofs.safety.Invariant.{waiting, resting, down, Standing, never, initial, collecting, decided, SetsFit, awaitsCommit, coordinatorAt, between, recordFor}
+use Rattle.joint.proofs.safety.Invariant.{waiting, resting, down, Standing, never, initial, collecting, decided, SetsFit, awaitsCommit, phaseAt, between, recordFor}
 use Rattle.joint.proofs.logs.Counts.{recordsOf, sumBelow}
 use Rattle.joint.proofs.logs.Orders.{mayStand, orderly, order-front, Ranged, Follows}
 use Rattle.joint.proofs.logs.Kinds.{share, fine, cohortIn, Known, Kinds}
@@ -141,7 +141,7 @@ part-of w m h f =
 
 -- what is awaited is not empty, and a part of those that it may be awaited of
 pub standing-waits : (g : Cohort) (h : Standing) → SetsFit g h → T (between h)
-    → waitingInRange g (coordinatorPhase (coordinatorAt h)) (waitingSet (coordinatorAt h)) ≡ true
+    → waitingInRange g (coordinatorPhase (phaseAt h)) (waitingSet (phaseAt h)) ≡ true
 unfolding waitingInRange coordinatorPhase waitingSet empty
 standing-waits g (never u) e b = refl
 standing-waits g (initial j) e b = refl

@@ -23,7 +23,7 @@ use Rattle.joint.proofs.view.View.{siteView, view}
 use Rattle.joint.proofs.safety.Tables.{Status, working, prepared, gone, half, lone, shut, off, offVoted, offShut, isUp, stableKinds, unforcedKinds, has}
 use Rattle.joint.proofs.safety.Finite.{allBool, at-bool, at-status}
 use Rattle.joint.proofs.safety.Sets.{empty-none}
-use Rattle.joint.proofs.safety.Invariant.{Log, kindsIn, classOf, resting, waiting, down, Standing, never, initial, collecting, decided, stageOf, logFits, standingFits, SetsFit, awaitsCommit, properKinds, properLog, initLog, standingUp, stableAt, kindIf, unforcedAt, isNever, recordFor, Place, Mid}
+use Rattle.joint.proofs.safety.Invariant.{Log, kindsIn, classOf, resting, waiting, down, Standing, never, initial, collecting, decided, logFits, standingFits, SetsFit, awaitsCommit, properKinds, properLog, initLog, standingUp, stableAt, kindIf, unforcedAt, isNever, recordFor, Place, Mid}
 use Rattle.joint.proofs.safety.coordinator.Logs.{closed, at-log, closed-kinds, closed-proper, may-close}
 use Rattle.joint.proofs.logs.Counts.{recordsOf}
 use Rattle.joint.proofs.logs.Orders.{orderly, Ranged}
@@ -180,17 +180,20 @@ module _ (t : ℕ) (ms : List Moment) (r : Run) (h : Standing) (mid : Mid t h (v
 
   kinds-n : (n : ℕ) → Kinds r t (suc n)
   unfolding view siteView
-  kinds-n n = go (member (suc n) (cohortIn r t .members)) refl (mid .places n)
+  kinds-n n = go (member (suc n) (cohortIn r t .members)) refl (mid .stands n)
     where
-      go : (b : Bool) → member (suc n) (cohortIn r t .members) ≡ b → Place b t (stageOf h (suc n)) n (view t ms r) → Kinds r t (suc n)
+      s : Status
+      s = mid .status n
+
+      go : (b : Bool) → member (suc n) (cohortIn r t .members) ≡ b → Place b t n s (view t ms r) → Kinds r t (suc n)
       go true e x =
           record {
-            stable = stableKinds (x .status);
-            unforced = unforcedKinds (x .status);
+            stable = stableKinds s;
+            unforced = unforcedKinds s;
             is-stable = ap (λ (y : Site). y .stable) (x .site);
             is-unforced = ap (λ (y : Site). y .unforced) (x .site);
-            tidies = status-tidy n (writesInit (cohortIn r t)) (awaitsCommit (cohortIn r t)) (x .status);
-            halts = λ d. status-halts (x .status) (sym (ap (λ (y : Site). y .up) (x .site)) ∙ d);
+            tidies = status-tidy n (writesInit (cohortIn r t)) (awaitsCommit (cohortIn r t)) s;
+            halts = λ d. status-halts s (sym (ap (λ (y : Site). y .up) (x .site)) ∙ d);
             known = inr (known-as (suc n) (has-member (cohortIn r t .members) (suc n) e) (unfold takesPart in e));
           }
       go false e x =

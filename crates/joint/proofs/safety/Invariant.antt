@@ -166,13 +166,13 @@ unforcedAt (decided o (waiting w) l) = []
 unforcedAt (decided o (resting b) l) = kindIf b (endRecord o)
 unforcedAt (decided o down l) = []
 
-abbrev pub coordinatorAt : Standing → CoordinatorPhase
-coordinatorAt (never u) = CoordinatorPhase.unknown
-coordinatorAt (initial b) = CoordinatorPhase.initial
-coordinatorAt (collecting w b) = CoordinatorPhase.collecting w
-coordinatorAt (decided o (waiting w) l) = CoordinatorPhase.awaitingAcks o w
-coordinatorAt (decided o (resting b) l) = CoordinatorPhase.unknown
-coordinatorAt (decided o down l) = CoordinatorPhase.unknown
+abbrev pub phaseAt : Standing → CoordinatorPhase
+phaseAt (never u) = CoordinatorPhase.unknown
+phaseAt (initial b) = CoordinatorPhase.initial
+phaseAt (collecting w b) = CoordinatorPhase.collecting w
+phaseAt (decided o (waiting w) l) = CoordinatorPhase.awaitingAcks o w
+phaseAt (decided o (resting b) l) = CoordinatorPhase.unknown
+phaseAt (decided o down l) = CoordinatorPhase.unknown
 
 -- between events: no row is half done, and where something is awaited the set is not empty
 abbrev pub between : Standing → Bool
@@ -210,23 +210,32 @@ cohortOf v = v .transaction .cohort
 abbrev pub sentIn : View → ℕ → Message → Bool
 sentIn v p m = v .transaction .sent p (messageKind m)
 
--- participant suc n is a member; m is how the coordinator stands to it
-pub record Member (t : ℕ) (m : Stage) (n : ℕ) (v : View) : Type 0 where
-  pub status : Status
-  pub site : v .site (suc n) ≡ siteWith (cohortOf v) t (suc n) (isUp status) (stableKinds status) (unforcedKinds status)
-  pub phase : v .transaction .participant (suc n) ≡ phaseOf status
-  pub fine : Fine (presumptionOf (cohortOf v) (suc n)) m status (sentIn v (suc n)) (v .entered (suc n)) (v .voted (suc n))
+-- the site of participant suc n is up or down, with records and phase, as its status says
+pub record Stands (t n : ℕ) (s : Status) (v : View) : Type 0 where
+  pub site : v .site (suc n) ≡ siteWith (cohortOf v) t (suc n) (isUp s) (stableKinds s) (unforcedKinds s)
+  pub phase : v .transaction .participant (suc n) ≡ phaseOf s
 
--- it is none: nothing is recorded, sent or entered
+-- it is no member: nothing is recorded, sent or entered
 pub record Stranger (n : ℕ) (v : View) : Type 0 where
   pub stable : v .site (suc n) .stable ≡ []
   pub unforced : v .site (suc n) .unforced ≡ []
   pub sent : (m : Message) → sentIn v (suc n) m ≡ false
   pub entered : (o : Outcome) → v .entered (suc n) o ≡ false
 
-abbrev pub Place : Bool → ℕ → Stage → ℕ → View → Type 0
-Place true t m n v = Member t m n v
-Place false t m n v = Stranger n v
+-- a member's site stands; whether it is one
+abbrev pub Place : Bool → ℕ → ℕ → Status → View → Type 0
+Place true t n s v = Stands t n s v
+Place false t n s v = Stranger n v
+
+-- the edge from the coordinator, which is at stage m to it, to the participant
+abbrev pub Edge : Stage → ℕ → Status → View → Type 0
+Edge m n s v = Fine (presumptionOf (cohortOf v) (suc n)) m s (sentIn v (suc n)) (v .entered (suc n)) (v .voted (suc n))
+
+-- a participant with its edge
+pub record Here (b : Bool) (t : ℕ) (m : Stage) (n : ℕ) (v : View) : Type 0 where
+  pub status : Status
+  pub stands : Place b t n status v
+  pub fine : T b → Edge m n status v
 
 -- ---- the invariant, but for the coordinator's phase: it holds in the middle of a row too
 
@@ -251,14 +260,20 @@ pub record Mid (t : ℕ) (h : Standing) (v : View) : Type 0 where
   pub log : v .site 0 ≡ siteWith (cohortOf v) t 0 (standingUp h) (stableAt (writesInit (cohortOf v)) h) (unforcedAt h)
   -- it has entered nothing but what is decided
   pub entries : (o : Outcome) → T (v .entered 0 o) → T (hasDecided h o)
-  -- each member is fine, and nothing has happened at anyone else
-  pub places : (n : ℕ) → Place (member (suc n) (cohortOf v .members)) t (stageOf h (suc n)) n v
+  -- the sites of the participants: each member stands as its status says, and nothing has happened at anyone else
+  pub status : ℕ → Status
+  pub stands : (n : ℕ) → Place (member (suc n) (cohortOf v .members)) t n (status n) v
+  -- the edges: each member is fine, at the stage of its coordinator to it
+  pub fine : (n : ℕ) → T (member (suc n) (cohortOf v .members)) → Edge (stageOf h (suc n)) n (status n) v
+
+pub here : {t : ℕ} {h : Standing} {v : View} → Mid t h v → (n : ℕ) → Here (member (suc n) (cohortOf v .members)) t (stageOf h (suc n)) n v
+here mid n = record { status = mid .status n; stands = mid .stands n; fine = mid .fine n }
 
 -- ---- the invariant between events
 
 pub record Inv (t : ℕ) (h : Standing) (v : View) : Type 0 where
   pub mid : Mid t h v
   -- the phase is that of the standing
-  pub phase : v .transaction .coordinator ≡ coordinatorAt h
+  pub phase : v .transaction .coordinator ≡ phaseAt h
   -- no row is half done, and a set that is waited for is not empty
   pub whole : T (between h)

@@ -12,13 +12,14 @@ use Rattle.site.specs.Coordinator.{CoordinatorPhase}
 use Rattle.site.specs.Presumption.{Outcome, commit}
 use Rattle.site.specs.Cohort.{Cohort, writesInit}
 use Rattle.site.specs.Step.{voteYes, messageKind, Effect, append, force, enter, send}
-use Rattle.joint.specs.State.{forced, holds, withCoordinator, forgotten}
+use Rattle.joint.specs.State.{forced, holds, withCoordinator, forgotten, withParticipant}
 use Rattle.joint.specs.Safety.{sends}
 use Rattle.joint.proofs.base.Booleans.{or-either}
 use Rattle.joint.proofs.view.View.{View, viewAt, viewSettle, viewPerform, viewEffects, viewDown}
 use Rattle.joint.proofs.view.Turn.{Carried, whole, cutAfter, viewStart, viewDiscard, viewForget, Turn, crashes, opens, coordinates, participates, discards, starts, resumes, returns, Turns, still, turn, forces}
+use Rattle.joint.proofs.safety.Tables.{Status}
 use Rattle.joint.proofs.safety.Sets.{empty-none}
-use Rattle.joint.proofs.safety.Invariant.{Standing, never, initial, collecting, decided, stageOf, hasDecided, Member, Place, Mid, Inv, cohortOf}
+use Rattle.joint.proofs.safety.Invariant.{Standing, never, initial, collecting, decided, stageOf, hasDecided, Edge, Mid, Inv, cohortOf}
 use Rattle.joint.proofs.safety.coordinator.Steps.{From, own-number, from-self}
 use Rattle.joint.proofs.safety.coordinator.Crashes.{crash-next}
 use Rattle.joint.proofs.safety.participant.Participants.{force-kept, crash-kept, start-kept, row-kept, discard-kept, return-kept}
@@ -30,19 +31,15 @@ use Rattle.joint.proofs.safety.coordinator.Opens.{open-after, start-aft
 -- ---- a decided commit has all votes
 
 -- at a stage that has decided commit
-member-voted : {t : ℕ} {n : ℕ} {v : View} (h : Standing) → T (hasDecided h commit) → Member t (stageOf h (suc n)) n v → T (v .voted (suc n))
-member-voted (never u) d x = absurd d
-member-voted (initial b) d x = absurd d
-member-voted (collecting w b) d x = absurd d
-member-voted (decided o p l) d x = x .fine .honest (x .fine .counted d)
+member-voted : (n : ℕ) (s : Status) (v : View) (h : Standing) → T (hasDecided h commit) → Edge (stageOf h (suc n)) n s v → T (v .voted (suc n))
+member-voted n s v (never u) d x = absurd d
+member-voted n s v (initial b) d x = absurd d
+member-voted n s v (collecting w b) d x = absurd d
+member-voted n s v (decided o p l) d x = x .honest (x .counted d)
 
 pub all-voted : {t : ℕ} {v : View} (h : Standing) → Mid t h v → T (hasDecided h commit) → (n : ℕ) → T (member (suc n) (cohortOf v .members))
     → T (v .voted (suc n))
-all-voted {t} {v} h mid d n m = go (member (suc n) (cohortOf v .members)) m (mid .places n)
-  where
-    go : (b : Bool) → T b → Place b t (stageOf h (suc n)) n v → T (v .voted (suc n))
-    go true k x = member-voted h d x
-    go false k x = absurd k
+all-voted {v} h mid d n m = member-voted n (mid .status n) v h d (mid .fine n m)
 
 -- ---- the coordinator casts no vote
 
@@ -87,6 +84,7 @@ after-kept e f x =
 
 module _ {t : ℕ} {es : List Effect} {f : View → View} {v : View} where
   carried-cohort : {w : View} → ((x : View) → cohortOf (f x) ≡ cohortOf x) → Carried t 0 es f v w → cohortOf w ≡ cohortOf v
+  unfolding withParticipant viewEffects
   carried-cohort k whole = k _ ∙ effects-cohort t es v
   carried-cohort k (cutAfter m n) = unfold viewDown forgotten withCoordinator in effects-cohort t (take m es) v
 
@@ -95,24 +93,24 @@ module _ {t : ℕ} {es : List Effect} {f : View → View} {v : View} where
   carried-voted k whole n u = effects-voted t es v n (k (viewEffects 0 t es v) n u)
   carried-voted k (cutAfter m j) n u = effects-voted t (take m es) v n (unfold viewDown in u)
 
-settle-cohort : (c : CoordinatorPhase) (x : View) → cohortOf (viewSettle (withCoordinator c) x) ≡ cohortOf x
+settle-cohort : (c : CoordinatorPhase) (x : View) → cohortOf (viewSettle (withCoordinator 0 c) x) ≡ cohortOf x
 unfolding viewSettle withCoordinator
 settle-cohort c x = refl
 
-settle-voted : (c : CoordinatorPhase) (x : View) (n : ℕ) → T (viewSettle (withCoordinator c) x .voted (suc n)) → T (x .voted (suc n))
+settle-voted : (c : CoordinatorPhase) (x : View) (n : ℕ) → T (viewSettle (withCoordinator 0 c) x .voted (suc n)) → T (x .voted (suc n))
 unfolding viewSettle
 settle-voted c x n u = u
 
-start-cohort : (c : CoordinatorPhase) (x : View) → cohortOf (viewStart 0 (withCoordinator c) x) ≡ cohortOf x
+start-cohort : (c : CoordinatorPhase) (x : View) → cohortOf (viewStart 0 (withCoordinator 0 c) x) ≡ cohortOf x
 unfolding viewStart viewAt viewSettle withCoordinator
 start-cohort c x = refl
 
-start-voted : (c : CoordinatorPhase) (x : View) (n : ℕ) → T (viewStart 0 (withCoordinator c) x .voted (suc n)) → T (x .voted (suc n))
+start-voted : (c : CoordinatorPhase) (x : View) (n : ℕ) → T (viewStart 0 (withCoordinator 0 c) x .voted (suc n)) → T (x .voted (suc n))
 unfolding viewStart viewAt viewSettle
 start-voted c x n u = u
 
 pub turn-kept : {t : ℕ} {h : Standing} {v w : View} → Inv t h v → Turn t v w → Kept t h v w
-unfolding viewAt viewDown viewDiscard viewForget forgotten withCoordinator
+unfolding viewAt viewDown viewDiscard viewForget forgotten withCoordinator withParticipant
 turn-kept {t} {h} {v} inv (crashes zero k) = after-kept refl (λ n u. u) (next-after (crash-next t v h (inv .mid) k))
 turn-kept {t} {h} {v} inv (crashes (suc n) k) = same-kept inv (crash-kept t h v inv n k)
 turn-kept {t} {h} {v} inv (opens g a b c d e up ups) =

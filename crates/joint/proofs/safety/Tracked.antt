@@ -20,7 +20,7 @@ use Rattle.joint.proofs.base.EventMoments.{commit-stays}
 use Rattle.joint.proofs.view.View.{View, siteView, view, is-opened}
 use Rattle.joint.proofs.view.Acts.{holds-select}
 use Rattle.joint.proofs.view.Events.{event-turns}
-use Rattle.joint.proofs.safety.Tables.{has, Stage}
+use Rattle.joint.proofs.safety.Tables.{has, Status}
 use Rattle.codec.specs.laws.Members.{none-in}
 use Rattle.joint.proofs.safety.Holds.{holds-at}
 use Rattle.joint.proofs.safety.Invariant.{kindsIn, waiting, resting, down, Standing, never, initial, collecting, decided, hasDecided, initLog, stableAt, Place, Mid, Inv, cohortOf}
@@ -117,7 +117,9 @@ module _ (t : ℕ) where
                     sound = record { number = λ e. absurd (true≢false e); byte = omega arith; part = part-none; opened = refl; fit = tt; proper = tt; sets = tt };
                     log = refl;
                     entries = λ o k. k;
-                    places = λ n. subst (λ (b : Bool). Place b t Stage.fresh n (seenAfter [])) (sym (none-in (suc n))) (record { stable = refl; unforced = refl; sent = λ m. refl; entered = λ o. refl });
+                    status = λ n. Status.off;
+                    stands = λ n. subst (λ (b : Bool). Place b t n Status.off (seenAfter [])) (sym (none-in (suc n))) (record { stable = refl; unforced = refl; sent = λ m. refl; entered = λ o. refl });
+                    fine = λ n m. absurd (subst T (none-in (suc n)) m);
                   };
               phase = refl;
               whole = tt;

@@ -12,7 +12,7 @@ use Rattle.codec.specs.Lists.{select, any, first}
 use Rattle.codec.specs.Sets.{participants, member, empty, listed}
 use Rattle.codec.specs.laws.Tests.{of-true, true-of, or-none, below-at}
 use Rattle.codec.specs.laws.Members.{numbered, member-participant}
-use Rattle.site.specs.Step.{Message, prepare, voteYes, voteNo, tell, ack, receiver, messageKind, begin, timer, received, force}
+use Rattle.site.specs.Step.{Message, prepare, voteYes, voteNo, tell, ack, coordinatorOf, receiver, messageKind, begin, timer, received, force}
 use Rattle.site.specs.Cohort.{Cohort}
 use Rattle.joint.specs.State.{Run, opened, takesPart, atTransaction}
 use Rattle.joint.specs.Event.{Event, opening, beginning, delivery, timeout, forcing, discarding, crash, restart}
@@ -69,7 +69,7 @@ module _ (r : Run) (t : ℕ) where
   is-part s l h = not-false _ (not-struck 3 _ l h .0)
 
 receiver-part : (r : Run) (t p : ℕ) (m : Message) → takesPart (r .transaction t) p ≡ true → takesPart (r .transaction t) (receiver m p) ≡ true
-unfolding receiver takesPart
+unfolding receiver coordinatorOf takesPart
 receiver-part r t p prepare h = h
 receiver-part r t p voteYes h = refl
 receiver-part r t p voteNo h = refl
@@ -78,7 +78,7 @@ receiver-part r t p (ack o) h = refl
 
 -- a message that goes to a participant is its own
 receiver-own : (p : ℕ) (m : Message) (n : ℕ) → receiver m p ≡ suc n → p ≡ suc n
-unfolding receiver
+unfolding receiver coordinatorOf
 receiver-own p prepare n e = e
 receiver-own p voteYes n e = absurd (omega arith)
 receiver-own p voteNo n e = absurd (omega arith)

@@ -114,8 +114,8 @@ module _ (t : ℕ) (r : Run) where
   once-shown zero ts d e h =
       let row : Row CoordinatorPhase = coordinatorRestart (r .transaction t .cohort) (λ k. holds t k (r .site 0 .stable)) in
       record {
-        after = viewStart 0 (withCoordinator (row .phase));
-        settles = once-settles t r 0 (viewSettle (withCoordinator (row .phase))) (settle-own t _ (coordinator-bare (row .phase))) ts h;
+        after = viewStart 0 (withCoordinator 0 (row .phase));
+        settles = once-settles t r 0 (viewSettle (withCoordinator 0 (row .phase))) (settle-own t _ (coordinator-bare (row .phase))) ts h;
         turns =
             λ ms w c.
             turn

@@ -60,10 +60,10 @@ module _ (t : ℕ) (r : Run) where
     pub step-own : (s : ℕ) → takesPart (r .transaction t) s ≡ true → r .site s .up ≡ true → ((n : ℕ) → s ≡ suc n → Own (suc n) i) → All (Shown t r) (step r t s i)
     unfolding step takesPart rowPlan view
     step-own zero m up own =
-        all-planned (Shown t r) 0 t withCoordinator _
+        all-planned (Shown t r) 0 t (withCoordinator 0) _
         (λ row e.
         record {
-          after = viewSettle (withCoordinator (row .phase));
+          after = viewSettle (withCoordinator 0 (row .phase));
           settles = settle-own t _ (coordinator-bare (row .phase));
           turns =
               λ ms w c.

@@ -26,7 +26,7 @@ use Rattle.joint.proofs.view.Turn.{trimmedView, isNil, noRecord, viewFo
 abbrev pub Bare : (Transaction → Transaction) → Type 0
 Bare g = (x : Transaction) → withoutEntries (g x) ≡ g (withoutEntries x)
 
-pub coordinator-bare : (c : CoordinatorPhase) → Bare (withCoordinator c)
+pub coordinator-bare : (c : CoordinatorPhase) → Bare (withCoordinator 0 c)
 unfolding withCoordinator
 coordinator-bare c x = refl
 

@@ -78,7 +78,7 @@ pub data Turn (t : ℕ) (v : View) : View → Type 0 where
       → Up v 0 → ((n : ℕ) → member (suc n) (g .members) ≡ true → Up v (suc n)) → Turn t v (viewSettle (openedAs g) v)
   coordinates : {row : Row CoordinatorPhase} {w : View} (i : Input) → Opened v → Up v 0 → Given v i
       → coordinatorStep (v .transaction .cohort) i (v .transaction .coordinator) ≡ some row
-      → Carried t 0 (row .effects) (viewSettle (withCoordinator (row .phase))) v w → Turn t v w
+      → Carried t 0 (row .effects) (viewSettle (withCoordinator 0 (row .phase))) v w → Turn t v w
   participates : {row : Row ParticipantPhase} {w : View} (n : ℕ) (i : Input) → T (member (suc n) (v .transaction .cohort .members)) → Up v (suc n)
       → Given v i → Own (suc n) i
       → participantStep (presumptionOf (v .transaction .cohort) (suc n)) (suc n) i (v .transaction .participant (suc n)) ≡ some row
@@ -90,7 +90,7 @@ pub data Turn (t : ℕ) (v : View) : View → Type 0 where
   -- the coordinator's row of a restart, and a participant's
   resumes : {row : Row CoordinatorPhase} {w : View} → Opened v → v .site 0 .up ≡ false
       → coordinatorRestart (v .transaction .cohort) (λ k. holds t k (v .site 0 .stable)) ≡ row
-      → Carried t 0 (row .effects) (viewStart 0 (withCoordinator (row .phase))) v w → Turn t v w
+      → Carried t 0 (row .effects) (viewStart 0 (withCoordinator 0 (row .phase))) v w → Turn t v w
   returns : {row : Row ParticipantPhase} {w : View} (n : ℕ) → v .site (suc n) .up ≡ false
       → participantRestart (presumptionOf (v .transaction .cohort) (suc n)) (suc n) (λ k. holds t k (v .site (suc n) .stable)) ≡ row
       → Carried t (suc n) (row .effects) (viewStart (suc n) (withParticipant (suc n) (row .phase))) v w → Turn t v w

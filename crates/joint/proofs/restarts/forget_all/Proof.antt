@@ -5,6 +5,7 @@ use native.Mathlib.Omega.{arith}
 use borrow.Author.Needs.{needs}
 use Rattle.site.specs.Answers.{participantIn}
 use Rattle.site.specs.Participant.{ParticipantPhase}
+use Rattle.joint.specs.State as plain
 use Rattle.joint.specs.State.{update, forgotten, withCoordinator, withParticipant}
 use Rattle.joint.specs.Answers.{noHeld, transactionIn, noTransaction}
 use Rattle.joint.specs.declared.transactions.Held.{Held}
@@ -18,12 +19,20 @@ use Rattle.joint.proofs.restarts.forget_all.Tie as tie
 -- a transaction that was never opened has no phase to forget
 none-forgotten : (s : ℕ) → transactionIn noTransaction ≡ forgotten s (transactionIn noTransaction)
 unfolding transactionIn forgotten withCoordinator withParticipant
-none-forgotten zero = refl
-none-forgotten (suc n) =
-    let x = transactionIn noTransaction in
-    let unknown : x .participant (suc n) ≡ ParticipantPhase.unknown = ap (λ (h : Held). participantIn (h .phase)) (all-default 9 (suc n) noHeld) in
-    let same = sym (update-own (suc n) (x .participant)) ∙ ap (λ (c : ParticipantPhase). update (suc n) (λ _. c) (x .participant)) unknown in
-    λ i. record { cohort = x .cohort; coordinator = x .coordinator; participant = same i; sent = x .sent; entered = x .entered }
+none-forgotten s = go s
+  where
+    x : plain.Transaction
+    x = transactionIn noTransaction
+
+    unknown : (s : ℕ) → x .participant s ≡ ParticipantPhase.unknown
+    unknown s = unfold transactionIn in ap (λ (h : Held). participantIn (h .phase)) (all-default 9 s noHeld)
+
+    same : (s : ℕ) → x .participant ≡ update s (λ _. ParticipantPhase.unknown) (x .participant)
+    same s = sym (update-own s (x .participant)) ∙ ap (λ (c : ParticipantPhase). update s (λ _. c) (x .participant)) (unknown s)
+
+    go : (s : ℕ) → x ≡ forgotten s x
+    go zero = λ i. record { cohort = x .cohort; coordinator = x .coordinator; participant = same 0 i; sent = x .sent; entered = x .entered }
+    go (suc n) = λ i. record { cohort = x .cohort; coordinator = x .coordinator; participant = same (suc n) i; sent = x .sent; entered = x .entered }
 
 abbrev Inv-loop : tie.InvT-loop
 Inv-loop site transactions₀ i₀ transactions i = Passed transactionIn (forgotten site) noTransaction transactions₀ transactions i × (i ≤ 8)

@@ -16,7 +16,7 @@ use Rattle.joint.proofs.base.Booleans.{or-left, or-right, both-ways, of
 use Rattle.joint.proofs.view.View.{View, viewSettle}
 use Rattle.joint.proofs.view.Turn.{Carried, Given, Up, Opened}
 use Rattle.joint.proofs.safety.Sets.{owing-member, no-zero, not-empty, owes-abort, without-part, member-without}
-use Rattle.joint.proofs.safety.Invariant.{Log, waiting, resting, down, Standing, never, initial, collecting, decided, initLog, coordinatorAt, between, sentIn, Mid, Inv, cohortOf}
+use Rattle.joint.proofs.safety.Invariant.{Log, waiting, resting, down, Standing, never, initial, collecting, decided, initLog, phaseAt, between, sentIn, Mid, Inv, cohortOf}
 use Rattle.joint.proofs.safety.coordinator.Logs.{commitLog}
 use Rattle.joint.proofs.safety.coordinator.Crashes.{Next}
 use Rattle.joint.proofs.safety.coordinator.Runs.{Node, Runs, node-stay, row-next, node-start}
@@ -33,13 +33,13 @@ no-row {row} e = absurd (Option·none-ne-some row e)
 
 module _ (t : ℕ) (v w : View) (row : Row CoordinatorPhase) where
   abbrev Done : Type 0
-  Done = Carried t 0 (row .effects) (viewSettle (withCoordinator (row .phase))) v w
+  Done = Carried t 0 (row .effects) (viewSettle (withCoordinator 0 (row .phase))) v w
 
-  row-done : {h : Standing} (r : Row CoordinatorPhase) → some r ≡ some row → (h′ : Standing) → Runs t h v (r .effects) h′ → r .phase ≡ coordinatorAt h′
+  row-done : {h : Standing} (r : Row CoordinatorPhase) → some r ≡ some row → (h′ : Standing) → Runs t h v (r .effects) h′ → r .phase ≡ phaseAt h′
       → T (between h′) → Done → Next t h w
   row-done {h} r e h′ x p b d =
       row-next t h (r .effects) h′ (r .phase) x p b
-      (subst (λ (y : Row CoordinatorPhase). Carried t 0 (y .effects) (viewSettle (withCoordinator (y .phase))) v w) (sym (Option·some-injective r row e)) d)
+      (subst (λ (y : Row CoordinatorPhase). Carried t 0 (y .effects) (viewSettle (withCoordinator 0 (y .phase))) v w) (sym (Option·some-injective r row e)) d)
 
   abbrev g : Cohort
   g = cohortOf v
@@ -193,7 +193,7 @@ module _ (t : ℕ) (v w : View) (row : Row CoordinatorPhase) where
   -- ---- all phases
 
   phase-next : (h : Standing) → Mid t h v → T (between h) → Opened v → Up v 0 → (i : Input) → Given v i
-      → coordinatorStep g i (coordinatorAt h) ≡ some row → Done → Next t h w
+      → coordinatorStep g i (phaseAt h) ≡ some row → Done → Next t h w
   phase-next (never u) mid b o up i k e d = absurd (true≢false (mid .sound .opened ∙ o))
   phase-next (initial true) mid b o up i k e d = absurd b
   phase-next (initial false) mid b o up i k e d = initial-next mid o i e d

@@ -8,13 +8,13 @@ use Rattle.codec.specs.Sets.{member}
 use Rattle.site.specs.Presumption.{Outcome, commit, abort, sameOutcome}
 use Rattle.site.specs.Cohort.{Cohort, writesInit}
 use Rattle.site.specs.Coordinator.{CoordinatorPhase, endRecord}
-use Rattle.joint.specs.State.{stopped, withCoordinator, forgotten}
+use Rattle.joint.specs.State.{stopped, withCoordinator, withParticipant, forgotten}
 use Rattle.joint.proofs.base.Booleans.{not-true, mp}
 use Rattle.joint.proofs.view.View.{View, viewAt, viewSettle, viewDown}
 use Rattle.joint.proofs.safety.Tables.{has, done}
-use Rattle.joint.proofs.safety.Invariant.{Log, l0, l1, kindsIn, classOf, resumed, waiting, resting, down, Standing, never, initial, collecting, decided, logFits, properLog, awaitsCommit, SetsFit, initLog, coordinatorAt, between, siteWith, Mid, Inv, cohortOf}
+use Rattle.joint.proofs.safety.Invariant.{Log, l0, l1, kindsIn, classOf, resumed, waiting, resting, down, Standing, never, initial, collecting, decided, logFits, properLog, awaitsCommit, SetsFit, initLog, phaseAt, between, siteWith, Mid, Inv, cohortOf}
 use Rattle.joint.proofs.safety.coordinator.Logs.{closed, commitLog, waiting-down, resting-down, closed-fits, closed-kinds, abort-unwritten, closed-has, closed-proper, may-close, abort-down, abort-resumed, commit-down, commit-resumed, commit-has, commit-kinds, initial-proper, commit-proper, none-proper, first-proper}
-use Rattle.joint.proofs.safety.coordinator.Steps.{From, Shift, shift-keeps, standsAs, stand, settle-mid, from-same, from-none}
+use Rattle.joint.proofs.safety.coordinator.Steps.{From, Shift, shift-keeps, standsAs, stand, forget-mid, from-same, from-none}
 use Rattle.joint.proofs.safety.coordinator.Ways.{way-commit, way-lost, way-done, way-self, way-down}
 use Rattle.codec.specs.laws.Tests.{of-true}
 use Rattle.joint.proofs.base.Lists.{take-none}
@@ -51,12 +51,12 @@ module _ (t : ℕ) (v : View) where
   a = awaitsCommit (cohortOf v)
 
   lost : {h h′ : Standing} → Mid t h v → (k : ℕ) → Shift v h h′ → stopped k (standsAs t v h) ≡ standsAs t v h′
-      → CoordinatorPhase.unknown ≡ coordinatorAt h′ → T (between h′) → Next t h (viewDown 0 k v)
-  unfolding viewDown viewAt viewSettle withCoordinator forgotten
+      → CoordinatorPhase.unknown ≡ phaseAt h′ → T (between h′) → Next t h (viewDown 0 k v)
+  unfolding viewDown viewAt viewSettle withCoordinator withParticipant forgotten
   lost {h} {h′} mid k x e c b =
       record {
         standing = h′;
-        inv = record { mid = settle-mid (stand mid (x .move) (shift-keeps x) (stopped k) e) CoordinatorPhase.unknown; phase = c; whole = b };
+        inv = record { mid = forget-mid (stand mid (x .move) (shift-keeps x) (stopped k) e); phase = c; whole = b };
         from = x .from;
       }
 

@@ -16,7 +16,7 @@ use Rattle.joint.proofs.base.Booleans.{both-ways}
 use Rattle.joint.proofs.view.View.{View, viewAt}
 use Rattle.joint.proofs.view.Turn.{whole, Up, Opened, trimmedView, viewForget, viewDiscard}
 use Rattle.joint.proofs.safety.Tables.{has}
-use Rattle.joint.proofs.safety.Invariant.{Log, l0, l1, l12, l2, l123, l23, l3, l14, l4, kindsIn, classOf, waiting, resting, down, Standing, never, initial, collecting, decided, stageOf, hasDecided, SetsFit, awaitsCommit, initLog, stableAt, coordinatorAt, between, recordFor, siteWith, Mid, Inv, cohortOf, logFits}
+use Rattle.joint.proofs.safety.Invariant.{Log, l0, l1, l12, l2, l123, l23, l3, l14, l4, kindsIn, classOf, waiting, resting, down, Standing, never, initial, collecting, decided, stageOf, hasDecided, SetsFit, awaitsCommit, initLog, stableAt, phaseAt, between, recordFor, siteWith, Mid, Inv, cohortOf, logFits}
 use Rattle.joint.proofs.safety.coordinator.Logs.{closed, older, unended, resting-down, commit-record, waiting-unended, ending-unended, closed-fits, closed-kinds, closed-proper, may-close, older-fits, older-kinds, older-proper, end-unwritten}
 use Rattle.joint.proofs.safety.coordinator.Steps.{From, Move, standsAs, stand, from-self, still-owed}
 use Rattle.joint.proofs.safety.coordinator.Crashes.{Next}
@@ -53,7 +53,7 @@ pub record Forced (t : ℕ) (h : Standing) (w : View) : Type 0 where
 
 module _ (t : ℕ) (v : View) where
   -- with a change of the log alone
-  stood : {h h′ : Standing} → Inv t h v → Move v h h′ → (k : Site → Site) → k (standsAs t v h) ≡ standsAs t v h′ → coordinatorAt h ≡ coordinatorAt h′
+  stood : {h h′ : Standing} → Inv t h v → Move v h h′ → (k : Site → Site) → k (standsAs t v h) ≡ standsAs t v h′ → phaseAt h ≡ phaseAt h′
       → T (between h′)
       → ((o : Outcome) → hasDecided h′ o ≡ hasDecided h o) → Forced t h (viewAt 0 k v)
   unfolding viewAt

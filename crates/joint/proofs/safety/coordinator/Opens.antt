@@ -15,7 +15,7 @@ use Rattle.joint.proofs.view.View.{View, viewAt, viewSettle}
 use Rattle.joint.proofs.view.Turn.{Up}
 use Rattle.joint.proofs.safety.Tables.{has, fresh, working}
 use Rattle.joint.proofs.safety.Sets.{empty-none}
-use Rattle.joint.proofs.safety.Invariant.{Standing, never, initial, collecting, decided, stageOf, siteWith, Member, Stranger, Place, Inv, cohortOf}
+use Rattle.joint.proofs.safety.Invariant.{Standing, never, initial, collecting, decided, siteWith, Stranger, Place, Edge, Inv, cohortOf}
 use Rattle.joint.proofs.safety.coordinator.Steps.{stand}
 use Rattle.joint.proofs.safety.coordinator.Discards.{After}
 
@@ -30,9 +30,9 @@ by-never P e f (decided o p l) inv = absurd (true≢false (sym (inv .mid .sound 
 
 -- nobody is a member of it
 stranger : {t : ℕ} {v : View} {h : Standing} → Inv t h v → empty (cohortOf v .members) ≡ true → (n : ℕ) → Stranger n v
-stranger {t} {v} {h} inv e n = go (member (suc n) (cohortOf v .members)) refl (inv .mid .places n)
+stranger {t} {v} {h} inv e n = go (member (suc n) (cohortOf v .members)) refl (inv .mid .stands n)
   where
-    go : (b : Bool) → member (suc n) (cohortOf v .members) ≡ b → Place b t (stageOf h (suc n)) n v → Stranger n v
+    go : (b : Bool) → member (suc n) (cohortOf v .members) ≡ b → Place b t n (inv .mid .status n) v → Stranger n v
     go true q x = absurd (empty-none (cohortOf v .members) (suc n) (of-true e) (of-true q))
     go false q x = x
 
@@ -46,31 +46,22 @@ module _ (t : ℕ) (v : View) (g : Cohort) where
   bare-site : (s : Site) → s .up ≡ true → s .stable ≡ [] → s .unforced ≡ [] → s ≡ siteWith g t 0 true [] []
   bare-site s a b c = λ i. record { up = a i; stable = b i; unforced = c i }
 
-  new-member : (n : ℕ) → member (suc n) (g .members) ≡ true → Up v (suc n) → Stranger n v → Member t fresh n opened
-  unfolding viewSettle openedAs has any
-  new-member n m up x =
-      record {
-        status = working;
-        site = bare-site (v .site (suc n)) up (x .stable) (x .unforced);
-        phase = rw m refl;
-        fine =
-            record {
-              shape = subst (λ (b : Bool). T (not b)) (sym (x .sent prepare)) tt;
-              messages = λ k u. absurd (subst T (x .sent k) u);
-              entries = λ o u. absurd (subst T (x .entered o) u);
-              counted = λ u. absurd u;
-              honest = λ u. absurd (subst T (x .sent voteYes) u);
-            };
-      }
-
-  old-stranger : (n : ℕ) → Stranger n v → Stranger n opened
-  unfolding viewSettle openedAs
-  old-stranger n x = record { stable = x .stable; unforced = x .unforced; sent = x .sent; entered = x .entered }
-
   new-place : (n : ℕ) (b : Bool) → member (suc n) (g .members) ≡ b → (member (suc n) (g .members) ≡ true → Up v (suc n)) → Stranger n v
-      → Place b t fresh n opened
-  new-place n true e up x = new-member n e (up e) x
-  new-place n false e up x = old-stranger n x
+      → Place b t n working opened
+  unfolding viewSettle openedAs
+  new-place n true e up x = record { site = bare-site (v .site (suc n)) (up e) (x .stable) (x .unforced); phase = rw e refl }
+  new-place n false e up x = record { stable = x .stable; unforced = x .unforced; sent = x .sent; entered = x .entered }
+
+  new-edge : (n : ℕ) → Stranger n v → Edge fresh n working opened
+  unfolding viewSettle openedAs has any
+  new-edge n x =
+      record {
+        shape = subst (λ (b : Bool). T (not b)) (sym (x .sent prepare)) tt;
+        messages = λ k u. absurd (subst T (x .sent k) u);
+        entries = λ o u. absurd (subst T (x .entered o) u);
+        counted = λ u. absurd u;
+        honest = λ u. absurd (subst T (x .sent voteYes) u);
+      }
 
   pub open-after : t < 8 → g .members < 256 → part (g .presumeCommit) (g .members) ≡ true → empty (g .members) ≡ false
       → empty (cohortOf v .members) ≡ true → Up v 0 → ((n : ℕ) → member (suc n) (g .members) ≡ true → Up v (suc n)) → (h : Standing) → Inv t h v
@@ -88,7 +79,9 @@ module _ (t : ℕ) (v : View) (g : Cohort) where
                     sound = record { number = λ k. small; byte = byte; part = parts; opened = sym some; fit = tt; proper = tt; sets = tt };
                     log = bare-site (v .site 0) up (ap (λ (s : Site). s .stable) (inv .mid .log)) (ap (λ (s : Site). s .unforced) (inv .mid .log));
                     entries = λ o k. inv .mid .entries o k;
-                    places = λ n. new-place n (member (suc n) (g .members)) refl (ups n) (stranger inv none n);
+                    status = λ n. working;
+                    stands = λ n. new-place n (member (suc n) (g .members)) refl (ups n) (stranger inv none n);
+                    fine = λ n m. new-edge n (stranger inv none n);
                   };
               phase = refl;
               whole = tt;

@@ -15,7 +15,7 @@ use Rattle.joint.specs.State.{Site, holds, started, withCoordinator, wit
 use Rattle.joint.proofs.view.View.{View, viewAt, viewSettle, viewPerform, viewEffects}
 use Rattle.joint.proofs.view.Turn.{Carried, whole, cutAfter, Opened, viewStart}
 use Rattle.joint.proofs.safety.Sets.{member-owing, empty-none}
-use Rattle.joint.proofs.safety.Invariant.{Log, kindsIn, classOf, resumed, waiting, resting, down, Standing, never, initial, collecting, decided, coordinatorAt, between, Mid, Inv, cohortOf}
+use Rattle.joint.proofs.safety.Invariant.{Log, kindsIn, classOf, resumed, waiting, resting, down, Standing, never, initial, collecting, decided, phaseAt, between, Mid, Inv, cohortOf}
 use Rattle.joint.proofs.safety.coordinator.Logs.{resumes-commit, resumes-abort}
 use Rattle.joint.proofs.safety.Holds.{holds-at}
 use Rattle.joint.proofs.safety.coordinator.Steps.{Shift, shift-keeps, standsAs, stand, settle-mid}
@@ -45,7 +45,7 @@ module _ (t : ℕ) (h0 : Standing) where
   start-next : {v w : View} (es : List Effect) (o : Outcome) (l : Log) (h′ : Standing) (c : CoordinatorPhase) → Runs t h0 v es (decided o down l)
       → ((u : View) → cohortOf u ≡ cohortOf v → Mid t (decided o down l) u → Shift u (decided o down l) h′)
       → ((u : View) → started (standsAs t u (decided o down l)) ≡ standsAs t u h′)
-      → c ≡ coordinatorAt h′ → T (between h′) → Carried t 0 es (viewStart 0 (withCoordinator c)) v w → Next t h0 w
+      → c ≡ phaseAt h′ → T (between h′) → Carried t 0 es (viewStart 0 (withCoordinator 0 c)) v w → Next t h0 w
   unfolding viewStart viewAt viewSettle withCoordinator
   start-next {v} es o l h′ c x k q p b whole =
       let y = runs-end t h0 v es (decided o down l) x in
@@ -87,7 +87,7 @@ module _ (t : ℕ) (h0 : Standing) where
     resume-stands false u = refl
 
     resume-next : {w : View} (c : Bool) → Node t h0 v (decided o down l)
-        → Carried t 0 (enter o ∷ given c (tellAll (cohortOf v) o (cohortOf v .members))) (viewStart 0 (withCoordinator (untilAcked o (owing (cohortOf v) o)))) v w
+        → Carried t 0 (enter o ∷ given c (tellAll (cohortOf v) o (cohortOf v .members))) (viewStart 0 (withCoordinator 0 (untilAcked o (owing (cohortOf v) o)))) v w
         → Next t h0 w
     resume-next c x d =
         start-next (enter o ∷ given c (tellAll (cohortOf v) o (cohortOf v .members))) o l (settledAs b false o (owing (cohortOf v) o) l) (untilAcked o (owing (cohortOf v) o)) (resume-run o l c x)
@@ -100,11 +100,11 @@ module _ (t : ℕ) (h0 : Standing) where
 
 module _ (t : ℕ) (v w : View) where
   abbrev Woken : Row CoordinatorPhase → Type 0
-  Woken row = Carried t 0 (row .effects) (viewStart 0 (withCoordinator (row .phase))) v w
+  Woken row = Carried t 0 (row .effects) (viewStart 0 (withCoordinator 0 (row .phase))) v w
 
   -- nothing is resumed
   forget-next : (o : Outcome) (l : Log) → Mid t (decided o down l) v → resumed (classOf l) ≡ false
-      → Carried t 0 [] (viewStart 0 (withCoordinator CoordinatorPhase.unknown)) v w → Next t (decided o down l) w
+      → Carried t 0 [] (viewStart 0 (withCoordinator 0 CoordinatorPhase.unknown)) v w → Next t (decided o down l) w
   unfolding started
   forget-next o l mid q d =
       start-next t (decided o down l) [] o l (decided o (resting false) l) CoordinatorPhase.unknown (node-start mid)

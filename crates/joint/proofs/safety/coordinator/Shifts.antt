@@ -15,7 +15,7 @@ use Rattle.joint.proofs.base.Booleans.{and-both, not-true, is-false, of
 use Rattle.joint.proofs.view.View.{View}
 use Rattle.joint.proofs.safety.Tables.{Stage, asking}
 use Rattle.joint.proofs.safety.Sets.{of-those, member-those, member-owing, empty-none, no-zero, without-part, member-without, without-byte}
-use Rattle.joint.proofs.safety.Invariant.{Log, classOf, resumed, waiting, resting, down, Standing, initial, collecting, decided, hasDecided, logFits, SetsFit, awaitsCommit, initLog, sentIn, coordinatorAt, between, Mid, cohortOf}
+use Rattle.joint.proofs.safety.Invariant.{Log, classOf, resumed, waiting, resting, down, Standing, initial, collecting, decided, hasDecided, logFits, SetsFit, awaitsCommit, initLog, sentIn, phaseAt, between, Mid, cohortOf}
 use Rattle.joint.proofs.safety.coordinator.Logs.{commitLog, resumed-waiting, down-resting, abort-waits, commit-waits, commit-has, initial-proper, commit-proper}
 use Rattle.joint.proofs.safety.coordinator.Steps.{PassesAt, From, Shift, from-same, from-none}
 use Rattle.joint.proofs.safety.coordinator.Ways.{way-count, way-commit, way-abort, way-done, way-hear, way-resume, way-self}
@@ -206,7 +206,7 @@ abbrev pub settledAs : Bool → Bool → Outcome → ℕ → Log → Standing
 settledAs true r o w l = decided o (resting r) l
 settledAs false r o w l = decided o (waiting w) l
 
-pub settled-phase : (b r : Bool) (o : Outcome) (w : ℕ) (l : Log) → empty w ≡ b → untilAcked o w ≡ coordinatorAt (settledAs b r o w l)
+pub settled-phase : (b r : Bool) (o : Outcome) (w : ℕ) (l : Log) → empty w ≡ b → untilAcked o w ≡ phaseAt (settledAs b r o w l)
 unfolding untilAcked
 settled-phase true r o w l e = rw e refl
 settled-phase false r o w l e = rw e refl

@@ -11,13 +11,13 @@ use Rattle.site.specs.Presumption.{Outcome, commit, sameOutcome, abort}
 use Rattle.site.specs.Cohort.{presumptionOf, owing, writesInit}
 use Rattle.site.specs.Step.{Message, voteYes, voteNo, messageKind, enter, send}
 use Rattle.site.specs.Coordinator.{CoordinatorPhase}
-use Rattle.joint.specs.State.{Site, update, withCoordinator, withSent}
+use Rattle.joint.specs.State.{Site, update, withCoordinator, withParticipant, withSent, forgotten}
 use Rattle.joint.proofs.base.Booleans.{or-left, or-either, both-ways}
 use Rattle.joint.proofs.base.Updates.{update-other}
 use Rattle.joint.proofs.view.View.{View, viewAt, viewSettle, viewPerform}
 use Rattle.joint.proofs.safety.Tables.{Status, has, Stage, Fine, passes, ackSent, maySend}
 use Rattle.joint.proofs.safety.coordinator.Passes.{pass-fine, send-fine}
-use Rattle.joint.proofs.safety.Invariant.{Standing, never, stageOf, hasDecided, standingFits, properLog, awaitsCommit, SetsFit, standingUp, stableAt, unforcedAt, isNever, siteWith, sentIn, Member, Stranger, Place, Sound, Mid, cohortOf, Log, kindsIn, Pace, decided, waiting, resting}
+use Rattle.joint.proofs.safety.Invariant.{Standing, never, stageOf, hasDecided, standingFits, properLog, awaitsCommit, SetsFit, standingUp, stableAt, unforcedAt, isNever, siteWith, sentIn, Stranger, Place, Edge, Sound, Mid, cohortOf, Log, kindsIn, Pace, decided, waiting, resting}
 use Rattle.joint.proofs.safety.Outcomes.{same-outcome}
 use Rattle.joint.proofs.safety.Sets.{belongs, not-empty}
 
@@ -75,40 +75,10 @@ pub still-owed : {t : ℕ} {v : View} (o : Outcome) (w : ℕ) (l : Log) → Mid 
 still-owed {v} commit w l mid k = not-empty w (owing (cohortOf v) commit) (mid .sound .sets .0) k (λ n m. mid .sound .sets .1 (suc n) m)
 still-owed abort w l mid k = tt
 
--- ---- places
+-- ---- the participants' sites, which the coordinator does not touch
 
-pub place-map : (t n : ℕ) (m m′ : Stage) (v w : View) (b : Bool) → (T b → Member t m n v → Member t m′ n w) → (T (not b) → Stranger n v → Stranger n w)
-    → Place b t m n v → Place b t m′ n w
-place-map t n m m′ v w true f g x = f tt x
-place-map t n m m′ v w false f g x = g tt x
-
-member-pass : {t : ℕ} {v : View} {n : ℕ} {m : Stage} (m′ : Stage) → PassesAt v m m′ n → Member t m n v → Member t m′ n v
-member-pass m′ p x = record { status = x .status; site = x .site; phase = x .phase; fine = pass-fine (x .fine) m′ p }
-
-pub beside : (k : Site → Site) (f : ℕ → Site) (n : ℕ) → update 0 k f (suc n) ≡ f (suc n)
+pub beside {ℓ} : {A : Type ℓ} (k : A → A) (f : ℕ → A) (n : ℕ) → update 0 k f (suc n) ≡ f (suc n)
 beside k f n = update-other 0 (suc n) k f (λ e. absurd (omega (arith, e)))
-
-member-beside : {t : ℕ} {v : View} {n : ℕ} {m : Stage} (k : Site → Site) → Member t m n v → Member t m n (viewAt 0 k v)
-unfolding viewAt
-member-beside {v} {n} k x = record { status = x .status; site = beside k (v .site) n ∙ x .site; phase = x .phase; fine = x .fine }
-
-stranger-beside : {v : View} {n : ℕ} (k : Site → Site) → Stranger n v → Stranger n (viewAt 0 k v)
-unfolding viewAt
-stranger-beside {v} {n} k x =
-    record {
-      stable = ap (λ (y : Site). y .stable) (beside k (v .site) n) ∙ x .stable;
-      unforced = ap (λ (y : Site). y .unforced) (beside k (v .site) n) ∙ x .unforced;
-      sent = x .sent;
-      entered = x .entered;
-    }
-
-member-settle : {t : ℕ} {v : View} {n : ℕ} {m : Stage} (c : CoordinatorPhase) → Member t m n v → Member t m n (viewSettle (withCoordinator c) v)
-unfolding viewSettle withCoordinator
-member-settle c x = record { status = x .status; site = x .site; phase = x .phase; fine = x .fine }
-
-stranger-settle : {v : View} {n : ℕ} (c : CoordinatorPhase) → Stranger n v → Stranger n (viewSettle (withCoordinator c) v)
-unfolding viewSettle withCoordinator
-stranger-settle c x = record { stable = x .stable; unforced = x .unforced; sent = x .sent; entered = x .entered }
 
 -- the coordinator's own number is no participant's
 pub own-number : (n : ℕ) → eqb 0 (suc n) ≡ false
@@ -117,27 +87,45 @@ own-number n = ne-eqb 0 (suc n) (λ e. absurd (omega (arith, e)))
 not-own : (n : ℕ) (a b : Bool) → T (a || (eqb 0 (suc n) && b)) → T a
 not-own n a b u = or-either a (eqb 0 (suc n) && b) (λ k. k) (λ k. absurd (subst (λ (z : Bool). T (z && b)) (own-number n) k)) u
 
-member-entered : {t : ℕ} {v : View} {n : ℕ} {m : Stage} (o : Outcome) → Member t m n v → Member t m n (viewPerform 0 t (enter o) v)
-unfolding viewPerform
-member-entered {v} {n} o x =
-    record {
-      status = x .status;
-      site = x .site;
-      phase = x .phase;
-      fine =
-          record {
-            shape = x .fine .shape;
-            messages = x .fine .messages;
-            entries = λ d u. x .fine .entries d (not-own n (v .entered (suc n) d) (sameOutcome d o) u);
-            counted = x .fine .counted;
-            honest = x .fine .honest;
-          };
-    }
+module _ (t n : ℕ) (s : Status) (v : View) where
+  place-beside : (b : Bool) (k : Site → Site) → Place b t n s v → Place b t n s (viewAt 0 k v)
+  unfolding viewAt
+  place-beside true k x = record { site = beside k (v .site) n ∙ x .site; phase = x .phase }
+  place-beside false k x =
+      record {
+        stable = ap (λ (y : Site). y .stable) (beside k (v .site) n) ∙ x .stable;
+        unforced = ap (λ (y : Site). y .unforced) (beside k (v .site) n) ∙ x .unforced;
+        sent = x .sent;
+        entered = x .entered;
+      }
 
-stranger-entered : (t : ℕ) {v : View} {n : ℕ} (o : Outcome) → Stranger n v → Stranger n (viewPerform 0 t (enter o) v)
-unfolding viewPerform
-stranger-entered t {v} {n} o x =
-    record { stable = x .stable; unforced = x .unforced; sent = x .sent; entered = λ d. rw (x .entered d, own-number n) refl }
+  place-settled : (b : Bool) (c : CoordinatorPhase) → Place b t n s v → Place b t n s (viewSettle (withCoordinator 0 c) v)
+  unfolding viewSettle withCoordinator
+  place-settled true c x = record { site = x .site; phase = x .phase }
+  place-settled false c x = record { stable = x .stable; unforced = x .unforced; sent = x .sent; entered = x .entered }
+
+  -- all phases of site 0
+  place-forgotten : (b : Bool) → Place b t n s v → Place b t n s (viewSettle (forgotten 0) v)
+  unfolding viewSettle forgotten withCoordinator withParticipant
+  place-forgotten true x = record { site = x .site; phase = beside _ (v .transaction .participant) n ∙ x .phase }
+  place-forgotten false x = record { stable = x .stable; unforced = x .unforced; sent = x .sent; entered = x .entered }
+
+  place-entered : (b : Bool) (o : Outcome) → Place b t n s v → Place b t n s (viewPerform 0 t (enter o) v)
+  unfolding viewPerform
+  place-entered true o x = record { site = x .site; phase = x .phase }
+  place-entered false o x =
+      record { stable = x .stable; unforced = x .unforced; sent = x .sent; entered = λ d. rw (x .entered d, own-number n) refl }
+
+  edge-entered : (m : Stage) (o : Outcome) → Edge m n s v → Edge m n s (viewPerform 0 t (enter o) v)
+  unfolding viewPerform
+  edge-entered m o x =
+      record {
+        shape = x .shape;
+        messages = x .messages;
+        entries = λ d u. x .entries d (not-own n (v .entered (suc n) d) (sameOutcome d o) u);
+        counted = x .counted;
+        honest = x .honest;
+      }
 
 -- ---- standings
 
@@ -161,7 +149,9 @@ module _ {t : ℕ} {v : View} {h : Standing} (mid : Mid t h v) where
         sound = sound-as x;
         log = mid .log ∙ e;
         entries = λ o u. keeps o (mid .entries o u);
-        places = λ n. place-map t n (stageOf h (suc n)) (stageOf h′ (suc n)) v v (belongs (cohortOf v) n) (λ b. member-pass (stageOf h′ (suc n)) (x .passing n b)) (λ b s. s) (mid .places n);
+        status = mid .status;
+        stands = mid .stands;
+        fine = λ n b. pass-fine (mid .fine n b) (stageOf h′ (suc n)) (x .passing n b);
       }
 
   -- with a change of the log
@@ -172,17 +162,34 @@ module _ {t : ℕ} {v : View} {h : Standing} (mid : Mid t h v) where
         sound = sound-as x;
         log = ap k (mid .log) ∙ e;
         entries = λ o u. keeps o (mid .entries o u);
-        places = λ n. place-map t n (stageOf h (suc n)) (stageOf h′ (suc n)) v (viewAt 0 k v) (belongs (cohortOf v) n) (λ b y. member-beside k (member-pass (stageOf h′ (suc n)) (x .passing n b) y)) (λ b. stranger-beside k) (mid .places n);
+        status = mid .status;
+        stands = λ n. place-beside t n (mid .status n) v (belongs (cohortOf v) n) k (mid .stands n);
+        fine = λ n b. pass-fine (mid .fine n b) (stageOf h′ (suc n)) (x .passing n b);
       }
 
-  pub settle-mid : (c : CoordinatorPhase) → Mid t h (viewSettle (withCoordinator c) v)
+  -- with a change of the coordinator's phase
+  pub settle-mid : (c : CoordinatorPhase) → Mid t h (viewSettle (withCoordinator 0 c) v)
   unfolding viewSettle withCoordinator
   settle-mid c =
       record {
         sound = mid .sound;
         log = mid .log;
         entries = mid .entries;
-        places = λ n. place-map t n (stageOf h (suc n)) (stageOf h (suc n)) v (viewSettle (withCoordinator c) v) (belongs (cohortOf v) n) (λ b. member-settle c) (λ b. stranger-settle c) (mid .places n);
+        status = mid .status;
+        stands = λ n. place-settled t n (mid .status n) v (belongs (cohortOf v) n) c (mid .stands n);
+        fine = mid .fine;
+      }
+
+  pub forget-mid : Mid t h (viewSettle (forgotten 0) v)
+  unfolding viewSettle forgotten withCoordinator withParticipant
+  forget-mid =
+      record {
+        sound = mid .sound;
+        log = mid .log;
+        entries = mid .entries;
+        status = mid .status;
+        stands = λ n. place-forgotten t n (mid .status n) v (belongs (cohortOf v) n) (mid .stands n);
+        fine = mid .fine;
       }
 
   -- ---- an entry
@@ -194,7 +201,9 @@ module _ {t : ℕ} {v : View} {h : Standing} (mid : Mid t h v) where
         sound = mid .sound;
         log = mid .log;
         entries = λ r u. or-either (v .entered 0 r) (sameOutcome r o) (mid .entries r) (λ k. subst (λ (z : Outcome). T (hasDecided h z)) (sym (same-outcome r o k)) d) u;
-        places = λ n. place-map t n (stageOf h (suc n)) (stageOf h (suc n)) v (viewPerform 0 t (enter o) v) (belongs (cohortOf v) n) (λ b. member-entered o) (λ b. stranger-entered t o) (mid .places n);
+        status = mid .status;
+        stands = λ n. place-entered t n (mid .status n) v (belongs (cohortOf v) n) o (mid .stands n);
+        fine = λ n b. edge-entered t n (mid .status n) v (stageOf h (suc n)) o (mid .fine n b);
       }
 
   -- ---- a message to the member suc n; y: whether it answers a Yes
@@ -209,49 +218,43 @@ module _ {t : ℕ} {v : View} {h : Standing} (mid : Mid t h v) where
         Fine (presumptionOf (cohortOf v) (suc k)) (stageOf h (suc k)) s (λ j. (b && eqb (messageKind j) (messageKind g)) || sentIn v (suc k) j)
         (v .entered (suc k)) (v .voted (suc k))
 
-    fine-sent : (k : ℕ) (b : Bool) → toMember k ≡ b → (x : Member t (stageOf h (suc k)) k v) → Sent k b (x .status)
-    fine-sent k false e x = x .fine
-    fine-sent k true e x =
-        send-fine (x .fine) y (subst (λ (z : ℕ). T y → T (sentIn v z voteYes)) (sym addressee) answers) g
+    fine-sent : (k : ℕ) (b : Bool) → toMember k ≡ b → (s : Status) → Edge (stageOf h (suc k)) k s v → Sent k b s
+    fine-sent k false e s x = x
+    fine-sent k true e s x =
+        send-fine x y (subst (λ (z : ℕ). T y → T (sentIn v z voteYes)) (sym addressee) answers) g
         (subst (λ (z : ℕ). T (maySend (presumptionOf (cohortOf v) z) (stageOf h z) y g)) (sym addressee) may)
       where
         addressee : suc k ≡ suc n
         addressee = eqb-true (suc k) (suc n) e
 
-    member-sent : (k : ℕ) → Member t (stageOf h (suc k)) k v → Member t (stageOf h (suc k)) k (viewPerform 0 t (send g (suc n)) v)
+    edge-sent : (k : ℕ) (s : Status) → Edge (stageOf h (suc k)) k s v → Edge (stageOf h (suc k)) k s (viewPerform 0 t (send g (suc n)) v)
     unfolding viewPerform withSent
-    member-sent k x =
-        let f = fine-sent k (toMember k) refl x in
+    edge-sent k s x =
+        let f = fine-sent k (toMember k) refl s x in
         record {
-          status = x .status;
-          site = x .site;
-          phase = x .phase;
-          fine =
-              record {
-                shape = f .shape;
-                messages = f .messages;
-                entries = f .entries;
-                counted = f .counted;
-                honest = λ u. or-left (v .voted (suc k)) _ (f .honest u);
-              };
+          shape = f .shape;
+          messages = f .messages;
+          entries = f .entries;
+          counted = f .counted;
+          honest = λ u. or-left (v .voted (suc k)) _ (f .honest u);
         }
 
-    not-member : (k : ℕ) → T (not (member (suc k) (cohortOf v .members))) → toMember k ≡ false
+    not-member : (k : ℕ) → belongs (cohortOf v) k ≡ false → toMember k ≡ false
     not-member k u = go (toMember k) refl
       where
         go : (b : Bool) → toMember k ≡ b → toMember k ≡ false
         go false e = e
         go true e =
-            absurd
-            (both-ways (member (suc n) (cohortOf v .members)) known (subst (λ (z : ℕ). T (not (member z (cohortOf v .members)))) (eqb-true (suc k) (suc n) e) u))
+            absurd (subst T (sym (ap (λ (z : ℕ). member z (cohortOf v .members)) (eqb-true (suc k) (suc n) e)) ∙ u) known)
 
-    stranger-sent : (k : ℕ) → T (not (member (suc k) (cohortOf v .members))) → Stranger k v → Stranger k (viewPerform 0 t (send g (suc n)) v)
+    place-sent : (k : ℕ) (s : Status) (b : Bool) → belongs (cohortOf v) k ≡ b → Place b t k s v → Place b t k s (viewPerform 0 t (send g (suc n)) v)
     unfolding viewPerform withSent
-    stranger-sent k u x =
+    place-sent k s true e x = record { site = x .site; phase = x .phase }
+    place-sent k s false e x =
         record {
           stable = x .stable;
           unforced = x .unforced;
-          sent = λ m. rw (not-member k u) (x .sent m);
+          sent = λ m. rw (not-member k e) (x .sent m);
           entered = x .entered;
         }
 
@@ -262,5 +265,7 @@ module _ {t : ℕ} {v : View} {h : Standing} (mid : Mid t h v) where
           sound = mid .sound;
           log = mid .log;
           entries = mid .entries;
-          places = λ k. place-map t k (stageOf h (suc k)) (stageOf h (suc k)) v (viewPerform 0 t (send g (suc n)) v) (belongs (cohortOf v) k) (λ b. member-sent k) (stranger-sent k) (mid .places k);
+          status = mid .status;
+          stands = λ k. place-sent k (mid .status k) (belongs (cohortOf v) k) refl (mid .stands k);
+          fine = λ k b. edge-sent k (mid .status k) (mid .fine k b);
         }

@@ -12,7 +12,7 @@ use Rattle.site.specs.Presumption.{Outcome, sameOutcome}
 use Rattle.site.specs.Cohort.{Cohort}
 use Rattle.site.specs.Step.{Message, voteYes, messageKind, Effect, append, force, enter, send}
 use Rattle.site.specs.Participant.{ParticipantPhase}
-use Rattle.joint.specs.State.{Site, holds, appended, forced, stopped, started, withSent, withParticipant, forgotten}
+use Rattle.joint.specs.State.{Site, holds, appended, forced, stopped, started, withSent, withParticipant, forgotten, withCoordinator}
 use Rattle.joint.specs.Safety.{sends}
 use Rattle.joint.proofs.base.Updates.{update-same, update-other}
 use Rattle.joint.proofs.view.View.{View, viewAt, viewSettle, viewPerform, viewEffects, viewDown}
@@ -210,7 +210,7 @@ module _ (t n : ℕ) (v : View) where
 
   pub reach-down : (k : ℕ) {y : Part} {w : View} → Reached t (suc n) v y w
       → Reached t (suc n) v (halted (take k (y .unforced)) y) (viewDown (suc n) k w)
-  unfolding viewDown viewAt viewSettle forgotten stopped
+  unfolding viewDown viewAt viewSettle forgotten stopped withCoordinator withParticipant
   reach-down k {y} r =
       reach-site t (suc n) v (stopped k) false _ []
       (ap (λ (l : List LogRecord). record { up = false; stable = l; unforced = [] })

@@ -21,7 +21,7 @@ use Rattle.joint.proofs.view.Turn.{Carried, Given, Own, Up, viewDiscard
 use Rattle.joint.proofs.safety.Tables.{Stage, isUp, stableKinds}
 use Rattle.joint.proofs.safety.Sets.{empty-none, belongs}
 use Rattle.joint.proofs.base.Lists.{each-append, take-none}
-use Rattle.joint.proofs.safety.Invariant.{Standing, recordFor, stageOf, sentIn, Member, Place, Inv}
+use Rattle.joint.proofs.safety.Invariant.{Standing, recordFor, stageOf, sentIn, Here, here, Inv}
 use Rattle.joint.proofs.safety.Holds.{holds-at}
 use Rattle.joint.proofs.safety.participant.Rows.{ofStatus, settled, woken, dropped, heard, lands, rowTest, onRow, step-at, restart-at, force-at, crash-at, discard-at}
 use Rattle.joint.proofs.safety.participant.Local.{Elsewhere, AllProper, reach-phase, reach-force, reach-down, reach-started, reach-woken, reach-dropped}
@@ -111,32 +111,32 @@ module _ (g : Cohort) (p : ℕ) where
 
 -- ---- at a member the tests apply
 
-module _ {t : ℕ} {m : Stage} {n : ℕ} {v : View} (x : Member t m n v) where
+module _ {t : ℕ} {m : Stage} {n : ℕ} {v : View} (x : Here true t m n v) where
   -- its presumption
   abbrev presumption : Presumption
   presumption = presumptionOf (v .transaction .cohort) (suc n)
 
   is-up : {b : Bool} → v .site (suc n) .up ≡ b → isUp (x .status) ≡ b
-  is-up u = sym (ap (λ (z : Site). z .up) (x .site)) ∙ u
+  is-up u = sym (ap (λ (z : Site). z .up) (x .stands .site)) ∙ u
 
   discard-passed : Up v (suc n) → newest closes (v .site (suc n) .stable) ≡ true → T (lands presumption timer (x .status) (dropped (ofStatus (x .status))))
   discard-passed u e =
       mp (newest closes (map (recordFor (v .transaction .cohort) t (suc n)) (stableKinds (x .status)))) _
       (mp (isUp (x .status)) _ (discard-at (v .transaction .cohort) t (suc n) presumption (x .status)) (of-true (is-up u)))
-      (of-true (sym (ap (λ (z : Site). newest closes (z .stable)) (x .site)) ∙ e))
+      (of-true (sym (ap (λ (z : Site). newest closes (z .stable)) (x .stands .site)) ∙ e))
 
   step-passed : {row : Row ParticipantPhase} (i : Input) → Up v (suc n) → participantStep presumption (suc n) i (v .transaction .participant (suc n)) ≡ some row
       → T (rowTest presumption i (x .status) settled row)
   step-passed i u e =
       subst (λ (o : Option (Row ParticipantPhase)). T (onRow (rowTest presumption i (x .status) settled) o))
-      (ap (participantStep presumption (suc n) i) (sym (x .phase)) ∙ e)
+      (ap (participantStep presumption (suc n) i) (sym (x .stands .phase)) ∙ e)
       (mp (isUp (x .status)) _ (step-at presumption (suc n) (x .status) i) (of-true (is-up u)))
 
   restart-passed : {row : Row ParticipantPhase} → v .site (suc n) .up ≡ false
       → participantRestart presumption (suc n) (λ k. holds t k (v .site (suc n) .stable)) ≡ row → T (rowTest presumption timer (x .status) woken row)
   restart-passed u e =
       subst (λ (r : Row ParticipantPhase). T (rowTest presumption timer (x .status) woken r))
-      (ap (participantRestart presumption (suc n)) (sym (fun-ext (holds-at _ t (suc n) _ (x .site)))) ∙ e)
+      (ap (participantRestart presumption (suc n)) (sym (fun-ext (holds-at _ t (suc n) _ (x .stands .site)))) ∙ e)
       (mp (not (isUp (x .status))) _ (restart-at presumption (suc n) (x .status)) (of-true (ap not (is-up u))))
 
 heard-given : (v : View) (p : ℕ) (i : Input) → Given v i → Own p i → T (heard i (sentIn v p))
@@ -159,10 +159,10 @@ none-closes = refl
 module _ (t : ℕ) (h : Standing) (v : View) (inv : Inv t h v) where
   -- a participant that is a member (b), or none
   abbrev Moves : ℕ → View → Bool → Type 0
-  Moves n w b = belongs (v .transaction .cohort) n ≡ b → Place b t (stageOf h (suc n)) n v → Elsewhere (suc n) v w × Place b t (stageOf h (suc n)) n w
+  Moves n w b = belongs (v .transaction .cohort) n ≡ b → Here b t (stageOf h (suc n)) n v → Elsewhere (suc n) v w × Here b t (stageOf h (suc n)) n w
 
   either : (n : ℕ) {w : View} → ((b : Bool) → Moves n w b) → Inv t h w
-  either n f = only-at inv n (f (belongs (v .transaction .cohort) n) refl (inv .mid .places n))
+  either n f = only-at inv n (f (belongs (v .transaction .cohort) n) refl (here (inv .mid) n))
 
   pub force-kept : (n : ℕ) → Inv t h (viewAt (suc n) forced v)
   force-kept n = either n go
@@ -203,7 +203,7 @@ module _ (t : ℕ) (h : Standing) (v : View) (inv : Inv t h v) where
     where
       go : (b : Bool) → Moves n (viewDiscard (suc n) v) b
       go true e x = member-after timer x tt (discard-passed x u c) (reach-dropped t n v (from-member x))
-      go false e x = absurd (true≢false (sym c ∙ ap (newest closes) (x .stable) ∙ none-closes))
+      go false e x = absurd (true≢false (sym c ∙ ap (newest closes) (x .stands .stable) ∙ none-closes))
 
   pub return-kept : {row : Row ParticipantPhase} {w : View} (n : ℕ) → v .site (suc n) .up ≡ false
       → participantRestart (presumptionOf (v .transaction .cohort) (suc n)) (suc n) (λ k. holds t k (v .site (suc n) .stable)) ≡ row
@@ -221,4 +221,4 @@ module _ (t : ℕ) (h : Standing) (v : View) (inv : Inv t h v) where
           member-carried timer x tt
           (subst (λ (r : Row ParticipantPhase). AllProper (v .transaction .cohort) (suc n) (r .effects)) e (returned-proper (v .transaction .cohort) (suc n) _))
           woken _ (λ y z r. reach-woken t n v (row .phase) r) (restart-passed x u e) c
-      go false q x = stranger-carried x (subst carried (sym e ∙ ap restarted (x .stable) ∙ none-restarts _ (suc n) t) c)
+      go false q x = stranger-carried x (subst carried (sym e ∙ ap restarted (x .stands .stable) ∙ none-restarts _ (suc n) t) c)

@@ -21,7 +21,7 @@ use Rattle.joint.proofs.safety.Tables.{Status, isUp, stableKinds, unfor
 use Rattle.joint.proofs.safety.Finite.{allMessage, at-message, allOutcome, at-outcome}
 use Rattle.joint.proofs.safety.Sets.{belongs}
 use Rattle.joint.proofs.base.Lists.{each-take, take-none}
-use Rattle.joint.proofs.safety.Invariant.{Standing, stageOf, siteWith, sentIn, Member, Stranger, Place, Inv}
+use Rattle.joint.proofs.safety.Invariant.{Standing, stageOf, siteWith, sentIn, Place, Edge, Here, here, Inv}
 use Rattle.joint.proofs.safety.participant.Rows.{Part, still, ofStatus, heard, lands, rowTest, Landed, landed, row-whole, row-cut}
 use Rattle.joint.proofs.safety.participant.Local.{Local, local, Elsewhere, elsewhere-none, Reached, AllProper, reach-effects, reach-down, reach-woken}
 
@@ -32,15 +32,13 @@ module _ (t : ℕ) (v w : View) (g : w .transaction .cohort ≡ v .transaction .
   abbrev FineAt : Presumption → Stage → Status → Local → Type 0
   FineAt c m s x = Fine c m s (λ k. x .sent (messageKind k)) (x .entered) (x .voted)
 
-  place-same : (b : Bool) (m : Stage) (j : ℕ) → local (suc j) w ≡ local (suc j) v → Place b t m j v → Place b t m j w
-  place-same true m j e x =
-      record {
-        status = x .status;
-        site = rw g (ap (λ (l : Local). l .site) e ∙ x .site);
-        phase = ap (λ (l : Local). l .participant) e ∙ x .phase;
-        fine = rw g (subst (FineAt (presumptionOf (v .transaction .cohort) (suc j)) m (x .status)) (sym e) (x .fine));
-      }
-  place-same false m j e x =
+  edge-same : (m : Stage) (j : ℕ) (s : Status) → local (suc j) w ≡ local (suc j) v → Edge m j s v → Edge m j s w
+  edge-same m j s e x = rw g (subst (FineAt (presumptionOf (v .transaction .cohort) (suc j)) m s) (sym e) x)
+
+  place-same : (b : Bool) (j : ℕ) (s : Status) → local (suc j) w ≡ local (suc j) v → Place b t j s v → Place b t j s w
+  place-same true j s e x =
+      record { site = rw g (ap (λ (l : Local). l .site) e ∙ x .site); phase = ap (λ (l : Local). l .participant) e ∙ x .phase }
+  place-same false j s e x =
       record {
         stable = ap (λ (l : Local). l .site .stable) e ∙ x .stable;
         unforced = ap (λ (l : Local). l .site .unforced) e ∙ x .unforced;
@@ -48,17 +46,23 @@ module _ (t : ℕ) (v w : View) (g : w .transaction .cohort ≡ v .transaction .
         entered = λ o. ap (λ (l : Local). l .entered o) e ∙ x .entered o;
       }
 
+  here-same : (b : Bool) (m : Stage) (j : ℕ) → local (suc j) w ≡ local (suc j) v → Here b t m j v → Here b t m j w
+  here-same b m j e x =
+      record { status = x .status; stands = place-same b j (x .status) e (x .stands); fine = λ k. edge-same m j (x .status) e (x .fine k) }
+
 -- only participant suc n changes
 module _ {t : ℕ} {h : Standing} {v w : View} (inv : Inv t h v) (n : ℕ) where
-  pub only-at : Elsewhere (suc n) v w × Place (belongs (v .transaction .cohort) n) t (stageOf h (suc n)) n w → Inv t h w
-  only-at (e, here) =
+  pub only-at : Elsewhere (suc n) v w × Here (belongs (v .transaction .cohort) n) t (stageOf h (suc n)) n w → Inv t h w
+  only-at (e, changed) =
       record {
         mid =
             record {
               sound = rw (e .cohort) (inv .mid .sound);
               log = rw (e .cohort) (ap (λ (l : Local). l .site) (e .rest 0 none) ∙ inv .mid .log);
               entries = λ o k. inv .mid .entries o (subst (λ (l : Local). T (l .entered o)) (e .rest 0 none) k);
-              places = λ j. subst (λ (g : Cohort). Place (belongs g j) t (stageOf h (suc j)) j w) (sym (e .cohort)) (go j (eqb j n) refl);
+              status = λ j. all j .status;
+              stands = λ j. all j .stands;
+              fine = λ j. all j .fine;
             };
         phase = e .coordinator ∙ inv .phase;
         whole = inv .whole;
@@ -70,9 +74,12 @@ module _ {t : ℕ} {h : Standing} {v w : View} (inv : Inv t h v) (n : ℕ) where
       there : (j : ℕ) → eqb j n ≡ false → suc j ≢ suc n
       there j q k = eqb-false j n q (omega (arith, k))
 
-      go : (j : ℕ) (b : Bool) → eqb j n ≡ b → Place (belongs (v .transaction .cohort) j) t (stageOf h (suc j)) j w
-      go j true q = subst (λ (k : ℕ). Place (belongs (v .transaction .cohort) k) t (stageOf h (suc k)) k w) (sym (eqb-true j n q)) here
-      go j false q = place-same t v w (e .cohort) (belongs (v .transaction .cohort) j) (stageOf h (suc j)) j (e .rest (suc j) (there j q)) (inv .mid .places j)
+      go : (j : ℕ) (b : Bool) → eqb j n ≡ b → Here (belongs (v .transaction .cohort) j) t (stageOf h (suc j)) j w
+      go j true q = subst (λ (k : ℕ). Here (belongs (v .transaction .cohort) k) t (stageOf h (suc k)) k w) (sym (eqb-true j n q)) changed
+      go j false q = here-same t v w (e .cohort) (belongs (v .transaction .cohort) j) (stageOf h (suc j)) j (e .rest (suc j) (there j q)) (here (inv .mid) j)
+
+      all : (j : ℕ) → Here (belongs (w .transaction .cohort) j) t (stageOf h (suc j)) j w
+      all j = subst (λ (g : Cohort). Here (belongs g j) t (stageOf h (suc j)) j w) (sym (e .cohort)) (go j (eqb j n) refl)
 
 -- ---- a member
 
@@ -139,43 +146,42 @@ fine-same {c} {m} {s} {sent} {sent′} {entered} {entered′} {voted} {voted′}
     (subst (λ (f : Outcome → Bool). Fine c m s sent f voted′) (sym (fun-ext b)) (subst (Fine c m s sent entered) (sym d) x))
 
 module _ {t : ℕ} {m : Stage} {n : ℕ} {v : View} where
-  pub from-member : (x : Member t m n v) → Reached t (suc n) v (ofStatus (x .status)) v
+  pub from-member : (x : Here true t m n v) → Reached t (suc n) v (ofStatus (x .status)) v
   from-member x =
       record {
-        site = x .site;
-        phase = x .phase;
+        site = x .stands .site;
+        phase = x .stands .phase;
         sent = λ g. refl;
         entered = λ o. refl;
         voted = refl;
         elsewhere = elsewhere-none;
       }
 
-  pub member-after : {w : View} {y : Part} (i : Input) (x : Member t m n v) → T (heard i (sentIn v (suc n)))
-      → T (lands (presumptionOf (v .transaction .cohort) (suc n)) i (x .status) y) → Reached t (suc n) v y w → Elsewhere (suc n) v w × Member t m n w
+  pub member-after : {w : View} {y : Part} (i : Input) (x : Here true t m n v) → T (heard i (sentIn v (suc n)))
+      → T (lands (presumptionOf (v .transaction .cohort) (suc n)) i (x .status) y) → Reached t (suc n) v y w → Elsewhere (suc n) v w × Here true t m n w
   member-after {w} {y} i x d k r = (
     r .elsewhere,
     record {
       status = l .status;
-      site = rw (r .elsewhere .cohort) (r .site ∙ here);
-      phase = r .phase ∙ l .reached .phase;
-      fine = rw (r .elsewhere .cohort) (fine-same (r .sent) (r .entered) (r .voted) (fine-after l d (x .fine)));
+      stands = record { site = rw (r .elsewhere .cohort) (r .site ∙ at-status); phase = r .phase ∙ l .reached .phase };
+      fine = λ k. rw (r .elsewhere .cohort) (fine-same (r .sent) (r .entered) (r .voted) (fine-after l d (x .fine tt)));
     },
   )
     where
       l : Landed (presumptionOf (v .transaction .cohort) (suc n)) i (x .status) y
       l = landed _ i (x .status) y k
 
-      here : siteWith (v .transaction .cohort) t (suc n) (y .up) (y .stable) (y .unforced)
+      at-status : siteWith (v .transaction .cohort) t (suc n) (y .up) (y .stable) (y .unforced)
           ≡ siteWith (v .transaction .cohort) t (suc n) (isUp (l .status)) (stableKinds (l .status)) (unforcedKinds (l .status))
-      here = λ a. siteWith (v .transaction .cohort) t (suc n) (l .reached .up a) (l .reached .stable a) (l .reached .unforced a)
+      at-status = λ a. siteWith (v .transaction .cohort) t (suc n) (l .reached .up a) (l .reached .stable a) (l .reached .unforced a)
 
   -- a row of the member, whole or cut
-  pub member-carried : {w : View} {row : Row ParticipantPhase} (i : Input) (x : Member t m n v) → T (heard i (sentIn v (suc n)))
+  pub member-carried : {w : View} {row : Row ParticipantPhase} (i : Input) (x : Here true t m n v) → T (heard i (sentIn v (suc n)))
       → AllProper (v .transaction .cohort) (suc n) (row .effects)
       → (f : ParticipantPhase → Part → Part) (g : View → View)
       → ((y : Part) (u : View) → Reached t (suc n) v y u → Reached t (suc n) v (f (row .phase) y) (g u))
       → T (rowTest (presumptionOf (v .transaction .cohort) (suc n)) i (x .status) f row)
-      → Carried t (suc n) (row .effects) g v w → Elsewhere (suc n) v w × Member t m n w
+      → Carried t (suc n) (row .effects) g v w → Elsewhere (suc n) v w × Here true t m n w
   member-carried {row} i x d h f g reach k whole =
       member-after i x d (row-whole _ i (x .status) f row k) (reach _ _ (reach-effects t (suc n) v (row .effects) h (from-member x)))
   member-carried {row} i x d h f g reach k (cutAfter a b) =
@@ -185,10 +191,10 @@ module _ {t : ℕ} {m : Stage} {n : ℕ} {v : View} where
 -- ---- no member
 
 module _ {t n : ℕ} {v : View} where
-  pub from-stranger : (x : Stranger n v) → Reached t (suc n) v (still (v .site (suc n) .up) (v .transaction .participant (suc n)) [] []) v
+  pub from-stranger : {m : Stage} (x : Here false t m n v) → Reached t (suc n) v (still (v .site (suc n) .up) (v .transaction .participant (suc n)) [] []) v
   from-stranger x =
       record {
-        site = λ i. record { up = v .site (suc n) .up; stable = x .stable i; unforced = x .unforced i };
+        site = λ i. record { up = v .site (suc n) .up; stable = x .stands .stable i; unforced = x .stands .unforced i };
         phase = refl;
         sent = λ g. refl;
         entered = λ o. refl;
@@ -196,21 +202,26 @@ module _ {t n : ℕ} {v : View} where
         elsewhere = elsewhere-none;
       }
 
-  pub stranger-after : {w : View} {u : Bool} {x : ParticipantPhase} {ks : List ℕ} → ks ≡ [] → Stranger n v → Reached t (suc n) v (still u x ks []) w
-      → Elsewhere (suc n) v w × Stranger n w
+  pub stranger-after : {w : View} {u : Bool} {x : ParticipantPhase} {ks : List ℕ} → ks ≡ [] → {m : Stage} → Here false t m n v → Reached t (suc n) v (still u x ks []) w
+      → Elsewhere (suc n) v w × Here false t m n w
   stranger-after e x r = (
     r .elsewhere,
     record {
-      stable = ap (λ (z : Site). z .stable) (r .site) ∙ ap (map _) e;
-      unforced = ap (λ (z : Site). z .unforced) (r .site);
-      sent = λ g. r .sent g ∙ x .sent g;
-      entered = λ o. r .entered o ∙ x .entered o;
+      status = x .status;
+      stands =
+          record {
+            stable = ap (λ (z : Site). z .stable) (r .site) ∙ ap (map _) e;
+            unforced = ap (λ (z : Site). z .unforced) (r .site);
+            sent = λ g. r .sent g ∙ x .stands .sent g;
+            entered = λ o. r .entered o ∙ x .stands .entered o;
+          };
+      fine = λ k. absurd k;
     },
   )
 
   -- a row without effects
-  pub stranger-carried : {w : View} → Stranger n v → Carried t (suc n) [] (viewStart (suc n) (withParticipant (suc n) ParticipantPhase.unknown)) v w
-      → Elsewhere (suc n) v w × Stranger n w
+  pub stranger-carried : {w : View} {m : Stage} → Here false t m n v → Carried t (suc n) [] (viewStart (suc n) (withParticipant (suc n) ParticipantPhase.unknown)) v w
+      → Elsewhere (suc n) v w × Here false t m n w
   unfolding viewEffects
   stranger-carried x whole = stranger-after refl x (reach-woken t n v ParticipantPhase.unknown (from-stranger x))
   stranger-carried x (cutAfter zero b) = stranger-after (take-none b) x (reach-down t n v b (from-stranger x))

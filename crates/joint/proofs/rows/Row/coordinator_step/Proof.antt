@@ -13,7 +13,7 @@ unfolding foundIn planned
 returns c = λ w t own.
     let s = c .before in
     let a = s .before .before in
-    ap (planned 0 t withCoordinator) (no-coordinator-row (s .step .result) (c .match .keys2))
+    ap (planned 0 t (withCoordinator 0)) (no-coordinator-row (s .step .result) (c .match .keys2))
     ∙ coordinator-found (a .args .transaction) w t own (a .args .kind) (a .args .participant) (s .step .result) (a .pre) (s .step .ensures)
 
 returns-2 : tie.Need-returns-2
