@@ -48,7 +48,7 @@ extern "C" {
 #define DPR_REFUSED_BUFFER 25   /* the buffer is too short for the image at that offset */
 
 /* Refusal of dpr_message_parts. */
-#define DPR_REFUSED_MESSAGE 26 /* number above 447 */
+#define DPR_REFUSED_MESSAGE 26 /* number above 511 */
 
 /* Sizes. There are 8 handovers; of each a hub holds at most 3 records (10 bytes), a box at most 2 (5 bytes). An image is
  * 6 bytes, 4 bytes for each record, and the records. No longer image is accepted, so a buffer of DPR_IMAGE_MAX bytes
@@ -61,7 +61,7 @@ extern "C" {
 #define DPR_IMAGE_MAX DPR_HUB_IMAGE_MAX
 
 /* Message numbers are 0 to DPR_MESSAGES - 1. */
-#define DPR_MESSAGES 448
+#define DPR_MESSAGES 512
 
 /* The two bytes of the number that dpr_image_check returns. */
 #define DPR_CHECK_ANSWER(check) ((uint8_t)(check))       /* DPR_ACCEPTED or the number of a refusal */
@@ -85,12 +85,12 @@ uint16_t dpr_image_check(const uint8_t *image, size_t image_len);
  * `buffer_len - offset` is under `image_len`; an offset beyond the end of the buffer, of any value, is one of these. */
 uint8_t dpr_image_copy(const uint8_t *image, size_t image_len, uint8_t *buffer, size_t buffer_len, size_t offset);
 
-/* Turns a message number, 56 * handover + 7 * (box - 1) + kind, back into its parts, without a division or a
- * multiplication.
+/* Turns a message number back into its parts, without a division or a multiplication. The number is
+ * 56 * handover + 7 * (box - 1) + kind for the kinds 0 to 6, and 448 + 8 * handover + (box - 1) for kind 7.
  *
  * DPR_ACCEPTED: parts[0] is the handover (0 to 7), parts[1] the box (1 to 8), parts[2] the kind (0 Prepare, 1 Yes, 2 No,
- * 3 Commit, 4 Abort, 5 CommitAck, 6 AbortAck).
- * DPR_REFUSED_MESSAGE: the number is above 447, and the three bytes are as they were. */
+ * 3 Commit, 4 Abort, 5 CommitAck, 6 AbortAck, 7 read-only vote).
+ * DPR_REFUSED_MESSAGE: the number is above 511, and the three bytes are as they were. */
 uint8_t dpr_message_parts(uint16_t number, uint8_t parts[3]);
 
 /* One site's step. Handovers are 0 to 7; site 0 is the hub, sites 1 to 8 are boxes. A set of boxes is a mask. */
@@ -105,6 +105,7 @@ uint8_t dpr_message_parts(uint16_t number, uint8_t parts[3]);
 #define DPR_ABORT 4      /* hub to box */
 #define DPR_COMMIT_ACK 5 /* box to hub */
 #define DPR_ABORT_ACK 6  /* box to hub */
+#define DPR_READ_ONLY 7  /* box to hub: the vote of a box that only looked */
 #define DPR_BEGIN 16     /* no message: the hub begins */
 #define DPR_TIMER 17     /* no message: the timer of the hub or of a box */
 
@@ -115,7 +116,7 @@ uint8_t dpr_message_parts(uint16_t number, uint8_t parts[3]);
 #define DPR_HUB_ABORTING 3   /* acks missing */
 #define DPR_HUB_UNKNOWN 4    /* none */
 
-/* Phases of a box. Its waiting set is always 0. */
+/* Phases of a box. */
 #define DPR_BOX_WORKING 0
 #define DPR_BOX_PREPARED 1
 #define DPR_BOX_COMMITTED 2
@@ -128,7 +129,7 @@ uint8_t dpr_message_parts(uint16_t number, uint8_t parts[3]);
 
 /* Log records, 1 to 4 of the hub, 5 to 7 of a box. Their fields, a byte each, in this order: */
 #define DPR_RECORD_INIT 1       /* 1, handover, members, presume_commit */
-#define DPR_RECORD_COMMIT 2     /* 2, handover, members, presume_commit */
+#define DPR_RECORD_COMMIT 2     /* 2, handover, members, presume_commit: of the boxes that remain */
 #define DPR_RECORD_COMMIT_END 3 /* 3, handover */
 #define DPR_RECORD_ABORT_END 4  /* 4, handover */
 #define DPR_RECORD_PREPARED 5   /* 5, handover, presumption */
@@ -139,39 +140,50 @@ uint8_t dpr_message_parts(uint16_t number, uint8_t parts[3]);
 #define DPR_OUTCOME_COMMIT 1
 #define DPR_OUTCOME_ABORT 2
 
-/* The eight bytes of the number that dpr_site_step returns. */
-#define DPR_STEP_ANSWER(step) ((uint8_t)(step))          /* DPR_ACCEPTED or DPR_REFUSED_ARGUMENT */
-#define DPR_STEP_PHASE(step) ((uint8_t)((step) >> 8))    /* phase after */
-#define DPR_STEP_WAITING(step) ((uint8_t)((step) >> 16)) /* waiting set after */
-#define DPR_STEP_RECORD(step) ((uint8_t)((step) >> 24))  /* kind of the record to append, or 0 */
-#define DPR_STEP_FORCED(step) ((uint8_t)((step) >> 32))  /* 1: force the log */
-#define DPR_STEP_OUTCOME(step) ((uint8_t)((step) >> 40)) /* outcome to enter, or DPR_OUTCOME_NONE */
-#define DPR_STEP_MESSAGE(step) ((uint8_t)((step) >> 48)) /* kind of the message to send */
-#define DPR_STEP_BOXES(step) ((uint8_t)((step) >> 56))   /* boxes whose message it is; 0: no message */
+/* What is in the eight bytes of the number that dpr_site_step returns. */
+#define DPR_STEP_ANSWER(step) ((uint8_t)(step))                    /* DPR_ACCEPTED or DPR_REFUSED_ARGUMENT */
+#define DPR_STEP_PHASE(step) ((uint8_t)((step) >> 8))              /* phase after */
+#define DPR_STEP_WAITING(step) ((uint8_t)((step) >> 16))           /* waiting set after */
+#define DPR_STEP_TAKEN_OUT(step) ((uint8_t)((step) >> 24))         /* set taken out after */
+#define DPR_STEP_FIRST_RECORD(step) ((uint8_t)((step) >> 32 & 15)) /* kind of the record to append first, or 0 */
+#define DPR_STEP_LAST_RECORD(step) ((uint8_t)((step) >> 36 & 15))  /* kind of the record to append last, or 0 */
+#define DPR_STEP_FORCED(step) ((uint8_t)((step) >> 40 & 1))        /* 1: force the log */
+#define DPR_STEP_OUTCOME(step) ((uint8_t)((step) >> 41 & 3))       /* outcome to enter, or DPR_OUTCOME_NONE */
+#define DPR_STEP_MESSAGE(step) ((uint8_t)((step) >> 48))           /* kind of the message to send */
+#define DPR_STEP_BOXES(step) ((uint8_t)((step) >> 56))             /* boxes whose message it is; 0: no message */
 
 /* Refusal of dpr_site_step. */
 #define DPR_REFUSED_ARGUMENT 1
 
-/* One step of one site on one handover. The caller keeps the site's phase and waiting set, passes them, acts on the
- * number that comes back, and stores the phase and the waiting set that are in it.
+/* One step of one site on one handover. The caller keeps the phase; at the hub also the waiting set and the set taken
+ * out, at a box also its mark. It passes them, acts on the number that comes back, and stores the phase and the two sets
+ * that are in it.
  *
  * A handover. Before it is opened every site is Unknown for it. Opening it names members and presume_commit; the hub is
- * then DPR_HUB_OPEN and each member DPR_BOX_WORKING, with an empty waiting set. A handover's number is opened once for
- * ever, also where all of it was discarded: its old messages may still come, and would be taken for new ones.
+ * then DPR_HUB_OPEN and each member DPR_BOX_WORKING, with both sets empty and no mark. A handover's number is opened once
+ * for ever, also where all of it was discarded: its old messages may still come, and would be taken for new ones.
  *
- * Loss of power. Phase and waiting set are kept in RAM, and no copy of them may survive: only the log does. While a site is
- * down, all its handovers are Unknown to it. Then the rules of restart below give each of them anew from the log. A
+ * A box that only looked sets its mark to 1 while DPR_BOX_WORKING. No step changes the mark, and it means something in
+ * that phase alone: on DPR_PREPARE the box sends DPR_READ_ONLY, writes nothing and is Unknown. A hub that collects votes
+ * takes it out of the handover: only the boxes that remain have to vote Yes, are in DPR_RECORD_COMMIT and are told the
+ * outcome. Where none remains, nothing is entered and the hub is Unknown. Such a box may still abort the handover:
+ * - its timer runs out before DPR_PREPARE comes: it enters abort as any other, and then says DPR_NO;
+ * - DPR_PREPARE comes twice: the second finds it Unknown and brings a DPR_NO. Where the hub gets this before the
+ *   DPR_READ_ONLY, it aborts; behind it, the DPR_NO does nothing.
+ *
+ * Loss of power. Phase, sets and mark are kept in RAM, and no copy of them may survive: only the log does. While a site
+ * is down, all its handovers are Unknown to it. Then the rules of restart below give each of them anew from the log. A
  * DPR_BOX_WORKING that survives books both ways: its timer has entered abort, power goes before Unknown is stored, and
  * still Working it votes Yes on a late Prepare and enters commit too.
  *
  * The presumption. DPR_YES, DPR_COMMIT and DPR_ABORT carry the box's presumption with them: a site that has forgotten the
- * handover takes it from the message and never guesses it. DPR_PREPARE, DPR_NO and the acks carry none, and to a site in
- * Unknown they mean the same with either.
+ * handover takes it from the message and never guesses it. The other kinds carry none, and to a site in Unknown they mean
+ * the same with either.
  *
  * Each argument has to be as follows, or the whole number is DPR_REFUSED_ARGUMENT, its other bytes 0:
  *   site            0 to 8.
- *   kind            at the hub DPR_YES, DPR_NO, DPR_COMMIT_ACK, DPR_ABORT_ACK, DPR_BEGIN or DPR_TIMER; at a box
- *                   DPR_PREPARE, DPR_COMMIT, DPR_ABORT or DPR_TIMER.
+ *   kind            at the hub DPR_YES, DPR_NO, DPR_COMMIT_ACK, DPR_ABORT_ACK, DPR_READ_ONLY, DPR_BEGIN or DPR_TIMER;
+ *                   at a box DPR_PREPARE, DPR_COMMIT, DPR_ABORT or DPR_TIMER.
  *   handover        0 to 7.
  *   box             a member, 1 to 8: at the hub the message's sender, at a box the site itself, at its timer too.
  *                   At the hub with DPR_BEGIN and DPR_TIMER: 0.
@@ -182,43 +194,49 @@ uint8_t dpr_message_parts(uint16_t number, uint8_t parts[3]);
  *                   the members in DPR_HUB_COLLECTING,
  *                   the members that are not in presume_commit in DPR_HUB_COMMITTING,
  *                   presume_commit in DPR_HUB_ABORTING.
- *   members         not 0.
- *   presume_commit  a part of the members.
+ *   members         not 0. As opened, whoever was taken out since.
+ *   presume_commit  a part of the members. As opened.
+ *   mark            at a box 0 or 1, in every phase. At the hub: 0.
+ *   taken_out       at a box and in DPR_HUB_OPEN: 0. Else a part of the members, and nobody of the waiting set.
  * A box's step, and the hub's on a message in DPR_HUB_UNKNOWN, depend on no other member: a site that does not know the
  * members passes the set of `box` alone, and that set or 0 as presume_commit, by its presumption.
  *
- * DPR_ACCEPTED: do in this order what the number says, and nothing where its byte is 0:
- *   1. append the record, its fields as passed to this call;
+ * DPR_ACCEPTED: do in this order what the number says, and nothing where it says 0:
+ *   1. append the first record;
  *   2. force the log: all records of the site's one log become stable, those of other handovers too;
  *   3. enter the outcome;
  *   4. send the message, one to each box of the set. A box sends its message to the hub, and the set is that box alone.
- *      Look at the set, not at the kind: where nothing is sent both are 0, and 0 is DPR_PREPARE too.
- * But DPR_RECORD_ABORT_END is appended last, after 3 and 4. Keep to the order: after a loss of power the effects that
- * happened have to be the first of them.
+ *      Look at the set, not at the kind: where nothing is sent both are 0, and 0 is DPR_PREPARE too;
+ *   5. append the last record. A record that is the only effect is the first one.
+ * The fields of a record are as passed to this call; but DPR_RECORD_COMMIT has members and presume_commit each without
+ * the set taken out after the step.
+ * Keep to the order: after a loss of power the effects that happened have to be the first of them.
  * DPR_PREPARE goes to the lowest box first. DPR_COMMIT and DPR_ABORT go first to the boxes of the set that owe an ack for
  * it, the lowest first, then to the others, the lowest first. For DPR_COMMIT the boxes that are not in presume_commit owe
  * one, for DPR_ABORT those that are in it.
  *
  * The arguments are bytes: C cuts a wider number before the call is made.
  *
- * A step may change nothing: the phase and the waiting set as they came, all other bytes 0. Either there is no rule for
- * the kind in this phase, or its rule has nothing to do, as for a vote that comes again; the number does not tell
- * which.
+ * A step may change nothing: the phase and the two sets as they came, all other bytes 0. Either there is no rule for the
+ * kind in this phase, or its rule has nothing to do, as for a vote that comes again; the number does not tell which.
  *
  * Restart is no kind of this call. A site that comes up again does this for each handover, by the stable records that its
  * log has of it; sends go in the order above, and nothing is appended or forced:
  *   hub, DPR_RECORD_COMMIT without DPR_RECORD_COMMIT_END: enter commit. Where members of the record are not in its
  *      presume_commit: send DPR_COMMIT to all its members, then DPR_HUB_COMMITTING, waiting for those. Else Unknown.
  *   hub, DPR_RECORD_INIT without DPR_RECORD_COMMIT and DPR_RECORD_ABORT_END: enter abort, send DPR_ABORT to all its
- *      members, then DPR_HUB_ABORTING, waiting for its presume_commit.
+ *      members, also to those that were taken out, then DPR_HUB_ABORTING, waiting for its presume_commit.
  *   box, DPR_RECORD_COMMITTED: enter commit, DPR_BOX_COMMITTED. DPR_RECORD_ABORTED: enter abort, DPR_BOX_ABORTED.
  *   box, DPR_RECORD_PREPARED alone: send DPR_YES, DPR_BOX_PREPARED.
- *   anything else: Unknown, and nothing is done. */
+ *   anything else: Unknown, and nothing is done.
+ * From then on a hub passes the members and presume_commit of that record, and taken_out 0. A late message of a box that
+ * is not among them is refused, and dropped. */
 uint64_t dpr_site_step(uint8_t site, uint8_t kind, uint8_t handover, uint8_t box, uint8_t presumption, uint8_t phase,
-                       uint8_t waiting, uint8_t members, uint8_t presume_commit);
+                       uint8_t waiting, uint8_t members, uint8_t presume_commit, uint8_t mark, uint8_t taken_out);
 
-/* The drill. An event is six bytes: code, x, y, z, cut, keep. Not more than the first DPR_DRILL_BYTES_MAX bytes are read,
- * which are 10,000 events; no text is longer than DPR_DRILL_TEXT_MAX bytes. */
+/* The drill. An event is six bytes: code, x, y, z, cut, keep. Codes are 0 to 8; 8 marks box y of handover x as one that
+ * only looked. Not more than the first DPR_DRILL_BYTES_MAX bytes are read, which are 10,000 events; no text is longer
+ * than DPR_DRILL_TEXT_MAX bytes. */
 #define DPR_EVENT_BYTES 6
 #define DPR_DRILL_BYTES_MAX 60000
 #define DPR_DRILL_TEXT_MAX 220168 /* 10,000 lines of at most 22 bytes, and 8 lines of handovers of 21 bytes */

@@ -6,7 +6,7 @@ use mathlib.Core.List.{List, [], _∷_, _++_, map}
 use lib.ListN.{length, getD, drop}
 use lib.Dec.{eqb, leb, ltb}
 use Rattle.codec.specs.Lists.{select, any, all, every, same, first}
-use Rattle.codec.specs.Sets.{empty, minus, part}
+use Rattle.codec.specs.Sets.{empty, both, minus, part}
 
 pub record LogRecord : Type 0 where
   pub kind : ℕ
@@ -76,10 +76,15 @@ sequences zero =
     (1 ∷ []) ∷ (1 ∷ 2 ∷ []) ∷ (1 ∷ 2 ∷ 3 ∷ []) ∷ (2 ∷ []) ∷ (2 ∷ 3 ∷ []) ∷ (3 ∷ []) ∷ (1 ∷ 4 ∷ []) ∷ (4 ∷ []) ∷ []
 sequences (suc n) = (5 ∷ []) ∷ (5 ∷ 6 ∷ []) ∷ (5 ∷ 7 ∷ []) ∷ (6 ∷ []) ∷ (7 ∷ []) ∷ []
 
--- an earlier record x and a later one y of a transaction: equal masks in 1 and 2, and a PrA member before 3
+-- record 2 behind record 1: its members are a part of Init's, its PC is Init's among them
+unfoldable pub withinInit : LogRecord → LogRecord → Bool
+withinInit init commit =
+    part (membersIn commit) (membersIn init) && eqb (presumeCommitIn commit) (both (presumeCommitIn init) (membersIn commit))
+
+-- an earlier record x and a later one y of a transaction: masks of 2 within those of 1, and a PrA member before 3
 unfoldable pub agrees : LogRecord → LogRecord → Bool
 agrees x y =
-    (not (eqb (x .kind) 1 && eqb (y .kind) 2) || same (x .fields) (y .fields))
+    (not (eqb (x .kind) 1 && eqb (y .kind) 2) || withinInit x y)
     && (not (eqb (x .kind) 2 && eqb (y .kind) 3) || awaitsAcks x)
 
 unfoldable pub ofTransaction : ℕ → LogRecord → Bool

@@ -2,6 +2,7 @@
 pub mod Tests
 pub mod Masks
 pub mod Members
+pub mod Remaining
 pub mod Lowest
 pub mod Fields
 pub mod Refusals

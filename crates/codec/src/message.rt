@@ -65,26 +65,40 @@ impl Parts {
     pub const COMMIT_ACK: u8 = 5;
 
     pub const ABORT_ACK: u8 = 6;
+
+    pub const READ_ONLY: u8 = 7;
     // The largest message number, and the largest value of each part.
-    pub const LAST: u16 = 447;
+    pub const LAST: u16 = 511;
 
     pub const LAST_TRANSACTION: u8 = 7;
 
     pub const LAST_PARTICIPANT: u8 = 8;
 
-    pub const LAST_KIND: u8 = 6;
+    pub const LAST_KIND: u8 = Parts::READ_ONLY;
     // The number that refuses.
     pub const REFUSED: u8 = 26;
     // From a transaction's numbers to those of the next, and from a participant's.
     const TRANSACTION_STEP: u16 = 56;
 
     const PARTICIPANT_STEP: u16 = 7;
+    // Read-only votes: the first number, behind those of all other kinds, and from a transaction's to those of the next.
+    const FIRST_READ_ONLY: u16 = 448;
+
+    const READ_ONLY_STEP: u16 = 8;
 
     pub fn from_number(number: u16) -> PartsAnswer
         ensures { λ r. ⌜ partsValues r ≡ messageAnswer (messageParts number) ⌝ }
     {
         if Parts::LAST < number {
             return PartsAnswer::Refused;
+        }
+        if Parts::FIRST_READ_ONLY <= number {
+            let votes = Stepped::down(number - Parts::FIRST_READ_ONLY, Parts::READ_ONLY_STEP);
+            return PartsAnswer::Message(Parts {
+                transaction: votes.steps,
+                participant: votes.rest as u8 + 1,
+                kind: Parts::READ_ONLY,
+            });
         }
         let transactions = Stepped::down(number, Parts::TRANSACTION_STEP);
         let participants = Stepped::down(transactions.rest, Parts::PARTICIPANT_STEP);
@@ -108,9 +122,15 @@ impl Parts {
         if wrong {
             return NumberAnswer::Refused;
         }
+        let place = (participant - 1) as u16;
+        if kind == Parts::READ_ONLY {
+            return NumberAnswer::Number(
+                Parts::FIRST_READ_ONLY + Parts::READ_ONLY_STEP * (transaction as u16) + place,
+            );
+        }
         NumberAnswer::Number(
             Parts::TRANSACTION_STEP * (transaction as u16)
-                + Parts::PARTICIPANT_STEP * ((participant - 1) as u16)
+                + Parts::PARTICIPANT_STEP * place
                 + (kind as u16),
         )
     }

@@ -1,6 +1,7 @@
 // One log record: its fields, its length, and the tests on it (refusals 23, 27, 28 and 24).
 use crate::log::Log;
 use crate::message::Parts;
+use crate::sets::both;
 use crate::sets::minus;
 use crate::sets::part;
 ghost use mathlib.Core.Path.{_≡_};
@@ -215,8 +216,8 @@ impl Record {
         }
     }
 
-    // Whether the record may stand behind the newest one of its transaction: by the table, with equal masks in 1 and 2,
-    // and a PrA member before 3.
+    // Whether the record may stand behind the newest one of its transaction: by the table; a record 2 behind Init by their masks,
+    // members a part of Init's and PC Init's among them; a record 3 behind a record 2 with a PrA member.
     fn follows(self, newest: Record) -> bool
         ensures { λ r. ⌜ r ≡ mayFollow (recordIn newest) (recordIn self) ⌝ }
     {
@@ -228,12 +229,14 @@ impl Record {
         if Record::LAST_KIND < kind {
             return false;
         }
+        if (before == Record::INIT) & (kind == Record::COMMIT) {
+            let members = self.first;
+            return part(members, newest.first) & (self.second == both(newest.second, members));
+        }
         if (before == Record::COMMIT) & (kind == Record::COMMIT_END) {
             return newest.awaits_acks();
         }
-        let tabled = (Record::NEXT[before as usize] >> kind) % 2 == 1;
-        let same = (newest.first == self.first) & (newest.second == self.second);
-        tabled & (!((before == Record::INIT) & (kind == Record::COMMIT)) | same)
+        (Record::NEXT[before as usize] >> kind) % 2 == 1
     }
 
     // The record as one of a site, behind the newest one of its transaction: 23, 27, 28 and 24 in this order.

@@ -1,5 +1,5 @@
-// The examples of document 01's refusal table for images, buffers and message numbers with the numbers of 02's Job 1, and K10's image,
-// run and proved.
+// The examples of document 01's refusal table for images, buffers and message numbers with the numbers of 02's Jobs 1 and 3, and K10's
+// image, run and proved.
 use codec::log::Log;
 use codec::message::dpr_message_parts;
 use codec::reader::dpr_image_check;
@@ -10,7 +10,8 @@ ghost use mathlib.Core.Path.{_≡_};
 ghost use Prim.Native.Nat.{_+_, _*_};
 ghost use lib.ListN.{replicate};
 ghost use Rattle.codec.specs.Image.{checkImage, writeImage};
-ghost use Rattle.codec.specs.Answers.{logIn};
+ghost use Rattle.codec.specs.Messages.{messageParts, partsWritten};
+ghost use Rattle.codec.specs.Answers.{logIn, written};
 
 // Reads an image, whose number and index are these.
 fn reads(image: &[u8], number: u8, index: u8)
@@ -59,6 +60,46 @@ fn images() {
         b"\x44\x50\x52\x4C\x01\x01\x0A\x00\x03\x00\x05\x00\x01",
         0,
         1,
+    );
+}
+
+// Init with members 1 and 2 and PC 1, and a record 2 behind it.
+fn commits() {
+    // Participant 1 was taken out: accepted.
+    reads(
+        b"\x44\x50\x52\x4C\x00\x02\x0E\x00\x04\x00\x12\x00\x04\x00\x01\x00\x03\x01\x02\x00\x02\x00",
+        0,
+        2,
+    );
+    // 24: participant 1 remains and is in PC no more.
+    reads(
+        b"\x44\x50\x52\x4C\x00\x02\x0E\x00\x04\x00\x12\x00\x04\x00\x01\x00\x03\x01\x02\x00\x01\x00",
+        24,
+        1,
+    );
+    // 24: participant 2 remains and is in PC now.
+    reads(
+        b"\x44\x50\x52\x4C\x00\x02\x0E\x00\x04\x00\x12\x00\x04\x00\x01\x00\x03\x01\x02\x00\x02\x02",
+        24,
+        1,
+    );
+    // 24: the members are no part of Init's.
+    reads(
+        b"\x44\x50\x52\x4C\x00\x02\x0E\x00\x04\x00\x12\x00\x04\x00\x01\x00\x03\x01\x02\x00\x07\x01",
+        24,
+        1,
+    );
+    // A record 3 behind it, with a PrA member in record 2.
+    reads(
+        b"\x44\x50\x52\x4C\x00\x03\x12\x00\x04\x00\x16\x00\x04\x00\x1A\x00\x02\x00\x01\x00\x03\x01\x02\x00\x02\x00\x03\x00",
+        0,
+        3,
+    );
+    // 24: with a PrA member in Init alone.
+    reads(
+        b"\x44\x50\x52\x4C\x00\x03\x12\x00\x04\x00\x16\x00\x04\x00\x1A\x00\x02\x00\x01\x00\x03\x01\x02\x00\x01\x01\x03\x00",
+        24,
+        2,
     );
 }
 
@@ -132,16 +173,28 @@ fn logs() {
     refuses(two, 24);
 }
 
+// Turns a message number back: the answer, and the three lent bytes then.
+fn message(number: u16, answer: u8, parts: &[u8])
+    requires { ⌜ partsWritten (messageParts number) (replicate 3 0xEE) ≡ written answer (now parts) ⌝ }
+{
+    let mut lent = [0xEEu8; 3];
+    check::expect(dpr_message_parts(number, &mut lent) == answer);
+    check::expect(check::same(&lent, parts));
+}
+
 fn messages() {
-    // 26: message number 01C0.
-    let mut parts = [0xEEu8; 3];
-    check::expect(dpr_message_parts(0x01C0, &mut parts) == 26);
-    check::expect(dpr_message_parts(447, &mut parts) == 0);
-    check::expect(check::same(&parts, b"\x07\x08\x06"));
+    // 26: message number 0200, which leaves the bytes as they were.
+    message(0x0200, 26, b"\xEE\xEE\xEE");
+    // The last number of kinds 0 to 6.
+    message(447, 0, b"\x07\x08\x06");
+    // The first and the last read-only vote.
+    message(448, 0, b"\x00\x01\x07");
+    message(511, 0, b"\x07\x08\x07");
 }
 
 fn main() {
     images();
+    commits();
     buffers();
     logs();
     messages();

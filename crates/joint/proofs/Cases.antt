@@ -133,7 +133,7 @@ cases =
 phasesOf : Run → ℕ → List ℕ
 phasesOf r t =
     let x = r .transaction t in
-    coordinatorPhase (x .coordinator) ∷ waitingSet (x .coordinator) ∷ participantPhase (x .participant 1) ∷ []
+    coordinatorPhase (x .coordinator .phase) ∷ waitingSet (x .coordinator .phase) ∷ participantPhase (x .participant 1) ∷ []
 
 pub observed : Case → List (List ℕ)
 observed c =

@@ -1,6 +1,7 @@
 -- Demand 3: every list of events, of any bytes, is safe.
 use Prim.Native.Nat.{ℕ, zero, suc}
 use mathlib.Core.Path.{_≡_, refl, sym, ap, _∙_, subst}
+use mathlib.Core.Logic.{_⊎_, inl, inr, ⊎-elim}
 use mathlib.Core.Bool.{Bool, true, false, cond, not, _&&_, _||_, true≢false}
 use mathlib.Core.List.{List, [], _∷_, _++_, append-assoc}
 use lib.Dec.{T}
@@ -10,12 +11,14 @@ use Rattle.codec.specs.Sets.{member}
 use Rattle.codec.specs.laws.Tests.{true-of, of-true}
 use Rattle.site.specs.Presumption.{Outcome, commit, abort, sameOutcome, silence}
 use Rattle.site.specs.Cohort.{Cohort, presumptionOf}
-use Rattle.site.specs.Step.{prepare, coordinatorOf}
-use Rattle.site.specs.Coordinator.{CoordinatorPhase}
+use Rattle.site.specs.Step.{prepare, readOnly, coordinatorOf}
+use Rattle.site.specs.Coordinator.{CoordinatorPhase, Coordinator}
 use Rattle.joint.specs.State.{Run, Site, fresh, coordinatorAt, holds}
 use Rattle.joint.specs.Run.{event, after}
-use Rattle.joint.specs.Safety.{Moment, happened, history, along, isEntry, isEntryAt, isVote, isReply, inDoubt, commitStable, outcome, Happens, Safe, Demand3}
+use Rattle.joint.specs.Safety.{Moment, happened, history, along, isEntry, isEntryAt, isVote, isReply, inDoubt, commitStable, outcome, steps, isTakingOut, takenOut, Happens, Safe, Demand3}
+use Rattle.joint.proofs.base.Booleans.{or-left, or-right}
 use Rattle.joint.proofs.base.History.{history-snoc}
+use Rattle.joint.proofs.base.Looked.{any-step, steps-append}
 use Rattle.joint.proofs.base.Lists.{any-found, any-more, any-middle}
 use Rattle.joint.proofs.base.Moments.{placed, moment-start, moment-cohort}
 use Rattle.joint.proofs.base.EventMoments.{reply-silence}
@@ -33,32 +36,32 @@ use Rattle.joint.proofs.safety.Outcomes.{refl-outcome, same-outcome, on
 both-decided : (h : Standing) → T (hasDecided h commit) → T (hasDecided h abort) → ⊥
 both-decided (never u) c a = c
 both-decided (initial b) c a = c
-both-decided (collecting w b) c a = c
-both-decided (decided o p l) c a = one-outcome o c a
+both-decided (collecting w out b) c a = c
+both-decided (decided o out p l) c a = one-outcome o c a
 
 -- by a participant
-member-commit : (h : Standing) (p : ℕ) (s : Status) → T (mayEnter (stageOf h p) s commit) → T (hasDecided h commit)
+member-commit : (h : Standing) (p : ℕ) (s : Status) (r : Bool) → T (mayEnter (stageOf h p) s r commit) → T (hasDecided h commit)
 unfolding sameOutcome
-member-commit (never u) p s k = k
-member-commit (initial b) p s k = k
-member-commit (collecting w b) p s k = k
-member-commit (decided o pace l) p s k = k
+member-commit (never u) p s r k = k
+member-commit (initial b) p s r k = k
+member-commit (collecting w out b) p s r k = k
+member-commit (decided o out pace l) p s r k = k
 
-member-abort : (h : Standing) (p : ℕ) (s : Status) → T (mayEnter (stageOf h p) s abort) → T (hasDecided h commit) → ⊥
-member-abort (never u) p s k c = c
-member-abort (initial b) p s k c = c
-member-abort (collecting w b) p s k c = c
-member-abort (decided o pace l) p s k c = one-outcome o c k
+member-abort : (h : Standing) (p : ℕ) (s : Status) (r : Bool) → T (mayEnter (stageOf h p) s r abort) → T (hasDecided h commit) → ⊥
+member-abort (never u) p s r k c = c
+member-abort (initial b) p s r k c = c
+member-abort (collecting w out b) p s r k c = c
+member-abort (decided o out pace l) p s r k c = one-outcome o c k
 
 module _ {t : ℕ} {v : View} (h : Standing) (mid : Mid t h v) where
   -- whoever has entered an outcome is the coordinator or a member that may have
-  entered : (o : Outcome) (P : Type 0) → (T (hasDecided h o) → P) → ((p : ℕ) (s : Status) → T (mayEnter (stageOf h p) s o) → P) → (s : ℕ)
+  entered : (o : Outcome) (P : Type 0) → (T (hasDecided h o) → P) → ((p : ℕ) (s : Status) (r : Bool) → T (mayEnter (stageOf h p) s r o) → P) → (s : ℕ)
       → T (v .entered s o) → P
   entered o P f g zero k = f (mid .entries o k)
   entered o P f g (suc n) k = go (member (suc n) (cohortOf v .members)) (here mid n)
     where
       go : (b : Bool) → Here b t (stageOf h (suc n)) n v → P
-      go true x = g (suc n) (x .status) (x .fine tt .entries o k)
+      go true x = g (suc n) (x .status) (sentIn v (suc n) readOnly) (x .fine tt .entries o k)
       go false x = absurd (subst T (x .stands .entered o) k)
 
   entered-commit : (s : ℕ) → T (v .entered s commit) → T (hasDecided h commit)
@@ -97,8 +100,20 @@ entered-now t o es e seen m rest q k =
     subst (λ (ms : List Moment). T (any (isEntryAt t (m .site) o) ms)) (sym (history-snoc fresh es e ∙ ap (λ (ms : List Moment). history fresh es ++ ms) q ∙ sym (append-assoc (history fresh es) seen (m ∷ rest))))
     (any-middle (isEntryAt t (m .site) o) (history fresh es ++ seen) m rest (entry-at t o m k))
 
+-- whoever was taken out was so in a longer list
+pub taken-later : (t p : ℕ) (es later : List (List ℕ)) → T (takenOut es t p) → T (takenOut (es ++ later) t p)
+unfolding takenOut
+taken-later t p es later k = subst T (sym (ap (any (isTakingOut t p)) (steps-append fresh es later))) (any-more (isTakingOut t p) (steps fresh es) (steps (after fresh es) later) k)
+
+-- before an event, or by it
+taken-next : (t p : ℕ) (es : List (List ℕ)) (e : List ℕ) → T (takenOut es t p) ⊎ T (isTakingOut t p (after fresh es, e)) → T (takenOut (es ++ (e ∷ [])) t p)
+unfolding takenOut
+taken-next t p es e k =
+    subst T (sym (any-step (isTakingOut t p) es e))
+    (⊎-elim (or-left (any (isTakingOut t p) (steps fresh es)) (isTakingOut t p (after fresh es, e))) (or-right (any (isTakingOut t p) (steps fresh es)) (isTakingOut t p (after fresh es, e))) k)
+
 votes : (es : List (List ℕ)) (earlier : List Moment) (m : Moment) → Happens es earlier m → (t : ℕ) → T (isEntry t commit m)
-    → (p : ℕ) → T (member p (m .before .transaction t .cohort .members)) → T (any (isVote t p) earlier)
+    → (p : ℕ) → T (member p (m .before .transaction t .cohort .members)) → T (any (isVote t p) earlier || takenOut es t p)
 unfolding view
 votes es earlier m h t k zero b = absurd (no-zero (m .before .transaction t .cohort .members) b)
 votes es earlier m h t k (suc n) b =
@@ -108,13 +123,22 @@ votes es earlier m h t k (suc n) b =
     let decided =
     entered-commit (new .standing) (new .inv .mid) (m .site) (entered-now t commit (x .before) (x .event) (x .seen) m (x .rest) (x .moments) k) in
     let mine = subst (λ (g : Cohort). T (member (suc n) (g .members))) (moment-cohort (after fresh (x .before)) (x .event) (x .seen) m (x .rest) (x .moments) t) b in
-    subst (λ (ms : List Moment). T (any (isVote t (suc n)) ms)) (sym (x .earlier-is)) (any-more (isVote t (suc n)) (history fresh (x .before)) (x .seen) (new .asked decided n mine))
+    ⊎-elim
+    (λ o.
+    or-right (any (isVote t (suc n)) earlier) (takenOut es t (suc n))
+    (subst (λ (l : List (List ℕ)). T (takenOut l t (suc n))) (append-assoc (x .before) (x .event ∷ []) (x .later) ∙ sym (x .list))
+    (taken-later t (suc n) (x .before ++ (x .event ∷ [])) (x .later)
+    (taken-next t (suc n) (x .before) (x .event) (⊎-elim (λ c. inl (old .outs n c)) inr (new .from .outs n o))))))
+    (λ v.
+    or-left (any (isVote t (suc n)) earlier) (takenOut es t (suc n))
+    (subst (λ (ms : List Moment). T (any (isVote t (suc n)) ms)) (sym (x .earlier-is)) (any-more (isVote t (suc n)) (history fresh (x .before)) (x .seen) v)))
+    (new .asked decided n mine)
 
 -- ---- the third sentence
 
 -- a coordinator that is up, in Unknown, on a transaction with members has decided, and is done with each of them
 pub data Resting : Standing → Type 0 where
-  rests : (o : Outcome) (b : Bool) (l : Log) → Resting (decided o (resting b) l)
+  rests : (o : Outcome) (out : ℕ) (b : Bool) (l : Log) → Resting (decided o out (resting b) l)
 
 abbrev pub isUnknown : CoordinatorPhase → Bool
 isUnknown CoordinatorPhase.initial = false
@@ -123,13 +147,13 @@ isUnknown (CoordinatorPhase.awaitingAcks o w) = false
 isUnknown CoordinatorPhase.unknown = true
 
 resting-only : {t : ℕ} {v : View} (h : Standing) → Inv t h v → (p : ℕ) → T (member p (cohortOf v .members)) → v .site 0 .up ≡ true
-    → v .transaction .coordinator ≡ CoordinatorPhase.unknown → Resting h
+    → v .transaction .coordinator .phase ≡ CoordinatorPhase.unknown → Resting h
 resting-only {v} (never u) inv p m up c = absurd (empty-none (cohortOf v .members) p (of-true (sym (inv .mid .sound .opened))) m)
-resting-only (initial b) inv p m up c = absurd (true≢false (sym (ap isUnknown (sym (inv .phase) ∙ c))))
-resting-only (collecting w b) inv p m up c = absurd (true≢false (sym (ap isUnknown (sym (inv .phase) ∙ c))))
-resting-only (decided o (waiting w) l) inv p m up c = absurd (true≢false (sym (ap isUnknown (sym (inv .phase) ∙ c))))
-resting-only (decided o (resting b) l) inv p m up c = rests o b l
-resting-only (decided o down l) inv p m up c = absurd (true≢false (sym up ∙ ap (λ (s : Site). s .up) (inv .mid .log)))
+resting-only (initial b) inv p m up c = absurd (true≢false (sym (ap isUnknown (sym (ap (λ (z : Coordinator). z .phase) (inv .phase)) ∙ c))))
+resting-only (collecting w out b) inv p m up c = absurd (true≢false (sym (ap isUnknown (sym (ap (λ (z : Coordinator). z .phase) (inv .phase)) ∙ c))))
+resting-only (decided o out (waiting w) l) inv p m up c = absurd (true≢false (sym (ap isUnknown (sym (inv .phase) ∙ c))))
+resting-only (decided o out (resting b) l) inv p m up c = rests o out b l
+resting-only (decided o out down l) inv p m up c = absurd (true≢false (sym up ∙ ap (λ (s : Site). s .up) (inv .mid .log)))
 
 -- in doubt, at the stage where the coordinator is done: silence means the outcome
 doubt-law : (d a q s : Bool) → T d → T (a && (not true || s || (not d && q))) → T s
@@ -155,13 +179,13 @@ in-doubt t es m n x k =
   where
     kind : (k : ℕ) → holds t k (after fresh es .site (suc n) .stable) ≡ has k (stableKinds (x .status))
     kind k =
-        sym (holds-select t k (after fresh es .site (suc n) .stable)) ∙ holds-at (cohortOf (seenAfter t es)) t (suc n) (stableKinds (x .status)) (x .stands .site) k
+        sym (holds-select t k (after fresh es .site (suc n) .stable)) ∙ holds-at (cohortOf (seenAfter t es)) 0 t (suc n) (stableKinds (x .status)) (x .stands .site) k
 
 -- what silence means to a member in doubt is decided
 silence-decided : (t : ℕ) (es : List (List ℕ)) (h : Standing) → Inv t h (seenAfter t es) → Resting h → (n : ℕ)
     → T (member (suc n) (cohortOf (seenAfter t es) .members)) → T (inDoubt (after fresh es) t (suc n))
     → T (hasDecided h (silence (presumptionOf (cohortOf (seenAfter t es)) (suc n))))
-silence-decided t es h inv (rests o b l) n m d = go (member (suc n) (cohortOf (seenAfter t es) .members)) m (here (inv .mid) n)
+silence-decided t es h inv (rests o out b l) n m d = go (member (suc n) (cohortOf (seenAfter t es) .members)) m (here (inv .mid) n)
   where
     s : Outcome
     s = silence (presumptionOf (cohortOf (seenAfter t es)) (suc n))
@@ -183,7 +207,7 @@ outcome-is t es x abort d = go (any (commitStable t) (along fresh es)) refl
     go false e = refl
 
 reply-decided : (t : ℕ) (es : List (List ℕ)) (p : ℕ) → T (member p (after fresh es .transaction t .cohort .members))
-    → after fresh es .site 0 .up ≡ true → after fresh es .transaction t .coordinator ≡ CoordinatorPhase.unknown
+    → after fresh es .site 0 .up ≡ true → after fresh es .transaction t .coordinator .phase ≡ CoordinatorPhase.unknown
     → T (inDoubt (after fresh es) t p) → T (hasDecided (tracked t es .standing) (silence (presumptionOf (after fresh es .transaction t .cohort) p)))
 unfolding view siteView
 reply-decided t es zero m up c d = absurd (no-zero (after fresh es .transaction t .cohort .members) m)
@@ -192,12 +216,12 @@ reply-decided t es (suc n) m up c d =
     silence-decided t es (x .standing) (x .inv) (resting-only (x .standing) (x .inv) (suc n) m up c) n m d
 
 replies : (es : List (List ℕ)) (earlier : List Moment) (m : Moment) → Happens es earlier m → (t p : ℕ) (o : Outcome) → T (isReply t p o m)
-    → coordinatorAt (m .start .transaction t) (coordinatorOf p) ≡ CoordinatorPhase.unknown → T (inDoubt (m .start) t p) → o ≡ outcome es t
+    → coordinatorAt (m .start .transaction t) (coordinatorOf p) .phase ≡ CoordinatorPhase.unknown → T (inDoubt (m .start) t p) → o ≡ outcome es t
 unfolding coordinatorOf
 replies es earlier m h t p o r c d =
     let x = placed es earlier m h in
     let at = moment-start (after fresh (x .before)) (x .event) (x .seen) m (x .rest) (x .moments) in
-    let unknown = ap (λ (y : Run). y .transaction t .coordinator) (sym at) ∙ c in
+    let unknown = ap (λ (y : Run). y .transaction t .coordinator .phase) (sym at) ∙ c in
     let said = reply-silence (after fresh (x .before)) (x .event) (x .seen) m (x .rest) (x .moments) t p o r unknown in
     let now = reply-decided t (x .before) p (said .1) (said .2) unknown (subst (λ (y : Run). T (inDoubt y t p)) at d) in
     let end =

@@ -10,3 +10,4 @@ mod engine
 mod Program
 mod Cases
 mod Examples
+mod Marks

@@ -1,26 +1,45 @@
--- What holds in every run that events can reach: of the logs and their images, of the cohorts, and of the waiting sets.
-use Prim.Native.Nat.{ℕ, _≤_, _<_}
-use mathlib.Core.Path.{_≡_, subst}
-use mathlib.Core.Bool.{true, false}
+-- What holds in every run that events can reach: of the logs and their images, of the cohorts, of the waiting sets and the sets taken out, and of votes.
+use Prim.Native.Nat.{ℕ, suc, _≤_, _<_}
+use mathlib.Core.Path.{_≡_, ap, subst}
+use mathlib.Core.Bool.{Bool, true, false}
 use mathlib.Core.List.{List, [], _++_}
 use lib.ListN.{length, length-append, getD}
+use lib.Dec.{T}
 use native.Mathlib.Omega.{arith}
 use Rattle.codec.specs.Lists.{select, first}
+use Rattle.codec.specs.Sets.{member}
 use Rattle.codec.specs.Records.{LogRecord, ofTransaction}
 use Rattle.codec.specs.Image.{most, accepted, readImage, logRefusals}
 use Rattle.codec.specs.laws.RoundTrip.{reads-back}
-use Rattle.site.specs.Numbers.{coordinatorPhase, waitingSet, waitingInRange}
+use Rattle.site.specs.Step.{voteYes, messageKind}
+use Rattle.site.specs.Coordinator.{Coordinator}
+use Rattle.site.specs.Numbers.{coordinatorPhase, waitingSet, waitingInRange, takenOutInRange}
 use Rattle.joint.specs.State.{Run, fresh, opened}
 use Rattle.joint.specs.Run.{after, siteImage}
 use Rattle.joint.specs.Safety.{history}
 use Rattle.joint.proofs.view.View.{view}
 use Rattle.joint.proofs.base.Lists.{Each, each-at, each-back, each-map}
-use Rattle.joint.proofs.safety.Invariant.{Inv}
+use Rattle.joint.proofs.safety.Tables.{Status, trail}
+use Rattle.joint.proofs.safety.Invariant.{Standing, never, initial, collecting, decided, phaseAt, stageOf, Here, here, PhaseAs, Inv}
 use Rattle.joint.proofs.safety.Tracked.{tracked}
+use Rattle.joint.proofs.logs.Taken.{taken-in-range}
 use Rattle.joint.proofs.logs.Counts.{no-record, each-transaction, counted-most}
 use Rattle.joint.proofs.logs.Orders.{Ranged, log-passes}
 use Rattle.joint.proofs.logs.Kinds.{share, Kinds, kinds-at, opened-ranged}
 use Rattle.joint.proofs.logs.Facts.{OwnRecord, few-of, few-unforced, halted, each-of, follows-whole, follows-stable, shares, standing-waits}
+
+no-both : (s : Status) (m y r : Bool) → T (trail s m y r) → T y → T r → ⊥
+no-both s true true true t u v = t
+no-both s false true true t u v = t
+no-both s m false r t u v = u
+no-both s m true false t u v = v
+
+-- the phase of a standing
+phase-of : (h : Standing) (c : Coordinator) → PhaseAs h c → c .phase ≡ phaseAt h
+phase-of (never u) c e = ap (λ (z : Coordinator). z .phase) e
+phase-of (initial b) c e = ap (λ (z : Coordinator). z .phase) e
+phase-of (collecting w out b) c e = ap (λ (z : Coordinator). z .phase) e
+phase-of (decided o out p l) c e = e
 
 module _ (es : List (List ℕ)) where
   abbrev r : Run
@@ -41,9 +60,25 @@ module _ (es : List (List ℕ)) where
 
   -- opened or not
   pub waiting-in-range : (t : ℕ)
-      → waitingInRange (r .transaction t .cohort) (coordinatorPhase (r .transaction t .coordinator)) (waitingSet (r .transaction t .coordinator)) ≡ true
+      → waitingInRange (r .transaction t .cohort) (coordinatorPhase (r .transaction t .coordinator .phase)) (waitingSet (r .transaction t .coordinator .phase)) ≡ true
   unfolding view
-  waiting-in-range t = rw (inv t .phase) (standing-waits (r .transaction t .cohort) (tracked t es .standing) (inv t .mid .sound .sets) (inv t .whole))
+  waiting-in-range t =
+      rw (phase-of (tracked t es .standing) (r .transaction t .coordinator) (inv t .phase))
+      (standing-waits (r .transaction t .cohort) (tracked t es .standing) (inv t .mid .sound .byte) (inv t .mid .sound .sets) (inv t .whole))
+
+  -- the set taken out is a part of the members, outside the waiting set, and empty in Open
+  pub taken-out-in-range : (t : ℕ)
+      → takenOutInRange (r .transaction t .cohort) (coordinatorPhase (r .transaction t .coordinator .phase)) (waitingSet (r .transaction t .coordinator .phase)) (r .transaction t .coordinator .takenOut) ≡ true
+  taken-out-in-range t = taken-in-range t es
+
+  -- a participant never sends both a Yes and a read-only vote
+  pub one-vote : (t n : ℕ) → T (r .transaction t .sent (suc n) 1) → T (r .transaction t .sent (suc n) 7) → ⊥
+  unfolding view messageKind
+  one-vote t n y k = go (member (suc n) (r .transaction t .cohort .members)) (here (inv t .mid) n)
+    where
+      go : (b : Bool) → Here b t (stageOf (tracked t es .standing) (suc n)) n (view t (history fresh es) r) → ⊥
+      go true x = no-both (x .status) (r .transaction t .marked (suc n)) (r .transaction t .sent (suc n) 1) (r .transaction t .sent (suc n) 7) (x .fine tt .looked) y k
+      go false x = subst T (x .stands .sent voteYes) y
 
   -- ---- logs
 

@@ -8,3 +8,4 @@ pub mod Moments
 pub mod Plans
 pub mod EventMoments
 pub mod Recorded
+pub mod Looked

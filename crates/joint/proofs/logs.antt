@@ -3,3 +3,4 @@ pub mod Counts
 pub mod Orders
 pub mod Kinds
 pub mod Facts
+pub mod Taken

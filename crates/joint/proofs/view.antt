@@ -8,3 +8,4 @@ pub mod Once
 pub mod Restarts
 pub mod Rows
 pub mod Events
+pub mod Cohorts

@@ -6,7 +6,9 @@ use lib.ListN.{take, drop, getD, replicate}
 use Rattle.codec.specs.Sets.{member}
 use Rattle.codec.specs.Answers.{recordIn, noRecord}
 use Rattle.site.specs.Presumption.{Outcome, commit, abort}
-use Rattle.site.specs.Answers.{coordinatorIn, participantIn, cohortIn, hasKind}
+use Rattle.site.specs.Coordinator.{Coordinator}
+use Rattle.site.specs.Answers.{coordinatorIn, participantIn, hasKind}
+use Rattle.site.specs.declared.phases.CoordinatorPhase.{CoordinatorPhase}
 use Rattle.site.specs.declared.phases.CoordinatorPhase.the-variants as coordinator
 use Rattle.site.specs.declared.phases.ParticipantPhase.the-variants as participant
 use Rattle.joint.specs.State as plain
@@ -48,13 +50,18 @@ enteredIn committed aborted s abort = hasKind aborted s
 abbrev pub noHeld : Held
 noHeld = record { phase = participant.Unknown }
 
--- `sent` has the participants whose message was sent, by the message's kind
+-- the coordinator's part, from its phase and the set taken out
+abbrev pub partIn : CoordinatorPhase → ℕ → Coordinator
+partIn phase out = record { phase = coordinatorIn phase; takenOut = out }
+
+-- `marked` has bit p for participant p; `sent` has the participants whose message was sent, by the message's kind
 unfoldable pub transactionIn : Transaction → plain.Transaction
 transactionIn x =
     record {
-      cohort = cohortIn (x .coordinator);
-      coordinator = coordinatorIn (x .coordinator .phase);
+      cohort = record { members = x .part .members; presumeCommit = x .part .«presume_commit» };
+      coordinator = partIn (x .part .phase) (x .«taken_out»);
       participant = λ p. participantIn (getD (x .participants) p noHeld .phase);
+      marked = hasKind (x .marked);
       sent = λ p k. member p (getD (x .sent) k 0);
       entered = enteredIn (x .committed) (x .aborted);
     }
@@ -62,9 +69,11 @@ transactionIn x =
 abbrev pub noTransaction : Transaction
 noTransaction =
     record {
-      coordinator = record { phase = coordinator.Unknown; members = 0; «presume_commit» = 0 };
+      part = record { phase = coordinator.Unknown; members = 0; «presume_commit» = 0 };
+      «taken_out» = 0;
       participants = replicate 9 noHeld;
-      sent = replicate 7 0;
+      sent = replicate 8 0;
+      marked = 0;
       committed = 0;
       aborted = 0;
     }

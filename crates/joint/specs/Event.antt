@@ -12,7 +12,7 @@ use Rattle.site.specs.Step.{Message, prepare, messages}
 unfoldable pub eventLength : ℕ
 eventLength = 6
 
--- in the order of the codes, 0 to 7. t is a transaction, s a site, p a participant
+-- in the order of the codes, 0 to 8. t is a transaction, s a site, p a participant
 pub data Event : Type 0 where
   opening : (t members presumeCommit : ℕ) → Event
   beginning : (t : ℕ) → Event
@@ -22,6 +22,7 @@ pub data Event : Type 0 where
   discarding : (t s : ℕ) → Event
   crash : (s : ℕ) → Event
   restart : (s : ℕ) → Event
+  marking : (t p : ℕ) → Event
 
 unfoldable pub eventOf : ℕ → ℕ → ℕ → ℕ → Event
 eventOf code x y z =
@@ -34,9 +35,10 @@ eventOf code x y z =
     ∷ discarding x y
     ∷ crash y
     ∷ restart y
+    ∷ marking x y
     ∷ [])
     code
-    -- (a code above 7 is refused)
+    -- (a code above 8 is refused)
     (crash y)
 
 -- by code: the largest x, the least and the largest y, the largest z. Unused x, y, z are 0
@@ -47,7 +49,7 @@ ranges =
     -- 1 begin: transaction
     ∷ (7 ∷ 0 ∷ 0 ∷ 0 ∷ [])
     -- 2 deliver: transaction, participant, kind
-    ∷ (7 ∷ 1 ∷ 8 ∷ 6 ∷ [])
+    ∷ (7 ∷ 1 ∷ 8 ∷ 7 ∷ [])
     -- 3 timer: transaction, site
     ∷ (7 ∷ 0 ∷ 8 ∷ 0 ∷ [])
     -- 4 force: site in y
@@ -58,6 +60,8 @@ ranges =
     ∷ (0 ∷ 0 ∷ 8 ∷ 0 ∷ [])
     -- 7 restart: site in y
     ∷ (0 ∷ 0 ∷ 8 ∷ 0 ∷ [])
+    -- 8 mark (02: a box that only looked): transaction, participant
+    ∷ (7 ∷ 1 ∷ 8 ∷ 0 ∷ [])
     ∷ []
 
 -- at open z is a part of y
@@ -65,7 +69,7 @@ unfoldable pub bytesInRange : ℕ → ℕ → ℕ → ℕ → Bool
 bytesInRange code x y z =
     let row = getD ranges code [] in
     every
-    (leb code 7
+    (leb code 8
     ∷ leb x (getD row 0 0)
     ∷ leb (getD row 1 0) y
     ∷ leb y (getD row 2 0)
@@ -96,7 +100,7 @@ pub record Parsed : Type 0 where
   pub event : Event
   pub cut : Option (ℕ × ℕ)
 
--- `none`: refused by 1, not six bytes, code above 7, a field out of range or misused
+-- `none`: refused by 1, not six bytes, code above 8, a field out of range or misused
 unfoldable pub parse : List ℕ → Option Parsed
 parse bytes =
     let code = getD bytes 0 0 in

@@ -9,23 +9,23 @@ use lib.Dec.{eqb, leb}
 use Rattle.codec.specs.Lists.{select}
 use Rattle.codec.specs.Sets.{member}
 use Rattle.codec.specs.Image.{stored}
-use Rattle.codec.specs.Records.{LogRecord}
+use Rattle.codec.specs.Records.{LogRecord, ofTransaction}
 use Rattle.codec.specs.declared.record.Record.{Record}
 use Rattle.site.specs.Step.{prepare, messages, messageKind, receiver, Effect, append, force, enter, send}
 use Rattle.site.specs.Participant.{ParticipantPhase}
 use Rattle.site.specs.Numbers.{inputOf, receives}
-use Rattle.site.specs.Answers.{effectsIn, coordinatorIn, participantIn, cohortIn, hasKind}
+use Rattle.site.specs.Answers.{effectsIn, participantIn, hasKind}
 use Rattle.site.specs.declared.effects.Effects.{Effects}
 use Rattle.joint.specs.State as plain
-use Rattle.joint.specs.State.{appended, forced, stopped, withEntered, withSent, withCoordinator, withParticipant, atSite, atTransaction, update, holds, opened, down, performAll}
+use Rattle.joint.specs.State.{appended, forced, stopped, withEntered, withSent, withCoordinator, withParticipant, withMarked, atSite, atTransaction, update, holds, opened, down, performAll}
 use Rattle.joint.specs.Event as event
-use Rattle.joint.specs.Event.{opening, beginning, delivery, timeout, forcing, discarding, cutAt, Parsed}
+use Rattle.joint.specs.Event.{opening, beginning, delivery, timeout, forcing, discarding, marking, cutAt, Parsed}
 use Rattle.joint.specs.Plan.{Plan, step, orNothing, acting, openedAs, trimmed, forgottenUnless, restartAll, transactions}
 use Rattle.joint.specs.Run as run
 use Rattle.joint.specs.Run.{isSend, count, eventParsed, answerOf}
 use Rattle.joint.specs.Drill.{chunks}
 use Rattle.joint.specs.laws.Events.{bytesOf}
-use Rattle.joint.specs.Answers.{siteFrom, transactionsIn, answerIn, runIn, Seen, seen}
+use Rattle.joint.specs.Answers.{siteFrom, partIn, transactionsIn, answerIn, runIn, Seen, seen}
 use Rattle.joint.specs.Program.{hasRoom}
 use Rattle.joint.specs.declared.sites.Site.{Site}
 use Rattle.joint.specs.declared.rows.Then.{Then}
@@ -77,6 +77,10 @@ unfoldable pub oldestAt : (LogRecord → Bool) → List LogRecord → ℕ
 oldestAt f [] = 0
 oldestAt f (x ∷ xs) = cond (f x) 0 (suc (oldestAt f xs))
 
+-- a record of transaction t and of kind k, or of any kind where k is 0
+unfoldable pub sought : ℕ → ℕ → LogRecord → Bool
+sought t k x = ofTransaction t x && (eqb k 0 || eqb (x .kind) k)
+
 -- by its counts: how many of a site's 24 records are stable, and how many are of the log
 abbrev pub stableOf : Site → ℕ
 stableOf x = min (x .stable) 24
@@ -102,44 +106,49 @@ Here x w s = (rs : List Record) × ((length rs ≡ 24) × (siteFrom x rs ≡ w .
 
 unfoldable pub thenIn : ℕ → ℕ → Then → plain.Run → plain.Run
 thenIn s t follows.Same = λ r. r
-thenIn s t (follows.Coordinator c) = atTransaction t (withCoordinator 0 (coordinatorIn c))
+thenIn s t (follows.Coordinator c out) = atTransaction t (withCoordinator 0 (partIn c out))
 thenIn s t (follows.Participant c) = atTransaction t (withParticipant s (participantIn c))
-thenIn s t (follows.Opened c) = atTransaction t (openedAs (cohortIn c))
+thenIn s t (follows.Opened m c) = atTransaction t (openedAs (record { members = m; presumeCommit = c }))
 thenIn s t (follows.Discarded last) = λ r. forgottenUnless (not last) t s (atSite s (trimmed t) r)
 thenIn s t (follows.Down keep) = down s keep
+thenIn s t follows.Marked = atTransaction t (withMarked s)
 
 -- the same on the site, and on the transaction
 unfoldable pub thenSite : ℕ → Then → plain.Site → plain.Site
 thenSite t follows.Same a = a
-thenSite t (follows.Coordinator c) a = a
+thenSite t (follows.Coordinator c out) a = a
 thenSite t (follows.Participant c) a = a
-thenSite t (follows.Opened c) a = a
+thenSite t (follows.Opened m c) a = a
 thenSite t (follows.Discarded last) a = trimmed t a
 thenSite t (follows.Down keep) a = stopped keep a
+thenSite t follows.Marked a = a
 
 unfoldable pub thenTransaction : ℕ → Then → plain.Transaction → plain.Transaction
 thenTransaction s follows.Same x = x
-thenTransaction s (follows.Coordinator c) x = withCoordinator 0 (coordinatorIn c) x
+thenTransaction s (follows.Coordinator c out) x = withCoordinator 0 (partIn c out) x
 thenTransaction s (follows.Participant c) x = withParticipant s (participantIn c) x
-thenTransaction s (follows.Opened c) x = openedAs (cohortIn c) x
+thenTransaction s (follows.Opened m c) x = openedAs (record { members = m; presumeCommit = c }) x
 thenTransaction s (follows.Discarded last) x = cond last (withParticipant s ParticipantPhase.unknown x) x
 thenTransaction s (follows.Down keep) x = x
+thenTransaction s follows.Marked x = withMarked s x
 
 unfoldable pub goesDown : Then → Bool
 goesDown follows.Same = false
-goesDown (follows.Coordinator c) = false
+goesDown (follows.Coordinator c out) = false
 goesDown (follows.Participant c) = false
-goesDown (follows.Opened c) = false
+goesDown (follows.Opened m c) = false
 goesDown (follows.Discarded last) = false
 goesDown (follows.Down keep) = true
+goesDown follows.Marked = false
 
 unfoldable pub drops : Then → Bool
 drops follows.Same = false
-drops (follows.Coordinator c) = false
+drops (follows.Coordinator c out) = false
 drops (follows.Participant c) = false
-drops (follows.Opened c) = false
+drops (follows.Opened m c) = false
 drops (follows.Discarded last) = true
 drops (follows.Down keep) = false
+drops follows.Marked = false
 
 -- a row appends a record or drops one
 unfoldable pub writesLog : Row → Bool
@@ -179,7 +188,7 @@ inputEvent kind t p = cond (eqb kind 16) (beginning t) (cond (eqb kind 17) (time
 -- what an event asks of site s, by the number of its kind, with participant p
 pub data Asks : event.Event → ℕ → ℕ → ℕ → ℕ → Type 0 where
   begins : (t : ℕ) → Asks (beginning t) t 0 16 0
-  delivers : (t kind p : ℕ) → kind ≤ 6 → 1 ≤ p → p ≤ 8 → Asks (delivery t p (getD messages kind prepare)) t (receiver (getD messages kind prepare) p) kind p
+  delivers : (t kind p : ℕ) → kind ≤ 7 → 1 ≤ p → p ≤ 8 → Asks (delivery t p (getD messages kind prepare)) t (receiver (getD messages kind prepare) p) kind p
   times : (t s : ℕ) → s ≤ 8 → Asks (timeout t s) t s 17 s
 
 -- the plan of a step; begin and timer are refused where there is no row, and a message has no effect then
@@ -194,6 +203,7 @@ stepSite (steps.Input e) = e .site
 stepSite (steps.Force s) = s
 stepSite (steps.Discard e) = e .site
 stepSite (steps.Crash e) = e .site
+stepSite (steps.Mark e) = e .participant
 
 abbrev pub stepTransaction : Step → ℕ
 stepTransaction (steps.Open e) = e .transaction
@@ -201,6 +211,7 @@ stepTransaction (steps.Input e) = e .transaction
 stepTransaction (steps.Force s) = 0
 stepTransaction (steps.Discard e) = e .transaction
 stepTransaction (steps.Crash e) = 0
+stepTransaction (steps.Mark e) = e .transaction
 
 unfoldable pub stepIn : Step → Parsed
 stepIn (steps.Open e) = record { event = opening (e .transaction) (e .members) (e .«presume_commit»); cut = none }
@@ -208,6 +219,7 @@ stepIn (steps.Input e) = record { event = inputEvent (e .kind) (e .transaction) 
 stepIn (steps.Force s) = record { event = forcing s; cut = none }
 stepIn (steps.Discard e) = record { event = discarding (e .transaction) (e .site); cut = none }
 stepIn (steps.Crash e) = record { event = event.crash (e .site); cut = some (0, e .keep) }
+stepIn (steps.Mark e) = record { event = marking (e .transaction) (e .participant); cut = none }
 
 unfoldable pub eventIn : Event → Option Parsed
 eventIn events.Malformed = none
@@ -221,6 +233,7 @@ StepInRange (steps.Input e) =
 StepInRange (steps.Force s) = s ≤ 8
 StepInRange (steps.Discard e) = (e .transaction ≤ 7) × (e .site ≤ 8)
 StepInRange (steps.Crash e) = e .site ≤ 8
+StepInRange (steps.Mark e) = (e .transaction ≤ 7) × (e .participant ≤ 8)
 
 abbrev pub InRange : Event → Type 0
 InRange events.Malformed = Unit {0}

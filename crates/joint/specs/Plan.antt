@@ -11,8 +11,8 @@ use Rattle.site.specs.Step.{receiver, Input, begin, timer, received, Effect, fo
 use Rattle.site.specs.Cohort.{Cohort, presumptionOf}
 use Rattle.site.specs.Coordinator.{CoordinatorPhase, coordinatorStep, coordinatorRestart}
 use Rattle.site.specs.Participant.{ParticipantPhase, participantStep, participantRestart}
-use Rattle.joint.specs.State.{Run, Site, Transaction, Act, atSite, atTransaction, opened, cohortAt, coordinatorAt, holds, started, withCoordinator, withParticipant}
-use Rattle.joint.specs.Event.{Event, opening, beginning, delivery, timeout, forcing, discarding, crash, restart}
+use Rattle.joint.specs.State.{Run, Site, Transaction, Act, atSite, atTransaction, opened, cohortAt, coordinatorAt, holds, recordedCohort, started, withCoordinator, withParticipant, withMarked}
+use Rattle.joint.specs.Event.{Event, opening, beginning, delivery, timeout, forcing, discarding, crash, restart, marking}
 
 pub record Plan : Type 0 where
   pub site : ℕ
@@ -44,7 +44,7 @@ step r t zero i =
 step r t (suc n) i =
     let x = r .transaction t in
     planned (suc n) t (withParticipant (suc n))
-    (participantStep (presumptionOf (x .cohort) (suc n)) (suc n) i (x .participant (suc n)))
+    (participantStep (presumptionOf (x .cohort) (suc n)) (suc n) (x .marked (suc n)) i (x .participant (suc n)))
 
 -- a message that finds no row has no effect
 unfoldable pub orNothing : ℕ → Option Plan → Plan
@@ -57,8 +57,9 @@ unfoldable pub openedAs : Cohort → Transaction → Transaction
 openedAs g x =
     record {
       cohort = g;
-      coordinator = CoordinatorPhase.initial;
+      coordinator = record { phase = CoordinatorPhase.initial; takenOut = 0 };
       participant = λ p. cond (member p (g .members)) ParticipantPhase.working (x .participant p);
+      marked = x .marked;
       sent = x .sent;
       entered = x .entered;
     }
@@ -74,9 +75,13 @@ newest f [] = false
 newest f (x ∷ []) = f x
 newest f (x ∷ y ∷ ys) = newest f (y ∷ ys)
 
--- the newest stable record of t at site s closes it
+-- a transaction, by its records at a site: the newest closes it
+unfoldable pub closed : List LogRecord → Bool
+closed records = newest closes records
+
+-- the stable records of t at site s close it
 unfoldable pub mayDiscard : Run → ℕ → ℕ → Bool
-mayDiscard r t s = newest closes (select (ofTransaction t) (r .site s .stable))
+mayDiscard r t s = closed (select (ofTransaction t) (r .site s .stable))
 
 unfoldable pub dropOldest : (LogRecord → Bool) → List LogRecord → List LogRecord
 dropOldest f [] = []
@@ -105,11 +110,11 @@ discard t s r =
 unfoldable pub transactions : List ℕ
 transactions = 0 ∷ 1 ∷ 2 ∷ 3 ∷ 4 ∷ 5 ∷ 6 ∷ 7 ∷ []
 
--- one transaction, from its kinds of record in the stable log
+-- one transaction, from its records in the stable log: at the coordinator by their masks
 unfoldable pub restarting : Run → ℕ → ℕ → Plan
 restarting r zero t =
-    let x = r .transaction t in
-    rowPlan 0 t (withCoordinator 0) (coordinatorRestart (cohortAt x 0) (λ k. holds t k (r .site 0 .stable)))
+    let log = r .site 0 .stable in
+    rowPlan 0 t (withCoordinator 0) (coordinatorRestart (λ k. holds t k log) (λ k. recordedCohort t k log))
 restarting r (suc n) t =
     let x = r .transaction t in
     rowPlan (suc n) t (withParticipant (suc n))
@@ -122,6 +127,14 @@ unfoldable pub restartAll : Run → ℕ → List ℕ → Plan
 restartAll r s [] = settling s (atSite s started)
 restartAll r s (t ∷ ts) = joined (restarting r s t) (restartAll r s ts)
 
+-- ---- mark: a participant that only looked, while it is Working
+
+unfoldable pub isWorking : ParticipantPhase → Bool
+isWorking ParticipantPhase.working = true
+isWorking ParticipantPhase.prepared = false
+isWorking (ParticipantPhase.decided o) = false
+isWorking ParticipantPhase.unknown = false
+
 -- ---- the plan of an event; `none`: refused by 8
 
 unfoldable pub plan : Run → Event → Option Plan
@@ -133,3 +146,4 @@ plan r (forcing s) = some (record { site = s; acts = acting 0 (force ∷ []); se
 plan r (discarding t s) = onlyIf (mayDiscard r t s) (settling s (discard t s))
 plan r (crash s) = some (settling s (λ x. x))
 plan r (restart s) = some (restartAll r s (select (opened r) transactions))
+plan r (marking t p) = onlyIf (isWorking (r .transaction t .participant p)) (settling p (atTransaction t (withMarked p)))

@@ -6,7 +6,7 @@ use Rattle.codec.specs.Lists.{any}
 use Rattle.codec.specs.Sets.{listed}
 use Rattle.site.specs.Step.{messageKind, receiver}
 use Rattle.joint.specs.State.{Run, opened, takesPart}
-use Rattle.joint.specs.Event.{Event, opening, beginning, delivery, timeout, forcing, discarding, crash, restart}
+use Rattle.joint.specs.Event.{Event, opening, beginning, delivery, timeout, forcing, discarding, crash, restart, marking}
 
 -- 3: never opened
 unfoldable pub unopened : Run → ℕ → Bool
@@ -31,3 +31,4 @@ refusals r (forcing s) = (5, isDown r s) ∷ []
 refusals r (discarding t s) = (3, unopened r t) ∷ (4, stranger r t s) ∷ (5, isDown r s) ∷ []
 refusals r (crash s) = (5, isDown r s) ∷ []
 refusals r (restart s) = (6, r .site s .up) ∷ []
+refusals r (marking t p) = (3, unopened r t) ∷ (4, stranger r t p) ∷ (5, isDown r p) ∷ []

@@ -40,7 +40,7 @@ unfoldable pub carry : Run → Plan → Option (ℕ × ℕ) → Result
 carry r p none = record { answer = 0; site = p .site; acts = p .acts; run = p .settle (performAll (p .site) (p .acts) r) }
 carry r p (some c) = cutShort (canCut r p (c .0) (c .1)) r p (c .0) (c .1)
 
--- 8: coordinator not Open at begin; no timer rule for the phase; discard not allowed
+-- 8: coordinator not Open at begin; no timer rule for the phase; discard not allowed; mark of a participant that is not Working
 unfoldable pub carryPlan : Run → Option Plan → Option (ℕ × ℕ) → Result
 carryPlan r none c = refuse r 8
 carryPlan r (some p) c = carry r p c

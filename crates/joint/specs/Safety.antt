@@ -2,17 +2,18 @@
 -- Nothing here reads the run's own entries or messages: the history is made from the list of events, effect by effect.
 use Prim.Native.Nat.{ℕ}
 use mathlib.Core.Path.{_≡_}
-use mathlib.Core.Bool.{Bool, false, cond, not, _&&_}
+use mathlib.Core.Bool.{Bool, true, false, cond, not, _&&_, _||_}
 use mathlib.Core.List.{List, [], _∷_, _++_, map}
 use lib.ListN.{take}
 use lib.Dec.{T, eqb}
 use Rattle.codec.specs.Lists.{any, every, same}
 use Rattle.codec.specs.Sets.{member}
+use Rattle.codec.specs.Records.{LogRecord, membersIn}
 use Rattle.site.specs.Presumption.{Outcome, commit, abort, sameOutcome}
-use Rattle.site.specs.Step.{voteYes, tell, messageKind, coordinatorOf, Effect, append, force, enter, send}
+use Rattle.site.specs.Step.{voteYes, readOnly, tell, messageKind, coordinatorOf, Effect, append, force, enter, send}
 use Rattle.site.specs.Coordinator.{CoordinatorPhase}
 use Rattle.joint.specs.State.{Run, Act, fresh, coordinatorAt, holds, perform}
-use Rattle.joint.specs.Run.{event}
+use Rattle.joint.specs.Run.{event, after}
 
 -- ---- history
 
@@ -110,6 +111,41 @@ commitStable t r = holds t 2 (r .site 0 .stable)
 unfoldable pub outcome : List (List ℕ) → ℕ → Outcome
 outcome es t = cond (any (commitStable t) (along fresh es)) commit abort
 
+-- ---- those that only looked
+
+-- the events of a list, each with the run that it gets
+unfoldable pub steps : Run → List (List ℕ) → List (Run × List ℕ)
+steps r [] = []
+steps r (e ∷ es) = (r, e) ∷ steps (event r e .run) es
+
+unfoldable pub accepts : Run → List ℕ → Bool
+accepts r e = eqb (event r e .answer) 0
+
+unfoldable pub collects : CoordinatorPhase → Bool
+collects CoordinatorPhase.initial = false
+collects (CoordinatorPhase.collecting w) = true
+collects (CoordinatorPhase.awaitingAcks o w) = false
+collects CoordinatorPhase.unknown = false
+
+-- p is taken out of t: its read-only vote is delivered to the site that coordinates it, in Collecting
+unfoldable pub isTakingOut : ℕ → ℕ → Run × List ℕ → Bool
+isTakingOut t p x =
+    every
+    (same (take 4 (x .1)) (2 ∷ t ∷ p ∷ messageKind readOnly ∷ [])
+    ∷ accepts (x .0) (x .1)
+    ∷ collects (coordinatorAt (x .0 .transaction t) (coordinatorOf p) .phase)
+    ∷ [])
+
+unfoldable pub takenOut : List (List ℕ) → ℕ → ℕ → Bool
+takenOut es t p = any (isTakingOut t p) (steps fresh es)
+
+-- p is marked on t as one that only looked: an accepted event 8
+unfoldable pub isMarking : ℕ → ℕ → Run × List ℕ → Bool
+isMarking t p x = every (same (take 3 (x .1)) (8 ∷ t ∷ p ∷ []) ∷ accepts (x .0) (x .1) ∷ [])
+
+unfoldable pub marked : List (List ℕ) → ℕ → ℕ → Bool
+marked es t p = any (isMarking t p) (steps fresh es)
+
 -- ---- the claim
 
 -- m is a moment of the list, and `earlier` are the moments before it
@@ -119,15 +155,30 @@ Happens es earlier m = (later : List Moment) × (history fresh es ≡ earlier ++
 pub record Safe (es : List (List ℕ)) : Type 0 where
   -- no transaction is both committed and aborted anywhere
   pub agreement : (t : ℕ) → T (any (isEntry t commit) (history fresh es)) → T (any (isEntry t abort) (history fresh es)) → ⊥
-  -- commit is entered nowhere before every member had voted Yes from a stable record
+  -- commit is entered nowhere before every member, but those whose read-only vote was delivered in Collecting, had voted Yes from a stable record
+  -- (said of each list, so of the one that ends with the entry's event: the vote was delivered by then)
   pub votes : (earlier : List Moment) (m : Moment) → Happens es earlier m
       → (t : ℕ) → T (isEntry t commit m)
-      → (p : ℕ) → T (member p (m .before .transaction t .cohort .members)) → T (any (isVote t p) earlier)
+      → (p : ℕ) → T (member p (m .before .transaction t .cohort .members)) → T (any (isVote t p) earlier || takenOut es t p)
   -- each reply from a coordinator in Unknown to a participant in doubt is the outcome; both are taken just before the event
   pub replies : (earlier : List Moment) (m : Moment) → Happens es earlier m
       → (t p : ℕ) (o : Outcome) → T (isReply t p o m)
-      → coordinatorAt (m .start .transaction t) (coordinatorOf p) ≡ CoordinatorPhase.unknown → T (inDoubt (m .start) t p) → o ≡ outcome es t
+      → coordinatorAt (m .start .transaction t) (coordinatorOf p) .phase ≡ CoordinatorPhase.unknown → T (inDoubt (m .start) t p) → o ≡ outcome es t
 
 -- every list of events, of any bytes
 abbrev pub Demand3 : Type 0
 Demand3 = (events : List (List ℕ)) → Safe events
+
+-- ---- what follows of those that were marked
+
+pub record Marks (es : List (List ℕ)) : Type 0 where
+  -- the second sentence by marks: every member that no accepted event 8 had marked had voted Yes from a stable record
+  pub votes : (earlier : List Moment) (m : Moment) → Happens es earlier m
+      → (t : ℕ) → T (isEntry t commit m)
+      → (p : ℕ) → T (member p (m .before .transaction t .cohort .members)) → T (any (isVote t p) earlier || marked es t p)
+  -- the members of a stable record 2 are exactly those never marked
+  pub remain : (before : List LogRecord) (x : LogRecord) (later : List LogRecord) → after fresh es .site 0 .stable ≡ before ++ x ∷ later → x .kind ≡ 2
+      → (p : ℕ) → member p (membersIn x) ≡ (member p (after fresh es .transaction (x .transaction) .cohort .members) && not (marked es (x .transaction) p))
+
+abbrev pub EveryMark : Type 0
+EveryMark = (events : List (List ℕ)) → Marks events

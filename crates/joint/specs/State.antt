@@ -7,11 +7,11 @@ use lib.ListN.{length, take}
 use lib.Dec.{eqb, leb}
 use Rattle.codec.specs.Lists.{any}
 use Rattle.codec.specs.Sets.{member, empty}
-use Rattle.codec.specs.Records.{LogRecord, ofTransaction}
+use Rattle.codec.specs.Records.{LogRecord, ofTransaction, membersIn, presumeCommitIn}
 use Rattle.site.specs.Presumption.{Outcome, sameOutcome}
 use Rattle.site.specs.Cohort.{Cohort}
 use Rattle.site.specs.Step.{messageKind, Effect, append, force, enter, send}
-use Rattle.site.specs.Coordinator.{CoordinatorPhase}
+use Rattle.site.specs.Coordinator.{CoordinatorPhase, Coordinator}
 use Rattle.site.specs.Participant.{ParticipantPhase}
 
 -- a site's log: its stable part first, then the unforced records
@@ -21,11 +21,13 @@ pub record Site : Type 0 where
   pub unforced : List LogRecord
 
 -- a transaction (01: handover); its members are 0 until it is opened
--- `sent p k`: a message of kind k, to participant p or from it, was sent. `entered s o`: site s entered outcome o
+-- `marked p`: participant p is marked as one that only looked. `sent p k`: a message of kind k, to participant p or from it, was sent.
+-- `entered s o`: site s entered outcome o
 pub record Transaction : Type 0 where
   pub cohort : Cohort
-  pub coordinator : CoordinatorPhase
+  pub coordinator : Coordinator
   pub participant : ℕ → ParticipantPhase
+  pub marked : ℕ → Bool
   pub sent : ℕ → ℕ → Bool
   pub entered : ℕ → Outcome → Bool
 
@@ -33,6 +35,10 @@ pub record Transaction : Type 0 where
 pub record Run : Type 0 where
   pub site : ℕ → Site
   pub transaction : ℕ → Transaction
+
+-- a coordinator part in Unknown: nobody is taken out
+abbrev pub unknownPart : Coordinator
+unknownPart = record { phase = CoordinatorPhase.unknown; takenOut = 0 }
 
 -- A fresh run has every site up, each phase Unknown, no record and no message.
 unfoldable pub fresh : Run
@@ -42,8 +48,9 @@ fresh =
       transaction =
           λ t. record {
             cohort = record { members = 0; presumeCommit = 0 };
-            coordinator = CoordinatorPhase.unknown;
+            coordinator = unknownPart;
             participant = λ p. ParticipantPhase.unknown;
+            marked = λ p. false;
             sent = λ p k. false;
             entered = λ s o. false;
           };
@@ -73,14 +80,20 @@ abbrev pub cohortAt : Transaction → ℕ → Cohort
 cohortAt x zero = x .cohort
 cohortAt x (suc n) = record { members = 0; presumeCommit = 0 }
 
--- the phase of the coordinator part of site s
-abbrev pub coordinatorAt : Transaction → ℕ → CoordinatorPhase
+-- the coordinator part of site s
+abbrev pub coordinatorAt : Transaction → ℕ → Coordinator
 coordinatorAt x zero = x .coordinator
-coordinatorAt x (suc n) = CoordinatorPhase.unknown
+coordinatorAt x (suc n) = unknownPart
 
 -- a log has a record of kind k of transaction t
 unfoldable pub holds : ℕ → ℕ → List LogRecord → Bool
 holds t k log = any (λ x. ofTransaction t x && eqb (x .kind) k) log
+
+-- the cohort in the oldest record of kind k of transaction t
+unfoldable pub recordedCohort : ℕ → ℕ → List LogRecord → Cohort
+recordedCohort t k [] = record { members = 0; presumeCommit = 0 }
+recordedCohort t k (x ∷ xs) =
+    cond (ofTransaction t x && eqb (x .kind) k) (record { members = membersIn x; presumeCommit = presumeCommitIn x }) (recordedCohort t k xs)
 
 -- ---- changes of a site
 
@@ -109,9 +122,16 @@ started s = record { up = true; stable = s .stable; unforced = s .unforced }
 -- ---- changes of a transaction
 
 -- the coordinator part of site s
-unfoldable pub withCoordinator : ℕ → CoordinatorPhase → Transaction → Transaction
+unfoldable pub withCoordinator : ℕ → Coordinator → Transaction → Transaction
 withCoordinator zero c x =
-    record { cohort = x .cohort; coordinator = c; participant = x .participant; sent = x .sent; entered = x .entered }
+    record {
+      cohort = x .cohort;
+      coordinator = c;
+      participant = x .participant;
+      marked = x .marked;
+      sent = x .sent;
+      entered = x .entered;
+    }
 withCoordinator (suc n) c x = x
 
 unfoldable pub withParticipant : ℕ → ParticipantPhase → Transaction → Transaction
@@ -120,6 +140,19 @@ withParticipant p c x =
       cohort = x .cohort;
       coordinator = x .coordinator;
       participant = update p (λ _. c) (x .participant);
+      marked = x .marked;
+      sent = x .sent;
+      entered = x .entered;
+    }
+
+-- a mark stays; it means something while the participant is Working
+unfoldable pub withMarked : ℕ → Transaction → Transaction
+withMarked p x =
+    record {
+      cohort = x .cohort;
+      coordinator = x .coordinator;
+      participant = x .participant;
+      marked = λ q. eqb q p || x .marked q;
       sent = x .sent;
       entered = x .entered;
     }
@@ -131,6 +164,7 @@ withSent p k x =
       cohort = x .cohort;
       coordinator = x .coordinator;
       participant = x .participant;
+      marked = x .marked;
       sent = λ q j. (eqb q p && eqb j k) || x .sent q j;
       entered = x .entered;
     }
@@ -142,13 +176,14 @@ withEntered s o x =
       cohort = x .cohort;
       coordinator = x .coordinator;
       participant = x .participant;
+      marked = x .marked;
       sent = x .sent;
       entered = λ z d. (eqb z s && sameOutcome d o) || x .entered z d;
     }
 
--- the phases at site s are Unknown
+-- the phases at site s are Unknown, and the set taken out is gone with them
 unfoldable pub forgotten : ℕ → Transaction → Transaction
-forgotten s x = withCoordinator s CoordinatorPhase.unknown (withParticipant s ParticipantPhase.unknown x)
+forgotten s x = withCoordinator s unknownPart (withParticipant s ParticipantPhase.unknown x)
 
 -- ---- site s goes down: all phases there are Unknown
 

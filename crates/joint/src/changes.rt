@@ -2,6 +2,7 @@
 use crate::answers::Answer;
 use crate::events::Discarding;
 use crate::events::Input;
+use crate::events::Marking;
 use crate::events::Opening;
 use crate::records::Records;
 use crate::rows::Found;
@@ -12,10 +13,9 @@ use crate::sites::Site;
 use crate::transactions::Transaction;
 use codec::message::Parts;
 use codec::sets::member;
-use site::coordinator::Coordinator;
 use site::effects::Effects;
 use site::inputs::BEGIN;
-use site::phases::CoordinatorPhase;
+use site::phases::ParticipantPhase;
 ghost use mathlib.Core.Path.{_≡_};
 ghost use mathlib.Core.Bool.{true, not};
 ghost use mathlib.Core.List.{_∷_};
@@ -90,11 +90,10 @@ pub(crate) fn open(sites: [Site; Run::SITES], before: Transaction, e: Opening) -
     }
     Change::Happens(Row {
         effects: Effects::NONE,
-        then: Then::Opened(Coordinator {
-            phase: CoordinatorPhase::Open,
+        then: Then::Opened {
             members: e.members,
             presume_commit: e.presume_commit,
-        }),
+        },
     })
 }
 
@@ -181,4 +180,27 @@ pub(crate) fn crash(site: Site, keep: u8) -> Change
         effects: Effects::NONE,
         then: Then::Down(keep),
     })
+}
+
+// A participant that only looked is marked, while it is Working.
+pub(crate) fn mark(site: Site, before: Transaction, e: Marking) -> Change
+    ensures { λ r. ⌜ ((w : plain.Run) → Here site w (e .participant) → transactionIn before ≡ w .transaction (e .transaction) → changeIn w (e .participant) (e .transaction) r ≡ taken w (event.marking (e .transaction) (e .participant)) none) ⌝ }
+{
+    if !before.opened() {
+        return Change::Refused(Answer::NeverOpened);
+    }
+    if !before.takes_part(e.participant) {
+        return Change::Refused(Answer::NoMember);
+    }
+    if !site.up {
+        return Change::Refused(Answer::SiteDown);
+    }
+    let phase = before.participant_phase(e.participant);
+    match phase {
+        ParticipantPhase::Working => Change::Happens(Row {
+            effects: Effects::NONE,
+            then: Then::Marked,
+        }),
+        _ => Change::Refused(Answer::NotAllowed),
+    }
 }

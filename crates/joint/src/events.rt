@@ -35,6 +35,11 @@ pub struct Discarding {
     pub site: u8,
 }
 
+pub struct Marking {
+    pub transaction: u8,
+    pub participant: u8,
+}
+
 pub struct Crash {
     pub site: u8,
     pub keep: u8,
@@ -53,6 +58,7 @@ pub enum Step {
     Force(u8),
     Discard(Discarding),
     Crash(Crash),
+    Mark(Marking),
 }
 
 // A restart goes through all transactions.
@@ -102,7 +108,12 @@ fn in_range(code: u8, x: u8, y: u8, z: u8, cut: u8, keep: u8) -> bool
             & uncut(cut, keep),
         Run::CRASH => (x == 0) & (y <= Run::LAST_SITE) & (z == 0) & (cut == Run::NO_CUT),
         Run::RESTART => (x == 0) & (y <= Run::LAST_SITE) & (z == 0) & may_cut(cut, keep),
-        8..=255 => false,
+        Run::MARK => (x <= Parts::LAST_TRANSACTION)
+            & (1 <= y)
+            & (y <= Run::LAST_SITE)
+            & (z == 0)
+            & uncut(cut, keep),
+        9..=255 => false,
     }
 }
 
@@ -113,7 +124,8 @@ fn receiver(kind: u8, participant: u8) -> u8
     let inward = (kind == Parts::YES)
         | (kind == Parts::NO)
         | (kind == Parts::COMMIT_ACK)
-        | (kind == Parts::ABORT_ACK);
+        | (kind == Parts::ABORT_ACK)
+        | (kind == Parts::READ_ONLY);
     if inward {
         return 0;
     }
@@ -172,7 +184,11 @@ impl Event {
                 site: y,
             })),
             Run::CRASH => Event::Step(Step::Crash(Crash { site: y, keep })),
-            _ => Event::Restart(Restart { site: y, cut, keep }),
+            Run::RESTART => Event::Restart(Restart { site: y, cut, keep }),
+            _ => Event::Step(Step::Mark(Marking {
+                transaction: x,
+                participant: y,
+            })),
         }
     }
 }
@@ -188,6 +204,7 @@ impl Step {
             Step::Force(site) => site,
             Step::Discard(e) => e.site,
             Step::Crash(e) => e.site,
+            Step::Mark(e) => e.participant,
         }
     }
 
@@ -201,6 +218,7 @@ impl Step {
             Step::Force(_) => 0,
             Step::Discard(e) => e.transaction,
             Step::Crash(_) => 0,
+            Step::Mark(e) => e.transaction,
         }
     }
 }

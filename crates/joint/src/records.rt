@@ -7,9 +7,11 @@ use codec::log::Log;
 use codec::message::Parts;
 use codec::record::Record;
 use codec::writer::write_image;
+use site::coordinator::Coordinator;
 use site::effects::Effects;
+use site::phases::CoordinatorPhase;
 ghost use mathlib.Core.Path.{_≡_};
-ghost use mathlib.Core.Bool.{_||_};
+ghost use mathlib.Core.Bool.{cond, _||_};
 ghost use mathlib.Core.List.{map};
 ghost use Prim.Native.Nat.{ℕ, _≤_};
 ghost use lib.Dec.{eqb};
@@ -18,11 +20,11 @@ ghost use Rattle.codec.specs.Lists.{select, any};
 ghost use Rattle.codec.specs.Records.{ofTransaction};
 ghost use Rattle.codec.specs.Answers.{recordIn, written};
 ghost use Rattle.codec.specs.Image.{writeImage};
-ghost use Rattle.site.specs.Answers.{hasKind, effectsIn};
-ghost use Rattle.joint.specs.State.{holds};
+ghost use Rattle.site.specs.Answers.{cohortIn, hasKind, effectsIn};
+ghost use Rattle.joint.specs.State.{holds, recordedCohort};
 ghost use Rattle.joint.specs.Plan as plan;
 ghost use Rattle.joint.specs.Answers.{siteFrom, noRecords};
-ghost use Rattle.joint.specs.Inside.{oldestAt, putAt, putRow, rowSite, Fits};
+ghost use Rattle.joint.specs.Inside.{oldestAt, sought, putAt, putRow, rowSite, Fits};
 
 pub struct Records {
     pub of: [Record; Log::COORDINATOR_MOST],
@@ -167,16 +169,17 @@ impl Records {
         false
     }
 
-    // Of the first `count` records: where the oldest one of a transaction stands; `count`, where there is none.
-    fn oldest(self, transaction: u8, count: usize) -> usize
+    // Of the first `count` records: where the oldest one of a transaction and a kind stands, of any kind where `kind` is 0;
+    // `count`, where there is none.
+    fn oldest(self, transaction: u8, kind: u8, count: usize) -> usize
         requires { ⌜ count ≤ 24 ⌝ }
-        ensures { λ r. ⌜ r ≡ oldestAt (ofTransaction transaction) (take count (map recordIn (self .of))) ⌝ }
+        ensures { λ r. ⌜ r ≡ oldestAt (sought transaction kind) (take count (map recordIn (self .of))) ⌝ }
     {
         let records = self.of;
         let mut i = 0;
         while i < count {
             let x = records[i];
-            if x.transaction == transaction {
+            if (x.transaction == transaction) & ((kind == 0) | (x.kind == kind)) {
                 return i;
             }
             i += 1;
@@ -184,12 +187,36 @@ impl Records {
         count
     }
 
+    // The cohort in the oldest of the first `count` records of a transaction that is Commit, or that is Init.
+    pub(crate) fn cohort(self, transaction: u8, commit: bool, count: usize) -> Coordinator
+        requires { ⌜ count ≤ 24 ⌝ }
+        ensures { λ r. ⌜ cohortIn r ≡ recordedCohort transaction (cond commit 2 1) (take count (map recordIn (self .of))) ⌝ }
+    {
+        let kind = if commit { Record::COMMIT } else { Record::INIT };
+        let oldest = self.oldest(transaction, kind, count);
+        if count <= oldest {
+            return Coordinator {
+                phase: CoordinatorPhase::Unknown,
+                members: 0,
+                presume_commit: 0,
+                taken_out: 0,
+            };
+        }
+        let x = self.of[oldest];
+        Coordinator {
+            phase: CoordinatorPhase::Unknown,
+            members: x.first,
+            presume_commit: x.second,
+            taken_out: 0,
+        }
+    }
+
     // Without the oldest stable record of a transaction.
     pub(crate) fn trim(self, site: Site, transaction: u8) -> SiteLog
         ensures { λ r. ⌜ siteFrom (r .site) (r .records .of) ≡ plan.trimmed transaction (siteFrom site (self .of)) ⌝ }
     {
         let stable = site.stable_count();
-        let oldest = self.oldest(transaction, stable);
+        let oldest = self.oldest(transaction, 0, stable);
         if stable <= oldest {
             return SiteLog {
                 site,
@@ -220,7 +247,7 @@ impl Records {
         requires { ⌜ count ≤ 24 ⌝ }
         ensures { λ r. ⌜ r ≡ any (ofTransaction transaction) (take count (map recordIn (self .of))) ⌝ }
     {
-        self.oldest(transaction, count) < count
+        self.oldest(transaction, 0, count) < count
     }
 
     // The image of the first `count`, as the log of site `number`, from `at` on: 0, or 21, 23, 27, 28, 24, 25 and the buffer as it was.

@@ -6,6 +6,7 @@ use crate::changes::crash;
 use crate::changes::discard;
 use crate::changes::force;
 use crate::changes::input;
+use crate::changes::mark;
 use crate::changes::open;
 use crate::events::Event;
 use crate::events::Step;
@@ -99,6 +100,7 @@ fn go(run: Run, bytes: &[u8], answers: &mut [u8], events: usize) -> Ran
                         discard(site, records, transaction, e)
                     }
                     Step::Crash(e) => crash(site, e.keep),
+                    Step::Mark(e) => mark(site, transaction, e),
                 };
                 match change {
                     Change::Refused(answer) => {

@@ -10,7 +10,10 @@ use crate::sites::Site;
 use crate::transactions::Transaction;
 use site::effects::less;
 ghost use mathlib.Core.Path.{_≡_};
+ghost use mathlib.Core.List.{map};
 ghost use Prim.Native.Nat.{_≤_};
+ghost use lib.ListN.{take};
+ghost use Rattle.codec.specs.Answers.{recordIn};
 ghost use Rattle.joint.specs.State as plain;
 ghost use Rattle.joint.specs.State.{forgotten};
 ghost use Rattle.joint.specs.Event as event;
@@ -49,15 +52,18 @@ pub(crate) fn forget_all(
     transactions
 }
 
-// The restart of a site in each opened transaction, in rising order, up to the cut. It appends and forces nothing.
+// The restart of a site in each opened transaction, in rising order, up to the cut. The first `count` of its records are
+// stable, and `kinds` has their kinds. It appends and forces nothing.
 fn resume_all(
     transactions: [Transaction; Run::TRANSACTIONS],
     kinds: Kinds,
+    records: Records,
+    count: usize,
     site: u8,
     cut: u8,
 ) -> Resumed
-    requires { ⌜ site ≤ 8 ⌝ }
-    ensures { λ r. ⌜ ((x : plain.Run) → transactionsIn transactions ≡ x .transaction → KindsOf (kinds .of) x site → resumedIn r ≡ resumed x site cut) ⌝ }
+    requires { ⌜ (site ≤ 8) × (count ≤ 24) ⌝ }
+    ensures { λ r. ⌜ ((x : plain.Run) → transactionsIn transactions ≡ x .transaction → KindsOf (kinds .of) x site → take count (map recordIn (records .of)) ≡ x .site site .stable → resumedIn r ≡ resumed x site cut) ⌝ }
 {
     let kinds = kinds.of;
     let mut transactions = transactions;
@@ -69,7 +75,7 @@ fn resume_all(
         i += 1;
         let transaction = transactions[at];
         if transaction.opened() {
-            let row = Row::restart(transaction, site, kinds[at]);
+            let row = Row::restart(transaction, at as u8, site, kinds[at], records, count);
             let effects = row.effects;
             let then = row.then;
             let happened = effects.cut(left);
@@ -102,12 +108,9 @@ pub(crate) fn restart(
             transactions,
         };
     }
-    let resumed = resume_all(
-        transactions,
-        records.kinds(site.stable_count()),
-        e.site,
-        e.cut,
-    );
+    let count = site.stable_count();
+    let kinds = records.kinds(count);
+    let resumed = resume_all(transactions, kinds, records, count, e.site, e.cut);
     let after = resumed.transactions;
     let answer = Answer::Accepted(Counts {
         records: 0,

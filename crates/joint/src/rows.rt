@@ -1,17 +1,22 @@
 // One site's row in a transaction, by site's step or restart, and what follows its effects.
+use crate::records::Records;
 use crate::transactions::Transaction;
-use site::coordinator::Coordinator;
+use codec::record::Record;
 use site::coordinator::CoordinatorAnswer;
 use site::effects::Effects;
 use site::participant::Participant;
 use site::participant::ParticipantAnswer;
 use site::phases::CoordinatorPhase;
 use site::phases::ParticipantPhase;
+use site::record_kinds::has;
 ghost use mathlib.Core.Path.{_≡_};
 ghost use mathlib.Core.Bool.{true, _&&_, _||_};
+ghost use mathlib.Core.List.{map};
 ghost use Prim.Native.Nat.{ℕ, _≤_};
 ghost use lib.Dec.{leb};
+ghost use lib.ListN.{take};
 ghost use Rattle.codec.specs.Sets.{member};
+ghost use Rattle.codec.specs.Answers.{recordIn};
 ghost use Rattle.site.specs.Numbers.{inputOf, receives};
 ghost use Rattle.site.specs.Cohort.{presumptionOf};
 ghost use Rattle.site.specs.Answers.{participantIn, presumptionIn, hasKind};
@@ -21,15 +26,23 @@ ghost use Rattle.joint.specs.Plan as plan;
 ghost use Rattle.joint.specs.Answers.{transactionIn};
 ghost use Rattle.joint.specs.Inside.{planIn, foundIn, writesLog, goesDown, MayReceive};
 
-// What follows a row's effects: a phase is set, a transaction is opened, the oldest record is dropped (and whether the
-// participant forgets with it), or the site goes down and keeps so many of its unforced records.
+// What follows a row's effects: a phase is set, at the coordinator with the set taken out, a transaction is opened, the
+// oldest record is dropped (and whether the participant forgets with it), the site goes down and keeps so many of its
+// unforced records, or the participant is marked as one that only looked.
 pub enum Then {
     Same,
-    Coordinator(CoordinatorPhase),
+    Coordinator {
+        phase: CoordinatorPhase,
+        taken_out: u8,
+    },
     Participant(ParticipantPhase),
-    Opened(Coordinator),
+    Opened {
+        members: u8,
+        presume_commit: u8,
+    },
     Discarded(bool),
     Down(u8),
+    Marked,
 }
 
 pub struct Row {
@@ -77,22 +90,23 @@ impl Row {
 
     fn participant(transaction: Transaction, number: u8) -> Participant
         requires { ⌜ number ≤ 8 ⌝ }
-        ensures { λ r. ⌜ (r .number ≡ number) × ((participantIn (r .phase) ≡ transactionIn transaction .participant number) × (presumptionIn (r .presumption) ≡ presumptionOf (transactionIn transaction .cohort) number)) ⌝ }
+        ensures { λ r. ⌜ (r .number ≡ number) × ((participantIn (r .phase) ≡ transactionIn transaction .participant number) × ((presumptionIn (r .presumption) ≡ presumptionOf (transactionIn transaction .cohort) number) × (r .marked ≡ transactionIn transaction .marked number))) ⌝ }
     {
-        let coordinator = transaction.coordinator;
+        let coordinator = transaction.coordinator();
         Participant {
             phase: transaction.participant_phase(number),
             presumption: coordinator.presumption(number),
             number,
+            marked: transaction.marked(number),
         }
     }
 
     // The coordinator's, upon a message of a member, begin or its timer.
     fn coordinator_step(transaction: Transaction, kind: u8, participant: u8) -> Found
-        requires { ⌜ (receives 0 kind && (leb 16 kind || member participant (transaction .coordinator .members))) ≡ true ⌝ }
+        requires { ⌜ (receives 0 kind && (leb 16 kind || member participant (transactionIn transaction .cohort .members))) ≡ true ⌝ }
         ensures { λ r. ⌜ ((w : plain.Run) (t : ℕ) → transactionIn transaction ≡ w .transaction t → foundIn 0 t r ≡ plan.step w t 0 (inputOf kind participant)) ⌝ }
     {
-        let coordinator = transaction.coordinator;
+        let coordinator = transaction.coordinator();
         let answer = coordinator.step(kind, participant);
         let CoordinatorAnswer::Row(row) = answer else {
             return Found::None;
@@ -101,7 +115,10 @@ impl Row {
         let phase = row.phase;
         Found::Row(Row {
             effects,
-            then: Then::Coordinator(phase),
+            then: Then::Coordinator {
+                phase,
+                taken_out: row.taken_out,
+            },
         })
     }
 
@@ -134,19 +151,30 @@ impl Row {
         Row::participant_step(transaction, site, kind)
     }
 
-    // At restart, from the kinds of record that the stable log has of the transaction, bit k for kind k.
-    pub(crate) fn restart(transaction: Transaction, site: u8, kinds: u16) -> Row
-        requires { ⌜ site ≤ 8 ⌝ }
-        ensures { λ r. ⌜ ((w : plain.Run) (t : ℕ) → transactionIn transaction ≡ w .transaction t → ((k : ℕ) → k ≤ 7 → hasKind kinds k ≡ holds t k (w .site site .stable)) → planIn site t r ≡ plan.restarting w site t) ⌝ }
+    // At restart of a site in transaction `t`, from the kinds of record that the stable log has of it, bit k for kind k, and at
+    // the coordinator from the masks in the record from which it resumes. The first `count` records are stable.
+    pub(crate) fn restart(
+        transaction: Transaction,
+        t: u8,
+        site: u8,
+        kinds: u16,
+        records: Records,
+        count: usize,
+    ) -> Row
+        requires { ⌜ (site ≤ 8) × (count ≤ 24) ⌝ }
+        ensures { λ r. ⌜ ((w : plain.Run) → transactionIn transaction ≡ w .transaction t → ((k : ℕ) → k ≤ 7 → hasKind kinds k ≡ holds t k (w .site site .stable)) → take count (map recordIn (records .of)) ≡ w .site site .stable → planIn site t r ≡ plan.restarting w site t) ⌝ }
     {
         if site == 0 {
-            let coordinator = transaction.coordinator;
+            let coordinator = records.cohort(t, has(kinds, Record::COMMIT), count);
             let row = coordinator.restart(kinds);
             let effects = row.effects;
             let phase = row.phase;
             return Row {
                 effects,
-                then: Then::Coordinator(phase),
+                then: Then::Coordinator {
+                    phase,
+                    taken_out: row.taken_out,
+                },
             };
         }
         let participant = Row::participant(transaction, site);

@@ -55,6 +55,8 @@ impl Run {
     pub const CRASH: u8 = 6;
 
     pub const RESTART: u8 = 7;
+
+    pub const MARK: u8 = 8;
     // No cut.
     pub const NO_CUT: u8 = 255;
 
@@ -96,24 +98,32 @@ impl Run {
         ensures { λ r. ⌜ r ≡ runIn self .transaction transaction .cohort .members ⌝ }
     {
         let found = self.transaction(transaction);
-        let coordinator = found.coordinator;
-        coordinator.members
+        let part = found.part;
+        part.members
     }
 
     pub fn presume_commit(self, transaction: u8) -> u8
         ensures { λ r. ⌜ r ≡ runIn self .transaction transaction .cohort .presumeCommit ⌝ }
     {
         let found = self.transaction(transaction);
-        let coordinator = found.coordinator;
-        coordinator.presume_commit
+        let part = found.part;
+        part.presume_commit
     }
 
     pub fn coordinator_phase(self, transaction: u8) -> CoordinatorPhase
-        ensures { λ r. ⌜ coordinatorIn r ≡ runIn self .transaction transaction .coordinator ⌝ }
+        ensures { λ r. ⌜ coordinatorIn r ≡ runIn self .transaction transaction .coordinator .phase ⌝ }
     {
         let found = self.transaction(transaction);
-        let coordinator = found.coordinator;
-        coordinator.phase
+        let part = found.part;
+        part.phase
+    }
+
+    // The participants that the coordinator has taken out.
+    pub fn taken_out(self, transaction: u8) -> u8
+        ensures { λ r. ⌜ r ≡ runIn self .transaction transaction .coordinator .takenOut ⌝ }
+    {
+        let found = self.transaction(transaction);
+        found.taken_out
     }
 
     pub fn participant_phase(self, transaction: u8, participant: u8) -> ParticipantPhase
@@ -121,6 +131,14 @@ impl Run {
     {
         let found = self.transaction(transaction);
         found.participant_phase(participant)
+    }
+
+    // Whether a participant is marked as one that only looked.
+    pub fn marked(self, transaction: u8, participant: u8) -> bool
+        ensures { λ r. ⌜ r ≡ runIn self .transaction transaction .marked participant ⌝ }
+    {
+        let found = self.transaction(transaction);
+        found.marked(participant)
     }
 
     // Whether a message of a kind, to a participant or from it, was sent.

@@ -16,10 +16,10 @@ ghost use mathlib.Core.Bool.{not, _||_};
 ghost use Prim.Native.Nat.{ℕ, _≤_};
 ghost use Rattle.codec.specs.Sets.{empty, member};
 ghost use Rattle.site.specs.Numbers.{entryOf};
-ghost use Rattle.site.specs.Answers.{coordinatorIn, participantIn, outcomeIn, sending, effectsIn};
-ghost use Rattle.joint.specs.State.{takesPart, withCoordinator, withParticipant, forgotten};
+ghost use Rattle.site.specs.Answers.{coordinatorStateIn, cohortIn, participantIn, outcomeIn, sending, effectsIn};
+ghost use Rattle.joint.specs.State.{takesPart, withCoordinator, withParticipant, withMarked, forgotten};
 ghost use Rattle.joint.specs.Plan.{openedAs};
-ghost use Rattle.joint.specs.Answers.{transactionIn, noTransaction};
+ghost use Rattle.joint.specs.Answers.{partIn, transactionIn, noTransaction};
 ghost use Rattle.joint.specs.Inside.{transactionAfter, thenTransaction};
 
 // A participant's phase.
@@ -27,13 +27,24 @@ pub struct Held {
     pub phase: ParticipantPhase,
 }
 
-// Members are 0 until it is opened.
+// The coordinator's phase, and the cohort as opened: the members, 0 until then, and those that presume commit.
+pub struct Part {
+    pub phase: CoordinatorPhase,
+    pub members: u8,
+    pub presume_commit: u8,
+}
+
+// A transaction is copied at each event: what is copied in one piece stands together.
 pub struct Transaction {
-    pub coordinator: Coordinator,
+    pub part: Part,
+    // The participants that the coordinator has taken out.
+    pub taken_out: u8,
     // By site; Unknown at the coordinator.
     pub participants: [Held; Run::SITES],
     // By kind of message: the participants whose message was sent.
     pub sent: [u8; Run::KINDS],
+    // The participants that are marked as ones that only looked, bit p for participant p.
+    pub marked: u16,
     // The sites that entered an outcome, bit s for site s.
     pub committed: u16,
     pub aborted: u16,
@@ -57,34 +68,56 @@ impl Transaction {
         ensures { λ r. ⌜ r ≡ noTransaction ⌝ }
     {
         Transaction {
-            coordinator: Coordinator {
+            part: Part {
                 phase: CoordinatorPhase::Unknown,
                 members: 0,
                 presume_commit: 0,
             },
+            taken_out: 0,
             participants: [Held::UNKNOWN; Run::SITES],
             sent: [0; Run::KINDS],
+            marked: 0,
             committed: 0,
             aborted: 0,
+        }
+    }
+
+    // As its step takes it.
+    pub(crate) fn coordinator(self) -> Coordinator
+        ensures { λ r. ⌜ (cohortIn r ≡ transactionIn self .cohort) × (coordinatorStateIn r ≡ transactionIn self .coordinator) ⌝ }
+    {
+        let part = self.part;
+        let phase = part.phase;
+        Coordinator {
+            phase,
+            members: part.members,
+            presume_commit: part.presume_commit,
+            taken_out: self.taken_out,
         }
     }
 
     pub fn opened(self) -> bool
         ensures { λ r. ⌜ r ≡ not (empty (transactionIn self .cohort .members)) ⌝ }
     {
-        let coordinator = self.coordinator;
-        coordinator.members != 0
+        let part = self.part;
+        part.members != 0
     }
 
     // The coordinator takes part in each transaction, a participant in those that it is a member of.
     pub fn takes_part(self, site: u8) -> bool
         ensures { λ r. ⌜ r ≡ takesPart (transactionIn self) site ⌝ }
     {
-        let coordinator = self.coordinator;
+        let part = self.part;
         if site == 0 {
             return true;
         }
-        member(site, coordinator.members)
+        member(site, part.members)
+    }
+
+    pub fn marked(self, participant: u8) -> bool
+        ensures { λ r. ⌜ r ≡ transactionIn self .marked participant ⌝ }
+    {
+        has(self.marked, participant)
     }
 
     pub fn sent(self, participant: u8, kind: u8) -> bool
@@ -119,17 +152,18 @@ impl Transaction {
 
     // ---- changes
 
-    pub fn with_coordinator(self, phase: CoordinatorPhase) -> Transaction
-        ensures { λ r. ⌜ transactionIn r ≡ withCoordinator 0 (coordinatorIn phase) (transactionIn self) ⌝ }
+    pub fn with_coordinator(self, phase: CoordinatorPhase, taken_out: u8) -> Transaction
+        ensures { λ r. ⌜ transactionIn r ≡ withCoordinator 0 (partIn phase «taken_out») (transactionIn self) ⌝ }
     {
-        let was = self.coordinator;
-        let coordinator = Coordinator {
+        let was = self.part;
+        let part = Part {
             phase,
             members: was.members,
             presume_commit: was.presume_commit,
         };
         let mut transaction = self;
-        transaction.coordinator = coordinator;
+        transaction.part = part;
+        transaction.taken_out = taken_out;
         transaction
     }
 
@@ -139,6 +173,15 @@ impl Transaction {
     {
         let mut transaction = self;
         transaction.participants[participant] = Held { phase };
+        transaction
+    }
+
+    pub(crate) fn with_marked(self, participant: u8) -> Transaction
+        requires { ⌜ participant ≤ 8 ⌝ }
+        ensures { λ r. ⌜ transactionIn r ≡ withMarked participant (transactionIn self) ⌝ }
+    {
+        let mut transaction = self;
+        transaction.marked = with_bit(self.marked, participant);
         transaction
     }
 
@@ -180,14 +223,14 @@ impl Transaction {
         entered.send(effects.message, effects.to)
     }
 
-    // The phases at a site are Unknown.
+    // The phases at a site are Unknown, and the set taken out is gone with them.
     pub(crate) fn forget(self, site: usize) -> Transaction
         requires { ⌜ site ≤ 8 ⌝ }
         ensures { λ r. ⌜ transactionIn r ≡ forgotten site (transactionIn self) ⌝ }
     {
         let forgotten = self.with_participant(site, ParticipantPhase::Unknown);
         if site == 0 {
-            return forgotten.with_coordinator(CoordinatorPhase::Unknown);
+            return forgotten.with_coordinator(CoordinatorPhase::Unknown, 0);
         }
         forgotten
     }
@@ -198,15 +241,19 @@ impl Transaction {
         ensures { λ r. ⌜ transactionIn r ≡ thenTransaction site then (transactionIn self) ⌝ }
     {
         match then {
-            Then::Coordinator(phase) => self.with_coordinator(phase),
+            Then::Coordinator { phase, taken_out } => self.with_coordinator(phase, taken_out),
             Then::Participant(phase) => self.with_participant(site as usize, phase),
-            Then::Opened(coordinator) => self.open(coordinator.members, coordinator.presume_commit),
+            Then::Opened {
+                members,
+                presume_commit,
+            } => self.open(members, presume_commit),
             Then::Discarded(last) => {
                 if last {
                     return self.with_participant(site as usize, ParticipantPhase::Unknown);
                 }
                 self
             }
+            Then::Marked => self.with_marked(site),
             _ => self,
         }
     }
@@ -225,14 +272,15 @@ impl Transaction {
             }
             i += 1;
         }
-        let coordinator = Coordinator {
+        let part = Part {
             phase: CoordinatorPhase::Open,
             members,
             presume_commit,
         };
         let mut transaction = self;
         transaction.participants = participants;
-        transaction.coordinator = coordinator;
+        transaction.part = part;
+        transaction.taken_out = 0;
         transaction
     }
 }

@@ -9,32 +9,50 @@ use lib.Dec.{eqb, leb, ltb}
 use native.Mathlib.Omega.{arith}
 use borrow.Author.Tests.{eqb-true, le-leb, lt-leb, not-false}
 use Rattle.codec.specs.Lists.{any, every}
-use Rattle.codec.specs.Sets.{participants, member, part}
+use Rattle.codec.specs.Sets.{participants, member, empty, both, part}
 use Rattle.codec.specs.laws.Tests.{or-none, alike, alike-eq, bools-at, leb-ltb}
 use Rattle.site.specs.Presumption.{presumptionNumber}
-use Rattle.site.specs.Cohort.{presumptionOf}
+use Rattle.site.specs.Cohort.{Cohort, presumptionOf}
 use Rattle.site.specs.Step.{Row, answerNumber, answered, answerIf}
-use Rattle.site.specs.Coordinator.{CoordinatorPhase}
+use Rattle.site.specs.Coordinator.{Coordinator}
 use Rattle.site.specs.Participant.{ParticipantPhase}
-use Rattle.site.specs.Numbers.{Arguments, kindsReceived, receives, coordinatorFrom, participantFrom, coordinatorAnswer, participantAnswer, waitingInRange, isMember, namesNone, inRangeAt, argumentsInRange, refusal, coordinatorValues, participantValues, coordinatorResult, participantResult, stepAt, siteStep}
+use Rattle.site.specs.Numbers.{Arguments, kindsReceived, receives, coordinatorFrom, participantFrom, coordinatorAnswer, participantAnswer, waitingInRange, takenOutInRange, isMember, namesNone, inRangeAt, argumentsInRange, refusal, coordinatorValues, participantValues, coordinatorResult, participantResult, stepAt, siteStep}
 use Rattle.site.specs.Inside.{coordinatorNumbers, participantNumbers}
 
 -- ---- the coordinator's
 
--- r: the kind is received; w: the waiting set fits; k: it is a message; n: nobody is named; m: a member; q: with its presumption
-coordinator-test : (r w k n m q : Bool) → (r && (w && cond (not k) n (m && q))) ≡ ((((k && q) || (not k && n)) && w) && (r && (not k || m)))
-coordinator-test r w k n m q = alike-eq _ _ (bools-at side (r ∷ w ∷ k ∷ n ∷ m ∷ q ∷ []) tt)
+three-tests : (a b c : Bool) → ((a && b) && c) ≡ every (a ∷ b ∷ c ∷ [])
+unfolding every
+three-tests a b c = alike-eq _ _ (bools-at side (a ∷ b ∷ c ∷ []) tt)
   where
     side : List Bool → Bool
     side bs =
         let b : ℕ → Bool = λ i. getD bs i false in
-        alike (b 0 && (b 1 && cond (not (b 2)) (b 3) (b 4 && b 5)))
-        ((((b 2 && b 5) || (not (b 2) && b 3)) && b 1) && (b 0 && (not (b 2) || b 4)))
+        alike ((b 0 && b 1) && b 2) (every (b 0 ∷ b 1 ∷ b 2 ∷ []))
 
-result-if : (b : Bool) (phase w : ℕ) (o : Option (Row CoordinatorPhase)) → cond b (coordinatorResult phase w (answered o)) refusal ≡ coordinatorResult phase w (answerIf b o)
+-- the set taken out, as the program tests it
+pub out-fits : (g : Cohort) (phase w out : ℕ)
+    → ((part out (g .members) && eqb (both out w) 0) && (not (eqb phase 0) || eqb out 0)) ≡ takenOutInRange g phase w out
+unfolding takenOutInRange empty
+out-fits g phase w out = three-tests (part out (g .members)) (eqb (both out w) 0) (not (eqb phase 0) || eqb out 0)
+
+-- r: the kind is received; w, u, z: waiting set, set taken out and mark fit; k: it is a message; n: nobody is named; m: a member; q: with its presumption
+coordinator-test : (r w u z k n m q : Bool)
+    → (r && every (w ∷ u ∷ z ∷ cond (not k) n (m && q) ∷ [])) ≡ ((((k && q) || (not k && n)) && ((w && u) && z)) && (r && (not k || m)))
+unfolding every
+coordinator-test r w u z k n m q = alike-eq _ _ (bools-at side (r ∷ w ∷ u ∷ z ∷ k ∷ n ∷ m ∷ q ∷ []) tt)
+  where
+    side : List Bool → Bool
+    side bs =
+        let b : ℕ → Bool = λ i. getD bs i false in
+        alike (b 0 && every (b 1 ∷ b 2 ∷ b 3 ∷ cond (not (b 4)) (b 5) (b 6 && b 7) ∷ []))
+        ((((b 4 && b 7) || (not (b 4) && b 5)) && ((b 1 && b 2) && b 3)) && (b 0 && (not (b 4) || b 6)))
+
+result-if : (b : Bool) (phase w out : ℕ) (o : Option (Row Coordinator))
+    → cond b (coordinatorResult phase w out (answered o)) refusal ≡ coordinatorResult phase w out (answerIf b o)
 unfolding coordinatorResult coordinatorValues answerNumber refusal answerIf
-result-if true phase w o = refl
-result-if false phase w o = refl
+result-if true phase w out o = refl
+result-if false phase w out o = refl
 
 module _ (a : Arguments) where
   -- as the program tests it
@@ -44,7 +62,7 @@ module _ (a : Arguments) where
       || (not (ltb (a .kind) 16) && (eqb (a .participant) 0 && eqb (a .presumption) 0))
 
   abbrev pub fits : Bool
-  fits = waitingInRange (a .cohort) (a .phase) (a .waiting)
+  fits = (waitingInRange (a .cohort) (a .phase) (a .waiting) && takenOutInRange (a .cohort) (a .phase) (a .waiting) (a .takenOut)) && eqb (a .mark) 0
 
   split : coordinatorNumbers a
       ≡ cond ((named && fits) && (receives 0 (a .kind) && (leb 16 (a .kind) || member (a .participant) (a .cohort .members)))) (stepAt 0 a) refusal
@@ -52,16 +70,17 @@ module _ (a : Arguments) where
   split =
       rw (leb-ltb 16 (a .kind))
       (ap (λ (b : Bool). cond b (stepAt 0 a) refusal)
-      (coordinator-test (receives 0 (a .kind)) fits (ltb (a .kind) 16) (eqb (a .participant) 0 && eqb (a .presumption) 0) (member (a .participant) (a .cohort .members)) (eqb (a .presumption) (presumptionNumber (presumptionOf (a .cohort) (a .participant))))))
+      (coordinator-test (receives 0 (a .kind)) (waitingInRange (a .cohort) (a .phase) (a .waiting)) (takenOutInRange (a .cohort) (a .phase) (a .waiting) (a .takenOut)) (eqb (a .mark) 0) (ltb (a .kind) 16) (eqb (a .participant) 0 && eqb (a .presumption) 0) (member (a .participant) (a .cohort .members)) (eqb (a .presumption) (presumptionNumber (presumptionOf (a .cohort) (a .participant))))))
 
   pub coordinator-refused : (named && fits) ≡ false → coordinatorNumbers a ≡ refusal
   coordinator-refused e = split ∙ rw e refl
 
   pub coordinator-taken : (named && fits) ≡ true
       → coordinatorNumbers a
-      ≡ coordinatorResult (a .phase) (a .waiting) (coordinatorAnswer (a .cohort) (a .kind) (a .participant) (coordinatorFrom (a .phase) (a .waiting)))
+      ≡ coordinatorResult (a .phase) (a .waiting) (a .takenOut)
+      (coordinatorAnswer (a .cohort) (a .kind) (a .participant) (record { phase = coordinatorFrom (a .phase) (a .waiting); takenOut = a .takenOut }))
   unfolding stepAt coordinatorAnswer
-  coordinator-taken e = split ∙ rw e (result-if _ (a .phase) (a .waiting) _)
+  coordinator-taken e = split ∙ rw e (result-if _ (a .phase) (a .waiting) (a .takenOut) _)
 
 -- ---- a participant's
 
@@ -78,7 +97,7 @@ module _ (a : Arguments) where
   pub participant-taken : isMember a ≡ true → any (eqb (a .participant)) participants ≡ true
       → participantNumbers a
       ≡ participantResult (a .phase)
-      (participantAnswer (presumptionOf (a .cohort) (a .participant)) (a .participant) (a .kind) (participantFrom (a .phase)))
+      (participantAnswer (presumptionOf (a .cohort) (a .participant)) (a .participant) (eqb (a .mark) 1) (a .kind) (participantFrom (a .phase)))
   unfolding participantNumbers participantAnswer
   participant-taken e n = rw (e, n) (own-result-if _ (a .phase) _)
 
@@ -127,27 +146,32 @@ pub call-coordinator : (a : Arguments) → a .cohort .members < 256 → wrong a 
       phase = a .phase;
       waiting = a .waiting;
       cohort = a .cohort;
+      mark = a .mark;
+      takenOut = a .takenOut;
     })
 unfolding coordinatorNumbers inRangeAt namesNone isMember stepAt
 call-coordinator a h e z = call-passed a h e ∙ rw z refl
 
--- at a participant: it waits for nobody and is named itself, as the program tests it
-abbrev pub foreign : Arguments → Bool
-foreign a = not (eqb (a .waiting) 0) || not (eqb (a .participant) (a .site))
+-- at a participant: it waits for nobody, takes nobody out, has a mark and is named itself, as the program tests it
+abbrev pub foreignAt : ℕ → Arguments → Bool
+foreignAt s a = ((not (eqb (a .waiting) 0) || not (eqb (a .takenOut) 0)) || ltb 1 (a .mark)) || not (eqb (a .participant) s)
 
-own-test : (u v i : Bool) → every (u ∷ v ∷ i ∷ []) ≡ (not (not u || not v) && i)
+abbrev pub foreign : Arguments → Bool
+foreign a = foreignAt (a .site) a
+
+own-test : (u o l v i : Bool) → every (u ∷ o ∷ not l ∷ v ∷ i ∷ []) ≡ (not (((not u || not o) || l) || not v) && i)
 unfolding every
-own-test u v i = alike-eq _ _ (bools-at side (u ∷ v ∷ i ∷ []) tt)
+own-test u o l v i = alike-eq _ _ (bools-at side (u ∷ o ∷ l ∷ v ∷ i ∷ []) tt)
   where
     side : List Bool → Bool
     side bs =
         let b : ℕ → Bool = λ i. getD bs i false in
-        alike (every (b 0 ∷ b 1 ∷ b 2 ∷ [])) (not (not (b 0) || not (b 1)) && b 2)
+        alike (every (b 0 ∷ b 1 ∷ not (b 2) ∷ b 3 ∷ b 4 ∷ [])) (not (((not (b 0) || not (b 1)) || b 2) || not (b 3)) && b 4)
 
-own : (s : ℕ) (a : Arguments) → (s ≡ 0 → ⊥) → inRangeAt s a ≡ (not (not (eqb (a .waiting) 0) || not (eqb (a .participant) s)) && isMember a)
+own : (s : ℕ) (a : Arguments) → (s ≡ 0 → ⊥) → inRangeAt s a ≡ (not (foreignAt s a) && isMember a)
 unfolding inRangeAt
 own zero a z = absurd (z refl)
-own (suc n) a z = own-test (eqb (a .waiting) 0) (eqb (a .participant) (suc n)) (isMember a)
+own (suc n) a z = rw (leb-ltb (a .mark) 1) (own-test (eqb (a .waiting) 0) (eqb (a .takenOut) 0) (ltb 1 (a .mark)) (eqb (a .participant) (suc n)) (isMember a))
 
 own-step : (s : ℕ) (a : Arguments) → (s ≡ 0 → ⊥) → a .participant ≡ s → cond (receives s (a .kind) && isMember a) (stepAt s a) refusal ≡ participantNumbers a
 unfolding participantNumbers receives kindsReceived stepAt
@@ -168,10 +192,12 @@ pub call-participant : (a : Arguments) → a .cohort .members < 256 → wrong a 
       phase = a .phase;
       waiting = 0;
       cohort = a .cohort;
+      mark = a .mark;
+      takenOut = 0;
     })
 unfolding participantNumbers isMember
 call-participant a h e z l f =
-    let mine = eqb-true (a .participant) (a .site) (not-false _ (or-none (not (eqb (a .waiting) 0)) (not (eqb (a .participant) (a .site))) f .1)) in
+    let mine = eqb-true (a .participant) (a .site) (not-false _ (or-none ((not (eqb (a .waiting) 0) || not (eqb (a .takenOut) 0)) || ltb 1 (a .mark)) (not (eqb (a .participant) (a .site))) f .1)) in
     call-passed a h e ∙ rw (own (a .site) a z, f, le-leb (a .site) 8 (omega (arith, l))) (own-step (a .site) a z mine)
 
 pub call-beyond : (a : Arguments) → a .cohort .members < 256 → wrong a ≡ false → 9 ≤ a .site → siteStep a ≡ refusal

@@ -1,9 +1,9 @@
 -- The steps by the kind's number, from what the program has tested. Assumes nothing.
-use mathlib.Core.Path.{_≡_, ap, sym, _∙_}
-use mathlib.Core.Bool.{Bool, true, false, not, _||_, and-false}
+use mathlib.Core.Path.{_≡_, ap, _∙_}
+use mathlib.Core.Bool.{Bool, true, false, not, _||_, and-false, _&&_}
 use Prim.Native.Nat.{ℕ, _<_}
 use lib.Dec.{eqb, leb}
-use borrow.Author.Tests.{ne-eqb, not-true, not-false}
+use borrow.Author.Tests.{ne-eqb}
 use Rattle.codec.specs.Lists.{any}
 use Rattle.codec.specs.Sets.{participants, member}
 use Rattle.codec.specs.laws.Tests.{alike, alike-eq, below-at}
@@ -12,34 +12,34 @@ use Rattle.site.specs.Step.{refused, row, answered, answerIf}
 use Rattle.site.specs.Coordinator.{coordinatorStep}
 use Rattle.site.specs.Participant.{participantStep, participantRestart}
 use Rattle.site.specs.Numbers.{kindsReceived, receives, inputOf, coordinatorAnswer, participantAnswer, participantRestarted}
-use Rattle.site.specs.Answers.{presumptionIn, cohortIn, coordinatorIn, participantIn}
+use Rattle.site.specs.Answers.{presumptionIn, cohortIn, coordinatorStateIn, participantIn}
 use Rattle.site.specs.declared.coordinator.Coordinator.{Coordinator}
 use Rattle.site.specs.declared.participant.Participant.{Participant}
 
 -- ---- the coordinator's
 
--- m: the program found that p is a member
-module _ (x : Coordinator) (kind p : ℕ) (m : Bool) (found : m ≡ member p (x .members)) where
-  pub coordinator-stranger : not (leb 16 kind || m) ≡ true → refused ≡ coordinatorAnswer (cohortIn x) kind p (coordinatorIn (x .phase))
+module _ (x : Coordinator) (kind p : ℕ) where
+  -- a message of what is no member
+  pub coordinator-stranger : leb 16 kind ≡ false → member p (x .members) ≡ false → refused ≡ coordinatorAnswer (cohortIn x) kind p (coordinatorStateIn x)
   unfolding coordinatorAnswer answerIf
-  coordinator-stranger t = rw (sym found, not-true (leb 16 kind || m) t, and-false (receives 0 kind))
+  coordinator-stranger k m = rw (k, m, and-false (receives 0 kind))
 
   -- a kind k that is received
-  pub coordinator-takes : (k : ℕ) → not (leb 16 kind || m) ≡ false → kind ≡ k → receives 0 k ≡ true
-      → answered (coordinatorStep (cohortIn x) (inputOf k p) (coordinatorIn (x .phase))) ≡ coordinatorAnswer (cohortIn x) kind p (coordinatorIn (x .phase))
+  pub coordinator-takes : (k : ℕ) → kind ≡ k → (receives 0 k && (leb 16 k || member p (x .members))) ≡ true
+      → answered (coordinatorStep (cohortIn x) (inputOf k p) (coordinatorStateIn x)) ≡ coordinatorAnswer (cohortIn x) kind p (coordinatorStateIn x)
   unfolding coordinatorAnswer answerIf
-  coordinator-takes k t e r = rw (sym found, not-false (leb 16 kind || m) t, e, r)
+  coordinator-takes k e t = rw (e, t)
 
-pub coordinator-never : (x : Coordinator) (kind p : ℕ) → receives 0 kind ≡ false → refused ≡ coordinatorAnswer (cohortIn x) kind p (coordinatorIn (x .phase))
+pub coordinator-never : (x : Coordinator) (kind p : ℕ) → receives 0 kind ≡ false → refused ≡ coordinatorAnswer (cohortIn x) kind p (coordinatorStateIn x)
 unfolding coordinatorAnswer answerIf
 coordinator-never x kind p r = rw r
 
 -- none of the kinds received
-pub not-received : (kind : ℕ) → (kind ≡ 1 → ⊥) → (kind ≡ 2 → ⊥) → (kind ≡ 5 → ⊥) → (kind ≡ 6 → ⊥) → (kind ≡ 16 → ⊥) → (kind ≡ 17 → ⊥)
+pub not-received : (kind : ℕ) → (kind ≡ 1 → ⊥) → (kind ≡ 2 → ⊥) → (kind ≡ 5 → ⊥) → (kind ≡ 6 → ⊥) → (kind ≡ 7 → ⊥) → (kind ≡ 16 → ⊥) → (kind ≡ 17 → ⊥)
     → receives 0 kind ≡ false
 unfolding receives any kindsReceived
-not-received kind a b c d e f =
-    rw (ne-eqb kind 1 a, ne-eqb kind 2 b, ne-eqb kind 5 c, ne-eqb kind 6 d, ne-eqb kind 16 e, ne-eqb kind 17 f)
+not-received kind a b c d r e f =
+    rw (ne-eqb kind 1 a, ne-eqb kind 2 b, ne-eqb kind 5 c, ne-eqb kind 6 d, ne-eqb kind 7 r, ne-eqb kind 16 e, ne-eqb kind 17 f)
 
 -- ---- a participant's
 
@@ -53,19 +53,19 @@ member-among p m hp hm e = among p hp ∙ ap not (member-participant p m hm e)
 
 module _ (x : Participant) (h : x .number < 256) where
   pub no-participant : (kind : ℕ) → noParticipant (x .number) ≡ true
-      → refused ≡ participantAnswer (presumptionIn (x .presumption)) (x .number) kind (participantIn (x .phase))
+      → refused ≡ participantAnswer (presumptionIn (x .presumption)) (x .number) (x .marked) kind (participantIn (x .phase))
   unfolding participantAnswer answerIf
   no-participant kind n = rw (among (x .number) h, n, and-false (receives 1 kind))
 
   pub participant-takes : (kind k : ℕ) → noParticipant (x .number) ≡ false → kind ≡ k → receives 1 k ≡ true
-      → answered (participantStep (presumptionIn (x .presumption)) (x .number) (inputOf k (x .number)) (participantIn (x .phase)))
-      ≡ participantAnswer (presumptionIn (x .presumption)) (x .number) kind (participantIn (x .phase))
+      → answered (participantStep (presumptionIn (x .presumption)) (x .number) (x .marked) (inputOf k (x .number)) (participantIn (x .phase)))
+      ≡ participantAnswer (presumptionIn (x .presumption)) (x .number) (x .marked) kind (participantIn (x .phase))
   unfolding participantAnswer answerIf
   participant-takes kind k n e r = rw (among (x .number) h, n, e, r)
 
   -- none of the kinds received
   pub participant-never : (kind : ℕ) → (kind ≡ 0 → ⊥) → (kind ≡ 3 → ⊥) → (kind ≡ 4 → ⊥) → (kind ≡ 17 → ⊥)
-      → refused ≡ participantAnswer (presumptionIn (x .presumption)) (x .number) kind (participantIn (x .phase))
+      → refused ≡ participantAnswer (presumptionIn (x .presumption)) (x .number) (x .marked) kind (participantIn (x .phase))
   unfolding participantAnswer answerIf receives any kindsReceived
   participant-never kind a b c d = rw (ne-eqb kind 0 a, ne-eqb kind 3 b, ne-eqb kind 4 c, ne-eqb kind 17 d)
 

@@ -1,6 +1,7 @@
 -- Each call that is accepted and finds a row: what firmware does with its numbers is that row. Assumes nothing.
-use mathlib.Core.Path.{_≡_, refl, sym, _∙_, subst}
+use mathlib.Core.Path.{_≡_, refl, ap, sym, _∙_, subst}
 use mathlib.Core.Bool.{Bool, true, false, cond, not, _&&_, and-eq-true-iff, false≢true}
+use mathlib.Core.List.{_∷_}
 use mathlib.Core.Option.{some}
 use Prim.Native.Nat.{ℕ, zero, suc, _<_}
 use native.Mathlib.Omega.{arith}
@@ -12,13 +13,13 @@ use Rattle.codec.specs.laws.Tests.{every-at}
 use Rattle.codec.specs.laws.Masks.{those-below}
 use Rattle.site.specs.Presumption.{commit, abort, presumptionNumber}
 use Rattle.site.specs.Cohort.{Cohort, presumptionOf, owing}
-use Rattle.site.specs.Step.{prepare, messages, begin, timer, received, Row}
-use Rattle.site.specs.Coordinator.{CoordinatorPhase, coordinatorStep}
+use Rattle.site.specs.Step.{prepare, messages, begin, timer, received, Row, answerNumber, answered}
+use Rattle.site.specs.Coordinator.{Coordinator, coordinatorStep}
 use Rattle.site.specs.Participant.{ParticipantPhase, participantStep}
-use Rattle.site.specs.Numbers.{Arguments, coordinatorFrom, waitingSet, participantFrom, inputOf, receives, waitingInRange, isMember, namesNone, inRangeAt, argumentsInRange, summary, done}
+use Rattle.site.specs.Numbers.{Arguments, coordinatorFrom, coordinatorPhase, waitingSet, participantFrom, participantPhase, inputOf, receives, waitingInRange, isMember, namesNone, inRangeAt, argumentsInRange, rowValues, coordinatorValues, participantValues, coordinatorResult, participantResult, stepAt, siteStep, done}
 use Rattle.site.proofs.Sent.{member-numbered}
 use Rattle.site.proofs.ByKind.{not-received}
-use Rattle.site.proofs.Done.{Sender, coordinator-done, participant-done}
+use Rattle.site.proofs.Done.{Sender, coordinator-done, participant-done, values-done}
 
 -- a part of a set is a byte
 part-below : (w m : ℕ) → (not (empty w) && part w m) ≡ true → w < 256
@@ -75,30 +76,37 @@ sender a h r e = by (eqb (a .kind) 16) (eqb (a .kind) 17) (leb 16 (a .kind)) ref
     by false true l d f g q = tt
     by false false true d f g q =
         let k = leb-true 16 (a .kind) g in
-        absurd (false≢true (sym (not-received (a .kind) (λ z. absurd (omega (arith, k, z))) (λ z. absurd (omega (arith, k, z))) (λ z. absurd (omega (arith, k, z))) (λ z. absurd (omega (arith, k, z))) (eqb-false (a .kind) 16 d) (eqb-false (a .kind) 17 f)) ∙ r))
+        absurd (false≢true (sym (not-received (a .kind) (λ z. absurd (omega (arith, k, z))) (λ z. absurd (omega (arith, k, z))) (λ z. absurd (omega (arith, k, z))) (λ z. absurd (omega (arith, k, z))) (λ z. absurd (omega (arith, k, z))) (eqb-false (a .kind) 16 d) (eqb-false (a .kind) 17 f)) ∙ r))
     by false false false d f g q = member-numbered (a .participant) (a .cohort .members) h (and-eq-true-iff (member (a .participant) (a .cohort .members)) _ .0 q .0)
 
-pub coordinator-call : (a : Arguments) → argumentsInRange a ≡ true → a .site ≡ 0 → (r : Row CoordinatorPhase)
-    → coordinatorStep (a .cohort) (inputOf (a .kind) (a .participant)) (coordinatorFrom (a .phase) (a .waiting)) ≡ some r
-    → done a (summary (r .effects)) ≡ r .effects
-unfolding inRangeAt
+pub coordinator-call : (a : Arguments) → argumentsInRange a ≡ true → a .site ≡ 0 → (r : Row Coordinator)
+    → coordinatorStep (a .cohort) (inputOf (a .kind) (a .participant)) (record { phase = coordinatorFrom (a .phase) (a .waiting); takenOut = a .takenOut }) ≡ some r
+    → done a (siteStep a) ≡ r .effects
+unfolding inRangeAt siteStep stepAt coordinatorResult coordinatorValues answered answerNumber
 coordinator-call a ok z r e =
     let x = in-range a ok in
     let k = subst (λ (s : ℕ). receives s (a .kind) ≡ true) z (x .known) in
-    let q = and-eq-true-iff (waitingInRange (a .cohort) (a .phase) (a .waiting)) (cond (leb 16 (a .kind)) (namesNone a) (isMember a)) .0 (subst (λ (s : ℕ). inRangeAt s a ≡ true) z (x .rest)) in
-    let w = set-below (a .phase) (a .waiting) (waiting-below (a .cohort) (a .phase) (a .waiting) (q .0)) in
-    coordinator-done a (x .byte) (inputOf (a .kind) (a .participant)) (coordinatorFrom (a .phase) (a .waiting)) (sender a (x .byte) k (q .1)) w r e
+    let q = subst (λ (s : ℕ). inRangeAt s a ≡ true) z (x .rest) in
+    let w = set-below (a .phase) (a .waiting) (waiting-below (a .cohort) (a .phase) (a .waiting) (every-at _ q 0)) in
+    let d = coordinator-done a (x .byte) (inputOf (a .kind) (a .participant)) (record { phase = coordinatorFrom (a .phase) (a .waiting); takenOut = a .takenOut })
+    (sender a (x .byte) k (every-at _ q 3)) w r e in
+    let values : siteStep a ≡ 0 ∷ rowValues (coordinatorPhase (r .phase .phase)) (waitingSet (r .phase .phase)) (r .phase .takenOut) (r .effects) =
+    rw (ok, subst (λ (s : ℕ). stepAt s a ≡ stepAt 0 a) (sym z) refl, e) refl in
+    ap (done a) values ∙ values-done a _ _ (r .phase .takenOut) (r .effects) d
 
 pub participant-call : (a : Arguments) → argumentsInRange a ≡ true → (n : ℕ) → a .site ≡ suc n → (r : Row ParticipantPhase)
-    → participantStep (presumptionOf (a .cohort) (suc n)) (suc n) (inputOf (a .kind) (suc n)) (participantFrom (a .phase)) ≡ some r
-    → done a (summary (r .effects)) ≡ r .effects
-unfolding inRangeAt isMember
+    → participantStep (presumptionOf (a .cohort) (suc n)) (suc n) (eqb (a .mark) 1) (inputOf (a .kind) (suc n)) (participantFrom (a .phase)) ≡ some r
+    → done a (siteStep a) ≡ r .effects
+unfolding inRangeAt isMember siteStep stepAt participantResult participantValues answered answerNumber
 participant-call a ok n z r e =
     let x = in-range a ok in
     let q = subst (λ (s : ℕ). inRangeAt s a ≡ true) z (x .rest) in
-    let own-member : isMember a ≡ true = every-at _ q 2 in
+    let own-member : isMember a ≡ true = every-at _ q 4 in
     let m = and-eq-true-iff (member (a .participant) (a .cohort .members)) (eqb (a .presumption) (presumptionNumber (presumptionOf (a .cohort) (a .participant)))) .0 own-member in
-    let own : a .participant ≡ suc n = eqb-true (a .participant) (suc n) (every-at _ q 1) in
+    let own : a .participant ≡ suc n = eqb-true (a .participant) (suc n) (every-at _ q 3) in
     let p = rw own at (member-numbered (a .participant) (a .cohort .members) (x .byte) (m .0)) in
     let s = rw own at (eqb-true (a .presumption) (presumptionNumber (presumptionOf (a .cohort) (a .participant))) (m .1)) in
-    participant-done a (presumptionOf (a .cohort) (suc n)) s (suc n) p (inputOf (a .kind) (suc n)) (participantFrom (a .phase)) r e
+    let d = participant-done a (presumptionOf (a .cohort) (suc n)) s (suc n) p (eqb (a .mark) 1) (inputOf (a .kind) (suc n)) (participantFrom (a .phase)) r e in
+    let values : siteStep a ≡ 0 ∷ rowValues (participantPhase (r .phase)) 0 0 (r .effects) =
+    rw (ok, subst (λ (s : ℕ). stepAt s a ≡ stepAt (suc n) a) (sym z) refl, e) refl in
+    ap (done a) values ∙ values-done a _ _ 0 (r .effects) d

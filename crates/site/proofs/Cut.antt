@@ -50,13 +50,13 @@ entry-one (suc (suc (suc k))) e =
     let h : suc (suc (suc k)) ≤ 2 = ltb-false 2 (suc (suc (suc k))) (or-none (ltb (suc (suc (suc k))) 1) (ltb 2 (suc (suc (suc k)))) e .1) in
     absurd (omega (arith, h))
 
-pub no-sends : (kind owing to : ℕ) → 6 < kind → 0 ≡ length (sending kind owing to)
+pub no-sends : (kind owing to : ℕ) → 7 < kind → 0 ≡ length (sending kind owing to)
 unfolding sending given
-no-sends kind owing to h = rw (lt-leb kind 6 h)
+no-sends kind owing to h = rw (lt-leb kind 7 h)
 
-pub sending-length : (kind owing to : ℕ) → kind ≤ 6 → length (sending kind owing to) ≡ length (listed to)
+pub sending-length : (kind owing to : ℕ) → kind ≤ 7 → length (sending kind owing to) ≡ length (listed to)
 unfolding sending given
-sending-length kind owing to h = rw (le-leb kind 6 h, length-map) (order-length owing to)
+sending-length kind owing to h = rw (le-leb kind 7 h, length-map) (order-length owing to)
 
 -- ---- the first of each
 
@@ -91,7 +91,7 @@ take-map {A} {B} f (suc n) (x ∷ l) = ap (λ (m : List B). f x ∷ m) (take-map
 
 pub sending-cut : (n kind owing to to′ : ℕ) → ordered owing to′ ≡ take n (ordered owing to) → take n (sending kind owing to) ≡ sending kind owing to′
 unfolding sending given
-sending-cut n kind owing to to′ e = by (leb kind 6)
+sending-cut n kind owing to to′ e = by (leb kind 7)
   where
     by : (b : Bool) → take n (cond b (map (send (getD messages kind prepare)) (ordered owing to)) []) ≡ cond b (map (send (getD messages kind prepare)) (ordered owing to′)) []
     by true = take-map (send (getD messages kind prepare)) n (ordered owing to) ∙ ap (map (send (getD messages kind prepare))) (sym e)

@@ -7,7 +7,7 @@ use denote.Enum.Declared.{tagOf}
 use types.Run.{OneOf, miss}
 use Rattle.site.specs.Presumption.{Presumption, commit, abort, sameOutcome}
 use Rattle.site.specs.Cohort.{Cohort}
-use Rattle.site.specs.Coordinator.{onBegin, onNo, coordinatorTimer, ackedIf, onAck}
+use Rattle.site.specs.Coordinator.{onBegin, onNo, onReadOnly, coordinatorTimer, ackedIf, onAck}
 use Rattle.site.specs.Participant.{participantTimer}
 use Rattle.site.specs.Answers.{coordinatorIn, participantIn}
 use Rattle.site.specs.declared.phases.CoordinatorPhase.{CoordinatorPhase}
@@ -26,21 +26,29 @@ module _ (g : Cohort) where
   no-begin (Aborting w) k = refl
   no-begin Unknown k = refl
 
-  pub no-no : (p : ℕ) (x : CoordinatorPhase) → OneOf (0 ∷ 2 ∷ 3 ∷ 4 ∷ []) (tagOf the-type x) → onNo g p (coordinatorIn x) ≡ none
+  pub no-no : (out p : ℕ) (x : CoordinatorPhase) → OneOf (0 ∷ 2 ∷ 3 ∷ 4 ∷ []) (tagOf the-type x) → onNo g out p (coordinatorIn x) ≡ none
   unfolding onNo
-  no-no p Open k = refl
-  no-no p (Collecting w) k = absurd (miss (0 ∷ 2 ∷ 3 ∷ 4 ∷ []) 1 tt k)
-  no-no p (Committing w) k = refl
-  no-no p (Aborting w) k = refl
-  no-no p Unknown k = refl
+  no-no out p Open k = refl
+  no-no out p (Collecting w) k = absurd (miss (0 ∷ 2 ∷ 3 ∷ 4 ∷ []) 1 tt k)
+  no-no out p (Committing w) k = refl
+  no-no out p (Aborting w) k = refl
+  no-no out p Unknown k = refl
 
-  pub no-timer : (x : CoordinatorPhase) → OneOf (0 ∷ 4 ∷ []) (tagOf the-type x) → coordinatorTimer g (coordinatorIn x) ≡ none
+  pub no-read-only : (out p : ℕ) (x : CoordinatorPhase) → OneOf (0 ∷ 2 ∷ 3 ∷ 4 ∷ []) (tagOf the-type x) → onReadOnly g out p (coordinatorIn x) ≡ none
+  unfolding onReadOnly
+  no-read-only out p Open k = refl
+  no-read-only out p (Collecting w) k = absurd (miss (0 ∷ 2 ∷ 3 ∷ 4 ∷ []) 1 tt k)
+  no-read-only out p (Committing w) k = refl
+  no-read-only out p (Aborting w) k = refl
+  no-read-only out p Unknown k = refl
+
+  pub no-timer : (out : ℕ) (x : CoordinatorPhase) → OneOf (0 ∷ 4 ∷ []) (tagOf the-type x) → coordinatorTimer g out (coordinatorIn x) ≡ none
   unfolding coordinatorTimer
-  no-timer Open k = refl
-  no-timer (Collecting w) k = absurd (miss (0 ∷ 4 ∷ []) 1 tt k)
-  no-timer (Committing w) k = absurd (miss (0 ∷ 4 ∷ []) 2 tt k)
-  no-timer (Aborting w) k = absurd (miss (0 ∷ 4 ∷ []) 3 tt k)
-  no-timer Unknown k = refl
+  no-timer out Open k = refl
+  no-timer out (Collecting w) k = absurd (miss (0 ∷ 4 ∷ []) 1 tt k)
+  no-timer out (Committing w) k = absurd (miss (0 ∷ 4 ∷ []) 2 tt k)
+  no-timer out (Aborting w) k = absurd (miss (0 ∷ 4 ∷ []) 3 tt k)
+  no-timer out Unknown k = refl
 
 pub no-commit-ack : (p : ℕ) (x : CoordinatorPhase) → OneOf (0 ∷ 1 ∷ 3 ∷ 4 ∷ []) (tagOf the-type x) → onAck commit p (coordinatorIn x) ≡ none
 unfolding onAck ackedIf sameOutcome

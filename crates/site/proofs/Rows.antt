@@ -1,12 +1,11 @@
 -- What the numbers of an outcome do in a row. Assumes nothing.
 use mathlib.Core.Path.{_≡_, refl, sym}
-use mathlib.Core.Bool.{Bool, true, false, not}
+use mathlib.Core.Bool.{Bool, true, false}
 use mathlib.Core.Logic.{_⊎_, inl, inr}
 use mathlib.Core.List.{List, [], _∷_, _++_, append-nil}
 use Prim.Native.Nat.{ℕ, _-_}
 use lib.ListN.{take}
-use borrow.Author.Tests.{ne-eqb}
-use Rattle.codec.specs.Sets.{empty, only}
+use Rattle.codec.specs.Sets.{only}
 use Rattle.codec.specs.Records.{lengths, lengthOf}
 use Rattle.site.specs.Presumption.{Outcome, commit, abort}
 use Rattle.site.specs.Step.{tell, Effect, append, enter, send, given}
@@ -15,8 +14,7 @@ use Rattle.site.specs.Coordinator.{endRecord, inOrder, tellAll}
 use Rattle.site.specs.Participant.{outcomeRecord}
 use Rattle.site.specs.Numbers.{appending, outcomeNumber, entryOf}
 use Rattle.site.specs.Answers.{closing}
-use Rattle.site.specs.Inside.{Numbered}
-use Rattle.site.specs.laws.Sets.{ordered-none}
+use Rattle.site.specs.laws.Sets.{Numbered, ordered-none}
 use Rattle.site.proofs.Sent.{ordered-one}
 
 pub entering-outcome : (o : Outcome) → entryOf (outcomeNumber o) ≡ enter o ∷ []
@@ -46,9 +44,9 @@ module _ (g : Cohort) where
   unfolding tellAll inOrder
   tell-one o p h = rw (ordered-one (owing g o) p h)
 
-  -- at restart commit is told to all, if an ack is owed
-  pub tell-owing : (w to : ℕ) → ((w ≡ 0) × (to ≡ 0)) ⊎ ((w ≡ 0 → ⊥) × (to ≡ g .members))
-      → tellAll g commit to ≡ given (not (empty w)) (tellAll g commit (g .members))
-  unfolding tellAll inOrder given empty
-  tell-owing w to (inl h) = rw (h .0, h .1, ordered-none (owing g commit))
-  tell-owing w to (inr h) = rw (ne-eqb w 0 (h .0), h .1)
+  -- at restart an outcome is told to all, or to nobody
+  pub tell-if : (o : Outcome) (b : Bool) (to : ℕ) → ((b ≡ true) × (to ≡ g .members)) ⊎ ((b ≡ false) × (to ≡ 0))
+      → tellAll g o to ≡ given b (tellAll g o (g .members))
+  unfolding tellAll inOrder given
+  tell-if o b to (inl h) = rw (h .0, h .1)
+  tell-if o b to (inr h) = rw (h .0, h .1, ordered-none (owing g o))

@@ -1,22 +1,21 @@
 -- Messages sent to a set. Assumes nothing.
 use mathlib.Core.Path.{_≡_, refl, ap, ap₂, sym, subst, _∙_}
 use mathlib.Core.Bool.{Bool, true, false, cond, not}
-use mathlib.Core.Logic.{_⊎_, inl, inr}
 use mathlib.Core.List.{List, [], _∷_, _++_, map}
-use Prim.Native.Nat.{ℕ, suc, _-_, _<_}
+use Prim.Native.Nat.{ℕ, suc, _-_, _<_, _≤_}
 use native.Mathlib.Omega.{arith}
 use lib.ListN.{getD}
 use lib.Dec.{leb}
+use borrow.Author.Tests.{le-leb}
 use Rattle.codec.specs.Lists.{select, same}
 use Rattle.codec.specs.Sets.{participants, member, listed, bits, those, only}
 use Rattle.codec.specs.laws.Tests.{below-at, true-of, same-list}
 use Rattle.codec.specs.laws.Members.{none-in, numbered, member-participant}
 use Rattle.site.specs.Presumption.{commit, abort}
-use Rattle.site.specs.Step.{Message, prepare, voteYes, voteNo, tell, ack, messages, messageKind, send, given}
+use Rattle.site.specs.Step.{Message, prepare, voteYes, voteNo, readOnly, tell, ack, messages, messageKind, send, given}
 use Rattle.site.specs.Coordinator.{inTurn, ordered}
 use Rattle.site.specs.Answers.{sending}
-use Rattle.site.specs.laws.Sets.{ordered-none}
-use Rattle.site.specs.Inside.{Numbered}
+use Rattle.site.specs.laws.Sets.{Numbered, ordered-none}
 
 -- ---- the order
 
@@ -61,11 +60,12 @@ member-numbered p m h e = numbered p (member-participant p m h e)
 -- ---- messages by kind
 
 -- a kind is in range, and its message is the one with that kind
-pub kind-known : (m : Message) → (leb (messageKind m) 6 ≡ true) × (getD messages (messageKind m) prepare ≡ m)
+pub kind-known : (m : Message) → (leb (messageKind m) 7 ≡ true) × (getD messages (messageKind m) prepare ≡ m)
 unfolding messageKind messages
 kind-known prepare = (refl, refl)
 kind-known voteYes = (refl, refl)
 kind-known voteNo = (refl, refl)
+kind-known readOnly = (refl, refl)
 kind-known (tell commit) = (refl, refl)
 kind-known (tell abort) = (refl, refl)
 kind-known (ack commit) = (refl, refl)
@@ -85,9 +85,7 @@ unfolding given
 own-sent-if m p true h = own-sent m p h
 own-sent-if m p false h = sending-kind m 0 0 ∙ ap (map (send m)) (ordered-none 0)
 
--- a vote, by its number
-pub vote-sent : (b : Bool) (kind p : ℕ) → Numbered p → ((b ≡ true) × (kind ≡ 1)) ⊎ ((b ≡ false) × (kind ≡ 2))
-    → sending kind 0 (only p) ≡ send (cond b voteYes voteNo) p ∷ []
-unfolding messageKind
-vote-sent b kind p h (inl v) = rw (v .0, v .1) (own-sent voteYes p h)
-vote-sent b kind p h (inr v) = rw (v .0, v .1) (own-sent voteNo p h)
+-- by its number
+pub number-sent : (kind p : ℕ) → kind ≤ 7 → Numbered p → sending kind 0 (only p) ≡ send (getD messages kind prepare) p ∷ []
+unfolding sending given
+number-sent kind p k h = rw (le-leb kind 7 k, ordered-one 0 p h)

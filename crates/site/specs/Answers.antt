@@ -54,6 +54,10 @@ participantIn participant.Committed = participant-step.decided outcomes.commit
 participantIn participant.Aborted = participant-step.decided outcomes.abort
 participantIn participant.Unknown = participant-step.unknown
 
+-- its phase and the set taken out
+abbrev pub coordinatorStateIn : Coordinator → coordinator-step.Coordinator
+coordinatorStateIn c = record { phase = coordinatorIn (c .phase); takenOut = c .«taken_out» }
+
 abbrev pub cohortIn : Coordinator → Cohort
 cohortIn c = record { members = c .members; presumeCommit = c .«presume_commit» }
 
@@ -65,7 +69,7 @@ hasKind kinds k = eqb (kinds / 2 ^ k % 2) 1
 -- There is no message where the set is empty. The order of sends is the definitions' own, `ordered`: whoever performs a row keeps to it
 
 unfoldable pub sending : ℕ → ℕ → ℕ → List Effect
-sending kind owing to = given (leb kind 6) (map (send (getD messages kind prepare)) (ordered owing to))
+sending kind owing to = given (leb kind 7) (map (send (getD messages kind prepare)) (ordered owing to))
 
 -- a record has as many of two fields as its kind
 abbrev pub fieldsBy : ℕ → ℕ → ℕ → List ℕ
@@ -81,17 +85,17 @@ effectsIn e =
     ++ (given (e .forced) (force ∷ []) ++ (numbers.entryOf (e .entered) ++ closing (e .last) (sending (e .message) (e .owing) (e .to))))
 
 abbrev pub summaryIn : Summary → numbers.Summary
-summaryIn x = record { appended = x .appended; forced = x .forced; entered = x .entered; message = x .message; to = x .to }
+summaryIn x = record { first = x .first; last = x .last; forced = x .forced; entered = x .entered; message = x .message; to = x .to }
 
 -- ---- rows and answers
 
-abbrev pub coordinatorRowIn : CoordinatorRow → Row coordinator-step.CoordinatorPhase
-coordinatorRowIn r = record { effects = effectsIn (r .effects); phase = coordinatorIn (r .phase) }
+abbrev pub coordinatorRowIn : CoordinatorRow → Row coordinator-step.Coordinator
+coordinatorRowIn r = record { effects = effectsIn (r .effects); phase = record { phase = coordinatorIn (r .phase); takenOut = r .«taken_out» } }
 
 abbrev pub participantRowIn : ParticipantRow → Row participant-step.ParticipantPhase
 participantRowIn r = record { effects = effectsIn (r .effects); phase = participantIn (r .phase) }
 
-abbrev pub coordinatorAnswerIn : CoordinatorAnswer → Answer coordinator-step.CoordinatorPhase
+abbrev pub coordinatorAnswerIn : CoordinatorAnswer → Answer coordinator-step.Coordinator
 coordinatorAnswerIn (coordinator-answer.Row r) = row (coordinatorRowIn r)
 coordinatorAnswerIn coordinator-answer.NoRow = noRow
 coordinatorAnswerIn coordinator-answer.Refused = refused
@@ -103,8 +107,8 @@ participantAnswerIn participant-answer.Refused = refused
 
 -- ---- the call's arguments
 
-abbrev pub argumentsIn : ℕ → ℕ → ℕ → ℕ → ℕ → ℕ → ℕ → ℕ → ℕ → numbers.Arguments
-argumentsIn s k t p q ph w m pc =
+abbrev pub argumentsIn : ℕ → ℕ → ℕ → ℕ → ℕ → ℕ → ℕ → ℕ → ℕ → ℕ → ℕ → numbers.Arguments
+argumentsIn s k t p q ph w m pc mark out =
     record {
       site = s;
       kind = k;
@@ -114,4 +118,6 @@ argumentsIn s k t p q ph w m pc =
       phase = ph;
       waiting = w;
       cohort = record { members = m; presumeCommit = pc };
+      mark = mark;
+      takenOut = out;
     }

@@ -3,11 +3,11 @@ use Prim.Native.Nat.{ℕ}
 use mathlib.Core.Bool.{Bool, true, false, cond, not, _&&_}
 use mathlib.Core.List.{List, [], _∷_, _++_, map}
 use mathlib.Core.Option.{Option, none, some}
-use Rattle.codec.specs.Lists.{select}
-use Rattle.codec.specs.Sets.{member, empty, listed, without, both}
+use Rattle.codec.specs.Lists.{select, onlyIf}
+use Rattle.codec.specs.Sets.{member, empty, listed, only, without, both, either}
 use Rattle.site.specs.Presumption.{Outcome, commit, abort, sameOutcome, silence}
-use Rattle.site.specs.Cohort.{Cohort, masksOf, writesInit, presumptionOf, owing}
-use Rattle.site.specs.Step.{prepare, voteYes, voteNo, tell, ack, Input, begin, timer, received, Effect, append, force, enter, send, Row, given}
+use Rattle.site.specs.Cohort.{Cohort, remaining, masksOf, writesInit, presumptionOf, owing}
+use Rattle.site.specs.Step.{prepare, voteYes, voteNo, readOnly, tell, ack, Input, begin, timer, received, Effect, append, force, enter, send, Row, given}
 
 -- `initial` is 01's Open, `awaitingAcks commit` its Committing, `awaitingAcks abort` its Aborting. The number is the set still waited for.
 pub data CoordinatorPhase : Type 0 where
@@ -15,6 +15,11 @@ pub data CoordinatorPhase : Type 0 where
   collecting : ℕ → CoordinatorPhase
   awaitingAcks : Outcome → ℕ → CoordinatorPhase
   unknown : CoordinatorPhase
+
+-- the coordinator's part of a transaction: its phase, and the participants that it has taken out, which only looked
+pub record Coordinator : Type 0 where
+  pub phase : CoordinatorPhase
+  pub takenOut : ℕ
 
 -- the record that ends an outcome: CommitEnd, AbortEnd
 unfoldable pub endRecord : Outcome → ℕ
@@ -37,6 +42,8 @@ inTurn to = listed to
 unfoldable pub ordered : ℕ → ℕ → List ℕ
 ordered first to = select (λ p. member p first) (inTurn to) ++ select (λ p. not (member p first)) (inTurn to)
 
+-- ---- rows from parts, of a cohort: as opened, that remains, or that a record tells
+
 module _ (g : Cohort) where
   -- the order of sending an outcome: first those that owe an ack for it
   unfoldable pub inOrder : Outcome → ℕ → List ℕ
@@ -45,22 +52,13 @@ module _ (g : Cohort) where
   unfoldable pub tellAll : Outcome → ℕ → List Effect
   tellAll o to = map (send (tell o)) (inOrder o to)
 
-  -- ---- begin
-
-  unfoldable pub preparing : Row CoordinatorPhase
-  preparing =
+  -- begin; whether Init is written
+  unfoldable pub preparing : Bool → Row CoordinatorPhase
+  preparing init =
       record {
-        effects = given (writesInit g) (append 1 (masksOf g) ∷ force ∷ []) ++ map (send prepare) (inTurn (g .members));
+        effects = given init (append 1 (masksOf g) ∷ force ∷ []) ++ map (send prepare) (inTurn (g .members));
         phase = collecting (g .members);
       }
-
-  unfoldable pub onBegin : CoordinatorPhase → Option (Row CoordinatorPhase)
-  onBegin initial = some preparing
-  onBegin (collecting w) = none
-  onBegin (awaitingAcks o w) = none
-  onBegin unknown = none
-
-  -- ---- Yes
 
   -- all have voted Yes
   unfoldable pub committing : Row CoordinatorPhase
@@ -70,39 +68,70 @@ module _ (g : Cohort) where
         phase = untilAcked commit (owing g commit);
       }
 
-  -- votes of w are missing; whether none is
-  unfoldable pub voted : Bool → ℕ → Row CoordinatorPhase
-  voted true w = committing
-  voted false w = record { effects = []; phase = collecting w }
-
-  unfoldable pub onYes : ℕ → CoordinatorPhase → Option (Row CoordinatorPhase)
-  onYes p initial = none
-  onYes p (collecting w) = some (voted (empty (without p w)) (without p w))
-  onYes p (awaitingAcks o w) = some (telling o p (awaitingAcks o w))
-  onYes p unknown = some (telling (silence (presumptionOf g p)) p unknown)
-
-  -- ---- No, and the timer
-
   -- abort, told to the set `to`. The order is enter, send, append here: AbortEnd if none is awaited and there is an Init.
-  unfoldable pub aborting : ℕ → Row CoordinatorPhase
-  aborting to =
+  unfoldable pub aborting : Bool → ℕ → Row CoordinatorPhase
+  aborting init to =
       let w = both to (owing g abort) in
       record {
-        effects = enter abort ∷ tellAll abort to ++ given (empty w && writesInit g) (append 4 [] ∷ []);
+        effects = enter abort ∷ tellAll abort to ++ given (empty w && init) (append 4 [] ∷ []);
         phase = untilAcked abort w;
       }
 
+  -- restart: an outcome is entered again; whether it is told to all. Acks are awaited
+  unfoldable pub resuming : Outcome → Bool → Row CoordinatorPhase
+  resuming o tells = record { effects = enter o ∷ given tells (tellAll o (g .members)); phase = untilAcked o (owing g o) }
+
+unfoldable pub onBegin : Cohort → CoordinatorPhase → Option (Row CoordinatorPhase)
+onBegin g initial = some (preparing g (writesInit g))
+onBegin g (collecting w) = none
+onBegin g (awaitingAcks o w) = none
+onBegin g unknown = none
+
+-- ---- votes and the timer: of the cohort g as opened the set `out` is taken out
+
+module _ (g : Cohort) (out : ℕ) where
+  -- ---- Yes and the read-only vote
+
+  -- votes of w are missing. Whether nobody remains: nothing is entered, and AbortEnd is appended exactly if Init was. Else whether no vote is missing
+  unfoldable pub voted : Bool → Bool → ℕ → Row CoordinatorPhase
+  voted true b w = record { effects = given (writesInit g) (append 4 [] ∷ []); phase = unknown }
+  voted false true w = committing (remaining g out)
+  voted false false w = record { effects = []; phase = collecting w }
+
+  -- a vote came, and votes of w are still missing
+  unfoldable pub counting : ℕ → Row CoordinatorPhase
+  counting w = voted (empty (remaining g out .members)) (empty w) w
+
+  -- a participant taken out has no more rows in Collecting
+  unfoldable pub onYes : ℕ → CoordinatorPhase → Option (Row CoordinatorPhase)
+  onYes p initial = none
+  onYes p (collecting w) = onlyIf (not (member p out)) (counting (without p w))
+  onYes p (awaitingAcks o w) = some (telling o p (awaitingAcks o w))
+  onYes p unknown = some (telling (silence (presumptionOf g p)) p unknown)
+
+  -- ---- No, and the timer: those that remain are told
+
   unfoldable pub onNo : ℕ → CoordinatorPhase → Option (Row CoordinatorPhase)
   onNo p initial = none
-  onNo p (collecting w) = some (aborting (without p (g .members)))
+  onNo p (collecting w) = onlyIf (not (member p out)) (aborting (remaining g out) (writesInit g) (without p (remaining g out .members)))
   onNo p (awaitingAcks o w) = none
   onNo p unknown = none
 
   unfoldable pub coordinatorTimer : CoordinatorPhase → Option (Row CoordinatorPhase)
   coordinatorTimer initial = none
-  coordinatorTimer (collecting w) = some (aborting (g .members))
-  coordinatorTimer (awaitingAcks o w) = some (record { effects = tellAll o w; phase = awaitingAcks o w })
+  coordinatorTimer (collecting w) = some (aborting (remaining g out) (writesInit g) (remaining g out .members))
+  coordinatorTimer (awaitingAcks o w) = some (record { effects = tellAll g o w; phase = awaitingAcks o w })
   coordinatorTimer unknown = none
+
+-- a read-only vote of p, which is taken out from now on
+unfoldable pub takingOut : ℕ → ℕ → ℕ
+takingOut p out = either out (only p)
+
+unfoldable pub onReadOnly : Cohort → ℕ → ℕ → CoordinatorPhase → Option (Row CoordinatorPhase)
+onReadOnly g out p initial = none
+onReadOnly g out p (collecting w) = onlyIf (not (member p out)) (counting g (takingOut p out) (without p w))
+onReadOnly g out p (awaitingAcks o w) = none
+onReadOnly g out p unknown = none
 
 -- ---- CommitAck, AbortAck
 
@@ -122,28 +151,36 @@ onAck a p (collecting w) = none
 onAck a p (awaitingAcks o w) = ackedIf (sameOutcome a o) o (without p w)
 onAck a p unknown = none
 
+-- ---- the step: `none` is no row
+
+-- a row of the coordinator, with the set taken out after it
+unfoldable pub leaving : ℕ → Row CoordinatorPhase → Row Coordinator
+leaving out r = record { effects = r .effects; phase = record { phase = r .phase; takenOut = out } }
+
+unfoldable pub leavingIf : ℕ → Option (Row CoordinatorPhase) → Option (Row Coordinator)
+leavingIf out none = none
+leavingIf out (some r) = some (leaving out r)
+
 module _ (g : Cohort) where
-  -- ---- the step: `none` is no row
-
-  unfoldable pub coordinatorStep : Input → CoordinatorPhase → Option (Row CoordinatorPhase)
-  coordinatorStep begin c = onBegin g c
-  coordinatorStep timer c = coordinatorTimer g c
+  -- the set taken out stays as it is, but for a read-only vote
+  unfoldable pub coordinatorStep : Input → Coordinator → Option (Row Coordinator)
+  coordinatorStep begin c = leavingIf (c .takenOut) (onBegin g (c .phase))
+  coordinatorStep timer c = leavingIf (c .takenOut) (coordinatorTimer g (c .takenOut) (c .phase))
   coordinatorStep (received prepare p) c = none
-  coordinatorStep (received voteYes p) c = onYes g p c
-  coordinatorStep (received voteNo p) c = onNo g p c
+  coordinatorStep (received voteYes p) c = leavingIf (c .takenOut) (onYes g (c .takenOut) p (c .phase))
+  coordinatorStep (received voteNo p) c = leavingIf (c .takenOut) (onNo g (c .takenOut) p (c .phase))
+  coordinatorStep (received readOnly p) c = leavingIf (takingOut p (c .takenOut)) (onReadOnly g (c .takenOut) p (c .phase))
   coordinatorStep (received (tell o) p) c = none
-  coordinatorStep (received (ack o) p) c = onAck o p c
+  coordinatorStep (received (ack o) p) c = leavingIf (c .takenOut) (onAck o p (c .phase))
 
-  -- ---- restart
+-- ---- restart: by the masks of the record, and nobody is taken out
 
-  -- whether Commit stands without CommitEnd; whether Init stands without 2 or 4
-  unfoldable pub restartFrom : Bool → Bool → Row CoordinatorPhase
-  restartFrom true i =
-      let w = owing g commit in
-      record { effects = enter commit ∷ given (not (empty w)) (tellAll g commit (g .members)); phase = untilAcked commit w }
-  restartFrom false true = record { effects = enter abort ∷ tellAll g abort (g .members); phase = untilAcked abort (owing g abort) }
-  restartFrom false false = record { effects = []; phase = unknown }
+-- whether Commit stands without CommitEnd; whether Init stands without 2 or 4; the cohort that the record of a kind tells
+unfoldable pub restartFrom : Bool → Bool → (ℕ → Cohort) → Row CoordinatorPhase
+restartFrom true i told = resuming (told 2) commit (not (empty (owing (told 2) commit)))
+restartFrom false true told = resuming (told 1) abort true
+restartFrom false false told = record { effects = []; phase = unknown }
 
-  -- by the kinds of record that the stable log has of the transaction
-  unfoldable pub coordinatorRestart : (ℕ → Bool) → Row CoordinatorPhase
-  coordinatorRestart has = restartFrom (has 2 && not (has 3)) (has 1 && not (has 2) && not (has 4))
+-- by the kinds of record that the stable log has of the transaction, and the masks in them
+unfoldable pub coordinatorRestart : (ℕ → Bool) → (ℕ → Cohort) → Row Coordinator
+coordinatorRestart has told = leaving 0 (restartFrom (has 2 && not (has 3)) (has 1 && not (has 2) && not (has 4)) told)

@@ -1,26 +1,18 @@
 -- What the program's inner functions promise each other. No reader has to believe it: proofs/ shows what it has to do with 01.
-use Prim.Native.Nat.{ℕ, _≤_}
+use Prim.Native.Nat.{ℕ}
 use mathlib.Core.Bool.{cond, _&&_}
-use mathlib.Core.List.{List, _∷_}
+use mathlib.Core.List.{List}
 use lib.Dec.{eqb}
 use Rattle.site.specs.Presumption.{Outcome}
-use Rattle.site.specs.Cohort.{Cohort, presumptionOf, owing}
-use Rattle.site.specs.Step.{enter, Row, answered}
-use Rattle.site.specs.Coordinator.{CoordinatorPhase, untilAcked, tellAll}
+use Rattle.site.specs.Cohort.{Cohort, presumptionOf}
+use Rattle.site.specs.Step.{Row, answered}
+use Rattle.site.specs.Coordinator.{CoordinatorPhase, tellAll}
 use Rattle.site.specs.Participant.{participantStep}
 use Rattle.site.specs.Numbers.{Arguments, participantFrom, inputOf, receives, isMember, inRangeAt, refusal, participantResult, stepAt}
 
 -- an outcome told to a set and nothing else, the phase as it is
 abbrev pub toldTo : Cohort → Outcome → ℕ → CoordinatorPhase → Row CoordinatorPhase
 toldTo g o to c = record { effects = tellAll g o to; phase = c }
-
--- at restart: an outcome entered again, and told to a set
-abbrev pub resuming : Cohort → Outcome → ℕ → Row CoordinatorPhase
-resuming g o to = record { effects = enter o ∷ tellAll g o to; phase = untilAcked o (owing g o) }
-
--- a participant's number
-abbrev pub Numbered : ℕ → Type 0
-Numbered p = (1 ≤ p) × (p ≤ 8)
 
 -- the step on numbers at the coordinator, and at participant p, once the other arguments have passed
 unfoldable pub coordinatorNumbers : Arguments → List ℕ
@@ -30,7 +22,9 @@ unfoldable pub participantNumbers : Arguments → List ℕ
 participantNumbers a =
     cond (receives 1 (a .kind) && isMember a)
     (participantResult (a .phase)
-    (answered (participantStep (presumptionOf (a .cohort) (a .participant)) (a .participant) (inputOf (a .kind) (a .participant)) (participantFrom (a .phase)))))
+    (answered
+    (participantStep (presumptionOf (a .cohort) (a .participant)) (a .participant) (eqb (a .mark) 1) (inputOf (a .kind) (a .participant))
+    (participantFrom (a .phase)))))
     refusal
 
 -- ---- a row up to where power goes

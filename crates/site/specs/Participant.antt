@@ -4,7 +4,7 @@ use mathlib.Core.Bool.{Bool, true, false}
 use mathlib.Core.List.{List, [], _∷_, _++_}
 use mathlib.Core.Option.{Option, none, some}
 use Rattle.site.specs.Presumption.{Outcome, commit, abort, sameOutcome, Presumption, acks, presumptionNumber}
-use Rattle.site.specs.Step.{Message, prepare, voteYes, voteNo, tell, ack, Input, begin, timer, received, Effect, append, force, enter, send, Row, given}
+use Rattle.site.specs.Step.{Message, prepare, voteYes, voteNo, readOnly, tell, ack, Input, begin, timer, received, Effect, append, force, enter, send, Row, given}
 
 -- `decided commit` is 01's Committed, `decided abort` its Aborted.
 pub data ParticipantPhase : Type 0 where
@@ -27,21 +27,27 @@ module _ (presumption : Presumption) (p : ℕ) where
   unfoldable pub promising : Row ParticipantPhase
   promising = record { effects = append 5 (presumptionNumber presumption ∷ []) ∷ force ∷ send voteYes p ∷ []; phase = prepared }
 
-  unfoldable pub onPrepare : ParticipantPhase → Option (Row ParticipantPhase)
-  onPrepare working = some promising
-  onPrepare prepared = some (voting prepared voteYes)
-  onPrepare (decided commit) = none
-  onPrepare (decided abort) = some (voting (decided abort) voteNo)
-  onPrepare unknown = some (voting unknown voteNo)
+  -- one that only looked (it is marked) sends a read-only vote, writes nothing and is Unknown
+  unfoldable pub firstVote : Bool → Row ParticipantPhase
+  firstVote true = voting unknown readOnly
+  firstVote false = promising
+
+  -- the mark means something in Working alone
+  unfoldable pub onPrepare : Bool → ParticipantPhase → Option (Row ParticipantPhase)
+  onPrepare mark working = some (firstVote mark)
+  onPrepare mark prepared = some (voting prepared voteYes)
+  onPrepare mark (decided commit) = none
+  onPrepare mark (decided abort) = some (voting (decided abort) voteNo)
+  onPrepare mark unknown = some (voting unknown voteNo)
 
   -- ---- Commit, Abort
 
   unfoldable pub acking : Outcome → List Effect
   acking o = given (acks presumption o) (send (ack o) p ∷ [])
 
-  -- the outcome is new
-  unfoldable pub finish : Outcome → Row ParticipantPhase
-  finish o = record { effects = append (outcomeRecord o) [] ∷ given (acks presumption o) (force ∷ []) ++ enter o ∷ acking o; phase = decided o }
+  -- the outcome is new; whether its record is forced
+  unfoldable pub finish : Bool → Outcome → Row ParticipantPhase
+  finish forces o = record { effects = append (outcomeRecord o) [] ∷ given forces (force ∷ []) ++ enter o ∷ acking o; phase = decided o }
 
   -- the outcome is not new: the phase stays
   unfoldable pub acknowledging : Outcome → ParticipantPhase → Row ParticipantPhase
@@ -54,8 +60,8 @@ module _ (presumption : Presumption) (p : ℕ) where
 
   unfoldable pub onTell : Outcome → ParticipantPhase → Option (Row ParticipantPhase)
   onTell commit working = none
-  onTell abort working = some (finish abort)
-  onTell o prepared = some (finish o)
+  onTell abort working = some (finish (acks presumption abort) abort)
+  onTell o prepared = some (finish (acks presumption o) o)
   onTell o (decided d) = ackingIf (sameOutcome o d) o
   onTell o unknown = some (acknowledging o unknown)
 
@@ -67,16 +73,17 @@ module _ (presumption : Presumption) (p : ℕ) where
   participantTimer (decided o) = none
   participantTimer unknown = none
 
-  -- ---- the step: `none` is no row
+  -- ---- the step: `none` is no row. Whether the participant is marked as one that only looked
 
-  unfoldable pub participantStep : Input → ParticipantPhase → Option (Row ParticipantPhase)
-  participantStep begin x = none
-  participantStep timer x = participantTimer x
-  participantStep (received prepare q) x = onPrepare x
-  participantStep (received voteYes q) x = none
-  participantStep (received voteNo q) x = none
-  participantStep (received (tell o) q) x = onTell o x
-  participantStep (received (ack o) q) x = none
+  unfoldable pub participantStep : Bool → Input → ParticipantPhase → Option (Row ParticipantPhase)
+  participantStep mark begin x = none
+  participantStep mark timer x = participantTimer x
+  participantStep mark (received prepare q) x = onPrepare mark x
+  participantStep mark (received voteYes q) x = none
+  participantStep mark (received voteNo q) x = none
+  participantStep mark (received readOnly q) x = none
+  participantStep mark (received (tell o) q) x = onTell o x
+  participantStep mark (received (ack o) q) x = none
 
   -- ---- restart
 

@@ -5,15 +5,15 @@ use mathlib.Core.List.{List, [], _∷_}
 use mathlib.Core.Option.{Option, none, some}
 use Rattle.site.specs.Presumption.{Outcome, commit, abort}
 
--- `voteYes` is 01's Yes, `voteNo` its No, `tell` its Commit and Abort, `ack` its CommitAck and AbortAck.
+-- `voteYes` is 01's Yes, `voteNo` its No, `tell` its Commit and Abort, `ack` its CommitAck and AbortAck; `readOnly` is 02's read-only vote.
 -- A message is of one participant, to which or from which it goes.
 pub data Message : Type 0 where
-  prepare voteYes voteNo : Message
+  prepare voteYes voteNo readOnly : Message
   tell ack : Outcome → Message
 
 -- by kind number
 unfoldable pub messages : List Message
-messages = prepare ∷ voteYes ∷ voteNo ∷ tell commit ∷ tell abort ∷ ack commit ∷ ack abort ∷ []
+messages = prepare ∷ voteYes ∷ voteNo ∷ tell commit ∷ tell abort ∷ ack commit ∷ ack abort ∷ readOnly ∷ []
 
 unfoldable pub messageKind : Message → ℕ
 messageKind prepare = 0
@@ -23,6 +23,7 @@ messageKind (tell commit) = 3
 messageKind (tell abort) = 4
 messageKind (ack commit) = 5
 messageKind (ack abort) = 6
+messageKind readOnly = 7
 
 -- the site that coordinates participant p
 unfoldable pub coordinatorOf : ℕ → ℕ
@@ -33,6 +34,7 @@ unfoldable pub receiver : Message → ℕ → ℕ
 receiver prepare p = p
 receiver voteYes p = coordinatorOf p
 receiver voteNo p = coordinatorOf p
+receiver readOnly p = coordinatorOf p
 receiver (tell o) p = p
 receiver (ack o) p = coordinatorOf p
 

@@ -9,10 +9,12 @@ use crate::record_kinds::has;
 use codec::message::Parts;
 use codec::record::Record;
 use codec::sets::both;
+use codec::sets::either;
 use codec::sets::member;
 use codec::sets::minus;
 use codec::sets::only;
 use codec::sets::without;
+ghost use Prim.Native.Nat.{ℕ, _≤_, _<_};
 ghost use mathlib.Core.Path.{_≡_};
 ghost use mathlib.Core.Bool.{true};
 ghost use Rattle.codec.specs.Sets as sets;
@@ -20,19 +22,22 @@ ghost use Rattle.site.specs.Cohort as cohort;
 ghost use Rattle.site.specs.Coordinator as coordinator;
 ghost use Rattle.site.specs.Step.{answered};
 ghost use Rattle.site.specs.Numbers.{coordinatorAnswer};
-ghost use Rattle.site.specs.Answers.{outcomeIn, presumptionIn, coordinatorIn, cohortIn, hasKind, coordinatorRowIn, coordinatorAnswerIn};
-ghost use Rattle.site.specs.Inside.{toldTo, resuming};
+ghost use Rattle.site.specs.Answers.{outcomeIn, presumptionIn, coordinatorIn, coordinatorStateIn, cohortIn, hasKind, coordinatorRowIn, coordinatorAnswerIn};
+ghost use Rattle.site.specs.Inside.{toldTo};
 
-// One transaction (the definitions' `Coordinator` is its phase alone): its phase, its members, and those of them that presume commit (01: PC).
+// One transaction (the definitions' `Coordinator` is its phase and the set taken out): its phase, its members and those of them that
+// presume commit (01: PC), both as opened, and the set taken out: those that only looked.
 pub struct Coordinator {
     pub phase: CoordinatorPhase,
     pub members: u8,
     pub presume_commit: u8,
+    pub taken_out: u8,
 }
 
 pub struct CoordinatorRow {
     pub effects: Effects,
     pub phase: CoordinatorPhase,
+    pub taken_out: u8,
 }
 
 // What a step gives. `NoRow` is not a row without effects: the joint run tells them apart.
@@ -43,8 +48,8 @@ pub enum CoordinatorAnswer {
 }
 
 // Acks of `waiting` are missing; if none is, the end record.
-fn acked(outcome: Outcome, waiting: u8) -> CoordinatorRow
-    ensures { λ r. ⌜ coordinatorRowIn r ≡ coordinator.acked (outcomeIn outcome) (sets.empty waiting) waiting ⌝ }
+fn acked(outcome: Outcome, waiting: u8, taken_out: u8) -> CoordinatorRow
+    ensures { λ r. ⌜ coordinatorRowIn r ≡ coordinator.leaving «taken_out» (coordinator.acked (outcomeIn outcome) (sets.empty waiting) waiting) ⌝ }
 {
     if waiting == 0 {
         let mut effects = Effects::NONE;
@@ -52,11 +57,13 @@ fn acked(outcome: Outcome, waiting: u8) -> CoordinatorRow
         return CoordinatorRow {
             effects: effects,
             phase: CoordinatorPhase::Unknown,
+            taken_out: taken_out,
         };
     }
     CoordinatorRow {
         effects: Effects::NONE,
         phase: CoordinatorPhase::awaiting(outcome, waiting),
+        taken_out: taken_out,
     }
 }
 
@@ -80,6 +87,20 @@ impl Coordinator {
         }
     }
 
+    // The cohort without those taken out; phase and set stay.
+    pub fn remaining(self) -> Coordinator
+        ensures { λ r. ⌜ (cohortIn r ≡ cohort.remaining (cohortIn self) (self .«taken_out»)) × (r .«taken_out» ≡ self .«taken_out») ⌝ }
+    {
+        let phase = self.phase;
+        let taken_out = self.taken_out;
+        Coordinator {
+            phase: phase,
+            members: minus(self.members, taken_out),
+            presume_commit: minus(self.presume_commit, taken_out),
+            taken_out: taken_out,
+        }
+    }
+
     // Whether Init is written at begin.
     fn writes_init(self) -> bool
         ensures { λ r. ⌜ r ≡ cohort.writesInit (cohortIn self) ⌝ }
@@ -88,7 +109,7 @@ impl Coordinator {
     }
 
     fn preparing(self) -> CoordinatorRow
-        ensures { λ r. ⌜ coordinatorRowIn r ≡ coordinator.preparing (cohortIn self) ⌝ }
+        ensures { λ r. ⌜ coordinatorRowIn r ≡ coordinator.leaving (self .«taken_out») (coordinator.preparing (cohortIn self) (cohort.writesInit (cohortIn self))) ⌝ }
     {
         let members = self.members;
         let forced = self.writes_init();
@@ -105,12 +126,13 @@ impl Coordinator {
                 last: 0,
             },
             phase: CoordinatorPhase::Collecting(members),
+            taken_out: self.taken_out,
         }
     }
 
     // All have voted Yes.
     fn committing(self) -> CoordinatorRow
-        ensures { λ r. ⌜ coordinatorRowIn r ≡ coordinator.committing (cohortIn self) ⌝ }
+        ensures { λ r. ⌜ coordinatorRowIn r ≡ coordinator.leaving (self .«taken_out») (coordinator.committing (cohortIn self)) ⌝ }
     {
         let awaited = self.owing(Outcome::Commit);
         CoordinatorRow {
@@ -126,29 +148,52 @@ impl Coordinator {
                 last: 0,
             },
             phase: CoordinatorPhase::until_acked(Outcome::Commit, awaited),
+            taken_out: self.taken_out,
         }
     }
 
-    // Votes of `waiting` are missing.
-    fn voted(self, waiting: u8) -> CoordinatorRow
-        ensures { λ r. ⌜ coordinatorRowIn r ≡ coordinator.voted (cohortIn self) (sets.empty waiting) waiting ⌝ }
+    // Nobody remains: nothing is entered, and AbortEnd is appended exactly if Init was.
+    fn deserted(self) -> CoordinatorRow
+        ensures { λ r. ⌜ coordinatorRowIn r ≡ coordinator.leaving (self .«taken_out») (coordinator.voted (cohortIn self) (self .«taken_out») true true 0) ⌝ }
     {
+        let mut effects = Effects::NONE;
+        effects.appended = if self.writes_init() {
+            Record::ABORT_END
+        } else {
+            0
+        };
+        CoordinatorRow {
+            effects: effects,
+            phase: CoordinatorPhase::Unknown,
+            taken_out: self.taken_out,
+        }
+    }
+
+    // A vote came, and votes of `waiting` are still missing.
+    fn counting(self, waiting: u8) -> CoordinatorRow
+        ensures { λ r. ⌜ coordinatorRowIn r ≡ coordinator.leaving (self .«taken_out») (coordinator.counting (cohortIn self) (self .«taken_out») waiting) ⌝ }
+    {
+        let rest = self.remaining();
+        if rest.members == 0 {
+            return self.deserted();
+        }
         if waiting == 0 {
-            return self.committing();
+            return rest.committing();
         }
         CoordinatorRow {
             effects: Effects::NONE,
             phase: CoordinatorPhase::Collecting(waiting),
+            taken_out: self.taken_out,
         }
     }
 
-    // Abort, told to the set `to`.
-    fn aborting(self, to: u8) -> CoordinatorRow
-        ensures { λ r. ⌜ coordinatorRowIn r ≡ coordinator.aborting (cohortIn self) to ⌝ }
+    // Abort, told to the set `to`; whether Init was written.
+    fn aborting(self, init: bool, to: u8) -> CoordinatorRow
+        ensures { λ r. ⌜ coordinatorRowIn r ≡ coordinator.leaving (self .«taken_out») (coordinator.aborting (cohortIn self) init to) ⌝ }
     {
         let owing = self.owing(Outcome::Abort);
         let waiting = both(to, owing);
-        let ended = (waiting == 0) & self.writes_init();
+        let ended = (waiting == 0) & init;
         CoordinatorRow {
             effects: Effects {
                 appended: 0,
@@ -162,12 +207,13 @@ impl Coordinator {
                 last: if ended { Record::ABORT_END } else { 0 },
             },
             phase: CoordinatorPhase::until_acked(Outcome::Abort, waiting),
+            taken_out: self.taken_out,
         }
     }
 
     // An outcome told to a set, those first that owe an ack for it, and nothing else; the phase stays.
     fn telling(self, outcome: Outcome, to: u8) -> CoordinatorRow
-        ensures { λ r. ⌜ coordinatorRowIn r ≡ toldTo (cohortIn self) (outcomeIn outcome) to (coordinatorIn (self .phase)) ⌝ }
+        ensures { λ r. ⌜ coordinatorRowIn r ≡ coordinator.leaving (self .«taken_out») (toldTo (cohortIn self) (outcomeIn outcome) to (coordinatorIn (self .phase))) ⌝ }
     {
         let mut effects = Effects::NONE;
         effects.message = outcome.message();
@@ -177,11 +223,12 @@ impl Coordinator {
         CoordinatorRow {
             effects: effects,
             phase: phase,
+            taken_out: self.taken_out,
         }
     }
 
     fn on_begin(self) -> CoordinatorAnswer
-        ensures { λ r. ⌜ coordinatorAnswerIn r ≡ answered (coordinator.onBegin (cohortIn self) (coordinatorIn (self .phase))) ⌝ }
+        ensures { λ r. ⌜ coordinatorAnswerIn r ≡ answered (coordinator.leavingIf (self .«taken_out») (coordinator.onBegin (cohortIn self) (coordinatorIn (self .phase)))) ⌝ }
     {
         let phase = self.phase;
         match phase {
@@ -192,15 +239,17 @@ impl Coordinator {
 
     fn on_yes(self, participant: u8) -> CoordinatorAnswer
         requires { ⌜ sets.member participant (self .members) ≡ true ⌝ }
-        ensures { λ r. ⌜ coordinatorAnswerIn r ≡ answered (coordinator.onYes (cohortIn self) participant (coordinatorIn (self .phase))) ⌝ }
+        ensures { λ r. ⌜ coordinatorAnswerIn r ≡ answered (coordinator.leavingIf (self .«taken_out») (coordinator.onYes (cohortIn self) (self .«taken_out») participant (coordinatorIn (self .phase)))) ⌝ }
     {
         let phase = self.phase;
         match phase {
             CoordinatorPhase::Open => CoordinatorAnswer::NoRow,
-            CoordinatorPhase::Collecting(w) => CoordinatorAnswer::Row(self.voted(without(
-                participant,
-                w,
-            ))),
+            CoordinatorPhase::Collecting(w) => {
+                if member(participant, self.taken_out) {
+                    return CoordinatorAnswer::NoRow;
+                }
+                CoordinatorAnswer::Row(self.counting(without(participant, w)))
+            }
             CoordinatorPhase::Committing(_) => CoordinatorAnswer::Row(self.telling(
                 Outcome::Commit,
                 only(participant),
@@ -217,24 +266,53 @@ impl Coordinator {
     }
 
     fn on_no(self, participant: u8) -> CoordinatorAnswer
-        ensures { λ r. ⌜ coordinatorAnswerIn r ≡ answered (coordinator.onNo (cohortIn self) participant (coordinatorIn (self .phase))) ⌝ }
+        ensures { λ r. ⌜ coordinatorAnswerIn r ≡ answered (coordinator.leavingIf (self .«taken_out») (coordinator.onNo (cohortIn self) (self .«taken_out») participant (coordinatorIn (self .phase)))) ⌝ }
     {
         let phase = self.phase;
         match phase {
-            CoordinatorPhase::Collecting(_) => CoordinatorAnswer::Row(self.aborting(without(
-                participant,
-                self.members,
-            ))),
+            CoordinatorPhase::Collecting(_) => {
+                if member(participant, self.taken_out) {
+                    return CoordinatorAnswer::NoRow;
+                }
+                let rest = self.remaining();
+                let told = without(participant, rest.members);
+                CoordinatorAnswer::Row(rest.aborting(self.writes_init(), told))
+            }
+            _ => CoordinatorAnswer::NoRow,
+        }
+    }
+
+    // The participant is taken out.
+    fn on_read_only(self, participant: u8) -> CoordinatorAnswer
+        ensures { λ r. ⌜ coordinatorAnswerIn r ≡ answered (coordinator.leavingIf (coordinator.takingOut participant (self .«taken_out»)) (coordinator.onReadOnly (cohortIn self) (self .«taken_out») participant (coordinatorIn (self .phase)))) ⌝ }
+    {
+        let phase = self.phase;
+        match phase {
+            CoordinatorPhase::Collecting(w) => {
+                if member(participant, self.taken_out) {
+                    return CoordinatorAnswer::NoRow;
+                }
+                let after = Coordinator {
+                    phase: phase,
+                    members: self.members,
+                    presume_commit: self.presume_commit,
+                    taken_out: either(self.taken_out, only(participant)),
+                };
+                CoordinatorAnswer::Row(after.counting(without(participant, w)))
+            }
             _ => CoordinatorAnswer::NoRow,
         }
     }
 
     fn on_timer(self) -> CoordinatorAnswer
-        ensures { λ r. ⌜ coordinatorAnswerIn r ≡ answered (coordinator.coordinatorTimer (cohortIn self) (coordinatorIn (self .phase))) ⌝ }
+        ensures { λ r. ⌜ coordinatorAnswerIn r ≡ answered (coordinator.leavingIf (self .«taken_out») (coordinator.coordinatorTimer (cohortIn self) (self .«taken_out») (coordinatorIn (self .phase)))) ⌝ }
     {
         let phase = self.phase;
         match phase {
-            CoordinatorPhase::Collecting(_) => CoordinatorAnswer::Row(self.aborting(self.members)),
+            CoordinatorPhase::Collecting(_) => {
+                let rest = self.remaining();
+                CoordinatorAnswer::Row(rest.aborting(self.writes_init(), rest.members))
+            }
             CoordinatorPhase::Committing(w) => CoordinatorAnswer::Row(self.telling(
                 Outcome::Commit,
                 w,
@@ -248,7 +326,7 @@ impl Coordinator {
     }
 
     fn on_ack(self, outcome: Outcome, participant: u8) -> CoordinatorAnswer
-        ensures { λ r. ⌜ coordinatorAnswerIn r ≡ answered (coordinator.onAck (outcomeIn outcome) participant (coordinatorIn (self .phase))) ⌝ }
+        ensures { λ r. ⌜ coordinatorAnswerIn r ≡ answered (coordinator.leavingIf (self .«taken_out») (coordinator.onAck (outcomeIn outcome) participant (coordinatorIn (self .phase)))) ⌝ }
     {
         let phase = self.phase;
         match outcome {
@@ -256,6 +334,7 @@ impl Coordinator {
                 CoordinatorPhase::Committing(w) => CoordinatorAnswer::Row(acked(
                     outcome,
                     without(participant, w),
+                    self.taken_out,
                 )),
                 _ => CoordinatorAnswer::NoRow,
             },
@@ -263,17 +342,19 @@ impl Coordinator {
                 CoordinatorPhase::Aborting(w) => CoordinatorAnswer::Row(acked(
                     outcome,
                     without(participant, w),
+                    self.taken_out,
                 )),
                 _ => CoordinatorAnswer::NoRow,
             },
         }
     }
 
-    // The step by the kind's number: a kind that the coordinator never receives, and a message of what is no member, is refused.
-    pub fn step(self, kind: u8, participant: u8) -> CoordinatorAnswer
-        ensures { λ r. ⌜ coordinatorAnswerIn r ≡ coordinatorAnswer (cohortIn self) kind participant (coordinatorIn (self .phase)) ⌝ }
+    // A message: one of what is no member, or of a kind that the coordinator never receives, is refused.
+    pub(crate) fn on_message(self, kind: u8, participant: u8) -> CoordinatorAnswer
+        requires { ⌜ kind < 16 ⌝ }
+        ensures { λ r. ⌜ coordinatorAnswerIn r ≡ coordinatorAnswer (cohortIn self) kind participant (coordinatorStateIn self) ⌝ }
     {
-        if !((BEGIN <= kind) | member(participant, self.members)) {
+        if !member(participant, self.members) {
             return CoordinatorAnswer::Refused;
         }
         match kind {
@@ -281,49 +362,69 @@ impl Coordinator {
             Parts::NO => self.on_no(participant),
             Parts::COMMIT_ACK => self.on_ack(Outcome::Commit, participant),
             Parts::ABORT_ACK => self.on_ack(Outcome::Abort, participant),
-            BEGIN => self.on_begin(),
-            TIMER => self.on_timer(),
-            Parts::PREPARE | Parts::COMMIT..=Parts::ABORT | 7..=15 | 18..=255 => {
-                CoordinatorAnswer::Refused
-            }
+            Parts::READ_ONLY => self.on_read_only(participant),
+            Parts::PREPARE | Parts::COMMIT..=Parts::ABORT | 8..=255 => CoordinatorAnswer::Refused,
         }
     }
 
-    // At restart: an outcome entered again, and told to the set `to`.
-    fn resuming(self, outcome: Outcome, to: u8) -> CoordinatorRow
-        ensures { λ r. ⌜ coordinatorRowIn r ≡ resuming (cohortIn self) (outcomeIn outcome) to ⌝ }
+    // Begin and the timer, which are no message.
+    pub(crate) fn on_own(self, kind: u8) -> CoordinatorAnswer
+        requires { ⌜ 16 ≤ kind ⌝ }
+        ensures { λ r. ⌜ ((p : ℕ) → coordinatorAnswerIn r ≡ coordinatorAnswer (cohortIn self) kind p (coordinatorStateIn self)) ⌝ }
+    {
+        match kind {
+            BEGIN => self.on_begin(),
+            TIMER => self.on_timer(),
+            0..=15 | 18..=255 => CoordinatorAnswer::Refused,
+        }
+    }
+
+    // The step by the kind's number: a kind that the coordinator never receives, and a message of what is no member, is refused.
+    pub fn step(self, kind: u8, participant: u8) -> CoordinatorAnswer
+        ensures { λ r. ⌜ coordinatorAnswerIn r ≡ coordinatorAnswer (cohortIn self) kind participant (coordinatorStateIn self) ⌝ }
+    {
+        if kind < BEGIN {
+            return self.on_message(kind, participant);
+        }
+        self.on_own(kind)
+    }
+
+    // At restart: an outcome entered again; whether it is told to all.
+    fn resuming(self, outcome: Outcome, tells: bool) -> CoordinatorRow
+        ensures { λ r. ⌜ coordinatorRowIn r ≡ coordinator.leaving 0 (coordinator.resuming (cohortIn self) (outcomeIn outcome) tells) ⌝ }
     {
         let owing = self.owing(outcome);
         let mut effects = Effects::NONE;
         effects.entered = outcome.number();
         effects.message = outcome.message();
-        effects.to = to;
+        effects.to = if tells { self.members } else { 0 };
         effects.owing = owing;
         CoordinatorRow {
             effects: effects,
             phase: CoordinatorPhase::until_acked(outcome, owing),
+            taken_out: 0,
         }
     }
 
-    // From the kinds of record that the stable log has of the transaction, bit k for kind k; the phase is not looked at.
+    // From the kinds of record that the stable log has of the transaction, bit k for kind k. The masks are those of the record from which
+    // it resumes: of Commit where there is one, else of Init. Phase and set taken out are not looked at.
     pub fn restart(self, records: u16) -> CoordinatorRow
-        ensures { λ r. ⌜ coordinatorRowIn r ≡ coordinator.coordinatorRestart (cohortIn self) (hasKind records) ⌝ }
+        ensures { λ r. ⌜ coordinatorRowIn r ≡ coordinator.coordinatorRestart (hasKind records) (λ k. cohortIn self) ⌝ }
     {
         let init = has(records, Record::INIT);
         let commit = has(records, Record::COMMIT);
         let commit_end = has(records, Record::COMMIT_END);
         let abort_end = has(records, Record::ABORT_END);
         if commit & !commit_end {
-            let owing = self.owing(Outcome::Commit);
-            let to = if owing == 0 { 0 } else { self.members };
-            return self.resuming(Outcome::Commit, to);
+            return self.resuming(Outcome::Commit, self.owing(Outcome::Commit) != 0);
         }
         if init & !commit & !abort_end {
-            return self.resuming(Outcome::Abort, self.members);
+            return self.resuming(Outcome::Abort, true);
         }
         CoordinatorRow {
             effects: Effects::NONE,
             phase: CoordinatorPhase::Unknown,
+            taken_out: 0,
         }
     }
 }

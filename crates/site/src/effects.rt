@@ -31,9 +31,10 @@ pub struct Effects {
     pub last: u8,
 }
 
-// The numbers of a row as firmware gets them.
+// The numbers of a row as firmware gets them: a record that is the first effect is appended first, any other last.
 pub struct Summary {
-    pub appended: u8,
+    pub first: u8,
+    pub last: u8,
     pub forced: u8,
     pub entered: u8,
     pub message: u8,
@@ -42,7 +43,8 @@ pub struct Summary {
 
 impl Summary {
     pub const NONE: Summary = Summary {
-        appended: 0,
+        first: 0,
+        last: 0,
         forced: 0,
         entered: 0,
         message: 0,
@@ -114,17 +116,31 @@ impl Effects {
         ensures { λ r. ⌜ summaryIn r ≡ summary (effectsIn self) ⌝ }
     {
         let to = self.to;
-        let none_first = self.appended == 0;
         let enters = self.entered <= Effects::ABORT_ENTERED;
         let sends = (to != 0) & (self.message <= Parts::LAST_KIND);
+        // A last record before which nothing stands.
+        let alone = if self.last == 0 {
+            false
+        } else {
+            let idle = (self.entered == 0) | !enters;
+            (self.appended == 0) & !self.forced & idle & !sends
+        };
         Summary {
-            appended: if none_first { self.last } else { self.appended },
-            forced: if self.forced { 1 } else { 0 },
-            entered: if enters { self.entered } else { 0 },
-            message: if sends { self.message } else { 0 },
-            to: if sends { to } else { 0 },
+            first: pick(alone, self.last, self.appended),
+            last: pick(alone, 0, self.last),
+            forced: one_if(self.forced),
+            entered: pick(enters, self.entered, 0),
+            message: pick(sends, self.message, 0),
+            to: pick(sends, to, 0),
         }
     }
+}
+
+// One of two numbers.
+fn pick(b: bool, x: u8, y: u8) -> u8
+    ensures { λ r. ⌜ r ≡ cond b x y ⌝ }
+{
+    if b { x } else { y }
 }
 
 pub fn one_if(b: bool) -> u8

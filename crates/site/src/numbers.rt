@@ -10,10 +10,12 @@ use crate::phases::ParticipantPhase;
 use crate::presumption::Outcome;
 use codec::log::Log;
 use codec::message::Parts;
+use codec::sets::both;
 use codec::sets::member;
 use codec::sets::part;
 ghost use mathlib.Core.Path.{_≡_};
 ghost use mathlib.Core.List.{[], _∷_};
+ghost use Prim.Native.Nat.{_+_, _*_, _≤_};
 ghost use Rattle.site.specs.Numbers as numbers;
 ghost use Rattle.site.specs.Answers.{cohortIn, coordinatorAnswerIn, participantAnswerIn, argumentsIn};
 ghost use Rattle.site.specs.Inside.{coordinatorNumbers, participantNumbers};
@@ -21,30 +23,36 @@ ghost use Rattle.site.specs.Inside.{coordinatorNumbers, participantNumbe
 // A refusal, and zeros.
 const REFUSED: u64 = 1;
 
-// The bytes of a result, the lowest first: answer 0, phase, waiting set, and the numbers of the row.
-fn packed(phase: u8, waiting: u8, row: Summary) -> u64
-    ensures { λ r. ⌜ r ≡ numbers.packed (0 ∷ phase ∷ waiting ∷ row .appended ∷ row .forced ∷ row .entered ∷ row .message ∷ row .to ∷ []) ⌝ }
+// The bytes of a result, the lowest first: answer 0, phase, waiting set, set taken out, and the numbers of the row.
+fn packed(phase: u8, waiting: u8, taken_out: u8, row: Summary) -> u64
+    requires { ⌜ (row .forced ≤ 1) × (row .entered ≤ 2) × (row .message ≤ 7) ⌝ }
+    ensures { λ r. ⌜ r ≡ numbers.packed (0 ∷ phase ∷ waiting ∷ «taken_out» ∷ (row .first + 16 * row .last) ∷ (row .forced + 2 * row .entered) ∷ row .message ∷ row .to ∷ []) ⌝ }
 {
     0x100 * (phase as u64)
         + 0x1_0000 * (waiting as u64)
-        + 0x100_0000 * (row.appended as u64)
-        + 0x1_0000_0000 * (row.forced as u64)
-        + 0x100_0000_0000 * (row.entered as u64)
+        + 0x100_0000 * (taken_out as u64)
+        + 0x1_0000_0000 * (row.first as u64 + 16 * (row.last as u64))
+        + 0x100_0000_0000 * (row.forced as u64 + 2 * (row.entered as u64))
         + 0x1_0000_0000_0000 * (row.message as u64)
         + 0x100_0000_0000_0000 * (row.to as u64)
 }
 
-// The numbers of a step's answer; where there is no row, with the phase and waiting set that are given.
-pub fn coordinator_result(answer: CoordinatorAnswer, phase: u8, waiting: u8) -> u64
-    ensures { λ r. ⌜ r ≡ numbers.packed (numbers.coordinatorResult phase waiting (coordinatorAnswerIn answer)) ⌝ }
+// The numbers of a step's answer; where there is no row, with the phase, the waiting set and the set taken out that are given.
+pub fn coordinator_result(answer: CoordinatorAnswer, phase: u8, waiting: u8, taken_out: u8) -> u64
+    ensures { λ r. ⌜ r ≡ numbers.packed (numbers.coordinatorResult phase waiting «taken_out» (coordinatorAnswerIn answer)) ⌝ }
 {
     match answer {
         CoordinatorAnswer::Refused => REFUSED,
-        CoordinatorAnswer::NoRow => packed(phase, waiting, Summary::NONE),
+        CoordinatorAnswer::NoRow => packed(phase, waiting, taken_out, Summary::NONE),
         CoordinatorAnswer::Row(row) => {
             let after = row.phase;
             let effects = row.effects;
-            packed(after.number(), after.waiting(), effects.summary())
+            packed(
+                after.number(),
+                after.waiting(),
+                row.taken_out,
+                effects.summary(),
+            )
         }
     }
 }
@@ -54,11 +62,11 @@ pub fn participant_result(answer: ParticipantAnswer, phase: u8) -> u64
 {
     match answer {
         ParticipantAnswer::Refused => REFUSED,
-        ParticipantAnswer::NoRow => packed(phase, 0, Summary::NONE),
+        ParticipantAnswer::NoRow => packed(phase, 0, 0, Summary::NONE),
         ParticipantAnswer::Row(row) => {
             let after = row.phase;
             let effects = row.effects;
-            packed(after.number(), 0, effects.summary())
+            packed(after.number(), 0, 0, effects.summary())
         }
     }
 }
@@ -77,6 +85,15 @@ impl Coordinator {
             _ => false,
         }
     }
+
+    // Whether the set taken out is one of a phase and a waiting set, by their numbers.
+    fn taken_out_in_range(self, phase: u8, waiting: u8) -> bool
+        ensures { λ r. ⌜ r ≡ numbers.takenOutInRange (cohortIn self) phase waiting (self .«taken_out») ⌝ }
+    {
+        let taken_out = self.taken_out;
+        let awaited = both(taken_out, waiting);
+        part(taken_out, self.members) & (awaited == 0) & ((phase != 0) | (taken_out == 0))
+    }
 }
 
 // At the coordinator. That the sender of a message is a member is tested by the step.
@@ -88,22 +105,40 @@ fn coordinator_step(
     waiting: u8,
     members: u8,
     presume_commit: u8,
+    mark: u8,
+    taken_out: u8,
 ) -> u64
-    ensures { λ r. ⌜ r ≡ numbers.packed (coordinatorNumbers (argumentsIn 0 kind 0 participant presumption phase waiting members «presume_commit»)) ⌝ }
+    ensures { λ r. ⌜ r ≡ numbers.packed (coordinatorNumbers (argumentsIn 0 kind 0 participant presumption phase waiting members «presume_commit» mark «taken_out»)) ⌝ }
 {
     let coordinator = Coordinator {
         phase: CoordinatorPhase::from_numbers(phase, waiting),
         members: members,
         presume_commit: presume_commit,
+        taken_out: taken_out,
     };
-    let stated = coordinator.presumption(participant);
-    let nobody = (participant == 0) & (presumption == 0);
-    let message = kind < BEGIN;
-    let named = (message & (presumption == stated.number())) | (!message & nobody);
-    if !(named & coordinator.waiting_in_range(phase, waiting)) {
+    let fits = coordinator.waiting_in_range(phase, waiting)
+        & coordinator.taken_out_in_range(phase, waiting)
+        & (mark == 0);
+    if !fits {
         return REFUSED;
     }
-    coordinator_result(coordinator.step(kind, participant), phase, waiting)
+    if kind < BEGIN {
+        let stated = coordinator.presumption(participant);
+        if presumption != stated.number() {
+            return REFUSED;
+        }
+        return coordinator_result(
+            coordinator.on_message(kind, participant),
+            phase,
+            waiting,
+            taken_out,
+        );
+    }
+    let named = (participant != 0) | (presumption != 0);
+    if named {
+        return REFUSED;
+    }
+    coordinator_result(coordinator.on_own(kind), phase, waiting, taken_out)
 }
 
 // At the participant that is named; the masks tell its presumption.
@@ -114,13 +149,15 @@ fn participant_step(
     phase: u8,
     members: u8,
     presume_commit: u8,
+    mark: u8,
 ) -> u64
-    ensures { λ r. ⌜ r ≡ numbers.packed (participantNumbers (argumentsIn participant kind 0 participant presumption phase 0 members «presume_commit»)) ⌝ }
+    ensures { λ r. ⌜ r ≡ numbers.packed (participantNumbers (argumentsIn participant kind 0 participant presumption phase 0 members «presume_commit» mark 0)) ⌝ }
 {
     let coordinator = Coordinator {
         phase: CoordinatorPhase::Unknown,
         members: members,
         presume_commit: presume_commit,
+        taken_out: 0,
     };
     let stated = coordinator.presumption(participant);
     if !(member(participant, members) & (presumption == stated.number())) {
@@ -130,6 +167,7 @@ fn participant_step(
         phase: ParticipantPhase::from_number(phase),
         presumption: stated,
         number: participant,
+        marked: mark == 1,
     };
     participant_result(site.step(kind), phase)
 }
@@ -146,8 +184,10 @@ pub extern "C" fn dpr_site_step(
     waiting: u8,
     members: u8,
     presume_commit: u8,
+    mark: u8,
+    taken_out: u8,
 ) -> u64
-    ensures { λ r. ⌜ r ≡ numbers.packed (numbers.siteStep (argumentsIn site kind transaction participant presumption phase waiting members «presume_commit»)) ⌝ }
+    ensures { λ r. ⌜ r ≡ numbers.packed (numbers.siteStep (argumentsIn site kind transaction participant presumption phase waiting members «presume_commit» mark «taken_out»)) ⌝ }
 {
     let wrong = (Parts::LAST_TRANSACTION < transaction)
         | (CoordinatorPhase::LAST < phase)
@@ -165,9 +205,12 @@ pub extern "C" fn dpr_site_step(
             waiting,
             members,
             presume_commit,
+            mark,
+            taken_out,
         ),
         1..=Parts::LAST_PARTICIPANT => {
-            if (waiting != 0) | (participant != site) {
+            let foreign = (waiting != 0) | (taken_out != 0) | (1 < mark) | (participant != site);
+            if foreign {
                 return REFUSED;
             }
             participant_step(
@@ -177,6 +220,7 @@ pub extern "C" fn dpr_site_step(
                 phase,
                 members,
                 presume_commit,
+                mark,
             )
         }
         _ => REFUSED,

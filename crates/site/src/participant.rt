@@ -10,18 +10,22 @@ use codec::record::Record;
 use codec::sets::only;
 ghost use mathlib.Core.Path.{_≡_};
 ghost use mathlib.Core.Bool.{cond};
+ghost use Prim.Native.Nat.{_≤_};
+ghost use lib.ListN.{getD};
 ghost use Rattle.codec.specs.Sets.{only};
+ghost use Rattle.site.specs.Presumption.{acks};
 ghost use Rattle.site.specs.Participant as participant;
-ghost use Rattle.site.specs.Step.{voteYes, voteNo, answered};
+ghost use Rattle.site.specs.Step.{prepare, messages, answered};
 ghost use Rattle.site.specs.Numbers.{participantAnswer, participantRestarted};
 ghost use Rattle.site.specs.Answers.{outcomeIn, presumptionIn, participantIn, hasKind, participantRowIn, participantAnswerIn};
-ghost use Rattle.site.specs.Inside.{Numbered};
+ghost use Rattle.site.specs.laws.Sets.{Numbered};
 
-// One transaction at participant `number`: its phase, and what silence means to it.
+// One transaction at participant `number`: its phase, what silence means to it, and whether it is marked as one that only looked.
 pub struct Participant {
     pub phase: ParticipantPhase,
     pub presumption: Presumption,
     pub number: u8,
+    pub marked: bool,
 }
 
 pub struct ParticipantRow {
@@ -48,12 +52,12 @@ impl Participant {
     }
 
     // A vote sent, and nothing else.
-    fn voting(self, phase: ParticipantPhase, yes: bool) -> ParticipantRow
-        requires { ⌜ Numbered (self .number) ⌝ }
-        ensures { λ r. ⌜ participantRowIn r ≡ participant.voting (presumptionIn (self .presumption)) (self .number) (participantIn phase) (cond yes voteYes voteNo) ⌝ }
+    fn voting(self, phase: ParticipantPhase, vote: u8) -> ParticipantRow
+        requires { ⌜ Numbered (self .number) × (vote ≤ 7) ⌝ }
+        ensures { λ r. ⌜ participantRowIn r ≡ participant.voting (presumptionIn (self .presumption)) (self .number) (participantIn phase) (getD messages vote prepare) ⌝ }
     {
         let mut effects = Effects::NONE;
-        effects.message = if yes { Parts::YES } else { Parts::NO };
+        effects.message = vote;
         effects.to = self.own(true);
         ParticipantRow {
             effects: effects,
@@ -83,6 +87,17 @@ impl Participant {
         }
     }
 
+    // One that only looked sends a read-only vote, writes nothing and is Unknown.
+    fn first_vote(self) -> ParticipantRow
+        requires { ⌜ Numbered (self .number) ⌝ }
+        ensures { λ r. ⌜ participantRowIn r ≡ participant.firstVote (presumptionIn (self .presumption)) (self .number) (self .marked) ⌝ }
+    {
+        if self.marked {
+            return self.voting(ParticipantPhase::Unknown, Parts::READ_ONLY);
+        }
+        self.promising()
+    }
+
     // An outcome that is not new: the phase stays.
     fn acknowledging(self, outcome: Outcome) -> ParticipantRow
         requires { ⌜ Numbered (self .number) ⌝ }
@@ -102,7 +117,7 @@ impl Participant {
     // The outcome is new.
     fn finish(self, outcome: Outcome) -> ParticipantRow
         requires { ⌜ Numbered (self .number) ⌝ }
-        ensures { λ r. ⌜ participantRowIn r ≡ participant.finish (presumptionIn (self .presumption)) (self .number) (outcomeIn outcome) ⌝ }
+        ensures { λ r. ⌜ participantRowIn r ≡ participant.finish (presumptionIn (self .presumption)) (self .number) (acks (presumptionIn (self .presumption)) (outcomeIn outcome)) (outcomeIn outcome) ⌝ }
     {
         let presumption = self.presumption;
         let acks = presumption.acks(outcome);
@@ -124,15 +139,15 @@ impl Participant {
 
     fn on_prepare(self) -> ParticipantAnswer
         requires { ⌜ Numbered (self .number) ⌝ }
-        ensures { λ r. ⌜ participantAnswerIn r ≡ answered (participant.onPrepare (presumptionIn (self .presumption)) (self .number) (participantIn (self .phase))) ⌝ }
+        ensures { λ r. ⌜ participantAnswerIn r ≡ answered (participant.onPrepare (presumptionIn (self .presumption)) (self .number) (self .marked) (participantIn (self .phase))) ⌝ }
     {
         let phase = self.phase;
         match phase {
-            ParticipantPhase::Working => ParticipantAnswer::Row(self.promising()),
-            ParticipantPhase::Prepared => ParticipantAnswer::Row(self.voting(phase, true)),
+            ParticipantPhase::Working => ParticipantAnswer::Row(self.first_vote()),
+            ParticipantPhase::Prepared => ParticipantAnswer::Row(self.voting(phase, Parts::YES)),
             ParticipantPhase::Committed => ParticipantAnswer::NoRow,
-            ParticipantPhase::Aborted => ParticipantAnswer::Row(self.voting(phase, false)),
-            ParticipantPhase::Unknown => ParticipantAnswer::Row(self.voting(phase, false)),
+            ParticipantPhase::Aborted => ParticipantAnswer::Row(self.voting(phase, Parts::NO)),
+            ParticipantPhase::Unknown => ParticipantAnswer::Row(self.voting(phase, Parts::NO)),
         }
     }
 
@@ -173,14 +188,14 @@ impl Participant {
                     phase: ParticipantPhase::Unknown,
                 })
             }
-            ParticipantPhase::Prepared => ParticipantAnswer::Row(self.voting(phase, true)),
+            ParticipantPhase::Prepared => ParticipantAnswer::Row(self.voting(phase, Parts::YES)),
             _ => ParticipantAnswer::NoRow,
         }
     }
 
     // The step by the kind's number: a kind that a participant never receives, and what is no participant, is refused.
     pub fn step(self, kind: u8) -> ParticipantAnswer
-        ensures { λ r. ⌜ participantAnswerIn r ≡ participantAnswer (presumptionIn (self .presumption)) (self .number) kind (participantIn (self .phase)) ⌝ }
+        ensures { λ r. ⌜ participantAnswerIn r ≡ participantAnswer (presumptionIn (self .presumption)) (self .number) (self .marked) kind (participantIn (self .phase)) ⌝ }
     {
         let number = self.number;
         if (number < 1) | (Parts::LAST_PARTICIPANT < number) {
@@ -219,7 +234,7 @@ impl Participant {
             });
         }
         if has(records, Record::PREPARED) {
-            return ParticipantAnswer::Row(self.voting(ParticipantPhase::Prepared, true));
+            return ParticipantAnswer::Row(self.voting(ParticipantPhase::Prepared, Parts::YES));
         }
         ParticipantAnswer::Row(ParticipantRow {
             effects: effects,

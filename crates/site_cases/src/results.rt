@@ -1,5 +1,5 @@
-// Rows as the call for C packs them, eight bytes, the lowest first: answer (0), phase, waiting set, record appended, forced,
-// outcome entered, message sent, and the set of its participants.
+// Rows as the call for C packs them, eight bytes, the lowest first: answer (0), phase, waiting set, set taken out, records (the first,
+// and 16 times the last), forced and twice the outcome entered, message sent, and the set of its participants.
 use site::coordinator::Coordinator;
 use site::coordinator::CoordinatorAnswer;
 use site::numbers::coordinator_result;
@@ -9,6 +9,7 @@ use site::phases::CoordinatorPhase;
 use site::phases::ParticipantPhase;
 use site::presumption::Presumption;
 ghost use mathlib.Core.Path.{_≡_};
+ghost use mathlib.Core.Bool.{false};
 ghost use Rattle.site.specs.Step.{row};
 ghost use Rattle.site.specs.Coordinator.{coordinatorRestart};
 ghost use Rattle.site.specs.Numbers as numbers;
@@ -24,18 +25,20 @@ pub const NO_ROW: u64 = 0xFF00;
 // A row without effects, and Unknown.
 pub const UNKNOWN: u64 = 0x0400;
 
-// The coordinator of members 1, 2 and 3 restarts from kinds of record, bit k for kind k.
-pub fn coordinator_restart(presume_commit: u8, kinds: u16) -> u64
-    ensures { λ r. ⌜ r ≡ numbers.packed (numbers.coordinatorResult 255 0 (row (coordinatorRestart (record { members = 7; presumeCommit = «presume_commit» }) (hasKind kinds)))) ⌝ }
+// The coordinator restarts from kinds of record, bit k for kind k, by the masks of a record.
+pub fn coordinator_restart(members: u8, presume_commit: u8, kinds: u16) -> u64
+    ensures { λ r. ⌜ r ≡ numbers.packed (numbers.coordinatorResult 255 0 0 (row (coordinatorRestart (hasKind kinds) (λ k. record { members = members; presumeCommit = «presume_commit» })))) ⌝ }
 {
     let coordinator = Coordinator {
         phase: CoordinatorPhase::Unknown,
-        members: 7,
+        members: members,
         presume_commit: presume_commit,
+        taken_out: 0,
     };
     coordinator_result(
         CoordinatorAnswer::Row(coordinator.restart(kinds)),
         NO_PHASE,
+        0,
         0,
     )
 }
@@ -47,30 +50,33 @@ pub fn participant_restart(number: u8, presumption: Presumption, kinds: u16) -> 
         phase: ParticipantPhase::Unknown,
         presumption: presumption,
         number: number,
+        marked: false,
     };
     participant_result(participant.restart(kinds), NO_PHASE)
 }
 
-// A step of the coordinator of members 1, 2 and 3, of which 2 presumes commit.
-pub fn coordinator_step(phase: CoordinatorPhase, kind: u8, participant: u8) -> u64
-    ensures { λ r. ⌜ r ≡ numbers.packed (numbers.coordinatorResult 255 0 (numbers.coordinatorAnswer (record { members = 7; presumeCommit = 2 }) kind participant (coordinatorIn phase))) ⌝ }
+// A step of the coordinator of members 1, 2 and 3, of which 2 presumes commit and some are taken out.
+pub fn coordinator_step(phase: CoordinatorPhase, taken_out: u8, kind: u8, participant: u8) -> u64
+    ensures { λ r. ⌜ r ≡ numbers.packed (numbers.coordinatorResult 255 0 0 (numbers.coordinatorAnswer (record { members = 7; presumeCommit = 2 }) kind participant (record { phase = coordinatorIn phase; takenOut = «taken_out» }))) ⌝ }
 {
     let coordinator = Coordinator {
         phase: phase,
         members: 7,
         presume_commit: 2,
+        taken_out: taken_out,
     };
-    coordinator_result(coordinator.step(kind, participant), NO_PHASE, 0)
+    coordinator_result(coordinator.step(kind, participant), NO_PHASE, 0, 0)
 }
 
 // A step of participant 2.
 pub fn participant_step(phase: ParticipantPhase, presumption: Presumption, kind: u8) -> u64
-    ensures { λ r. ⌜ r ≡ numbers.packed (numbers.participantResult 255 (numbers.participantAnswer (presumptionIn presumption) 2 kind (participantIn phase))) ⌝ }
+    ensures { λ r. ⌜ r ≡ numbers.packed (numbers.participantResult 255 (numbers.participantAnswer (presumptionIn presumption) 2 false kind (participantIn phase))) ⌝ }
 {
     let participant = Participant {
         phase: phase,
         presumption: presumption,
         number: 2,
+        marked: false,
     };
     participant_result(participant.step(kind), NO_PHASE)
 }

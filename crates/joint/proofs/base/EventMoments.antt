@@ -1,25 +1,25 @@
 -- What the moments of one event tell: a reply from Unknown is what silence means, and a commit record that was stable at one of them stays so to the end of the event.
-use Prim.Native.Nat.{ℕ, zero, suc, _≤_, _<_}
-use mathlib.Core.Path.{_≡_, refl, sym, ap, subst, _∙_}
+use Prim.Native.Nat.{ℕ, zero, suc, _≤_}
+use mathlib.Core.Path.{_≡_, refl, _∙_}
 use mathlib.Core.Logic.{_⊎_, inl, inr, ⊎-elim}
 use mathlib.Core.Bool.{true, false}
 use mathlib.Core.List.{List, [], _∷_, _++_, map}
 use mathlib.Core.Option.{some}
 use native.Mathlib.Omega.{arith}
-use lib.ListN.{length, getD, take}
-use lib.Seq.{take-length, getD-take}
+use lib.ListN.{length, take}
+use lib.Seq.{take-length}
 use lib.Dec.{T}
 use borrow.Author.Tests.{not-false}
 use Rattle.codec.specs.Lists.{any, first}
 use Rattle.codec.specs.Sets.{member}
 use Rattle.codec.specs.Records.{LogRecord}
-use Rattle.codec.specs.laws.Tests.{true-of, of-true, every-at, same-list}
+use Rattle.codec.specs.laws.Tests.{true-of, of-true, every-at}
 use Rattle.site.specs.Presumption.{Outcome, commit, abort, silence}
-use Rattle.site.specs.Step.{messages, voteYes, tell, messageKind, coordinatorOf, receiver, Input, begin, timer, received, Effect, append, force, enter, send}
+use Rattle.site.specs.Step.{voteYes, tell, messageKind, coordinatorOf, receiver, Input, begin, timer, received, Effect, append, force, enter, send}
 use Rattle.site.specs.Cohort.{presumptionOf}
-use Rattle.site.specs.Coordinator.{CoordinatorPhase, telling, onYes, coordinatorStep}
+use Rattle.site.specs.Coordinator.{CoordinatorPhase, telling, onYes, leaving, leavingIf, coordinatorStep}
 use Rattle.joint.specs.State.{Run, Site, Act, atSite, atTransaction, takesPart, holds, appended, forced, stopped, started, down, perform, performAll}
-use Rattle.joint.specs.Event.{Event, opening, beginning, delivery, timeout, forcing, discarding, crash, restart, eventOf, Parsed, parse}
+use Rattle.joint.specs.Event.{Event, opening, beginning, delivery, timeout, forcing, discarding, crash, restart, marking, Parsed}
 use Rattle.joint.specs.Refusals.{stranger, refusals}
 use Rattle.joint.specs.Plan.{Plan, acting, rowPlan, planned, step, orNothing, restarting, joined, restartAll, plan}
 use Rattle.joint.specs.Run.{Result, refuse, partly, cutShort, carry, event}
@@ -27,22 +27,10 @@ use Rattle.joint.specs.Safety.{Moment, moments, happened, leaves, sends,
 use Rattle.joint.proofs.base.Booleans.{or-cases}
 use Rattle.joint.proofs.base.Lists.{not-empty, any-cases, any-more}
 use Rattle.joint.proofs.base.Updates.{update-point}
-use Rattle.joint.proofs.base.Ranges.{InRange, only-some, parse-range}
 use Rattle.joint.proofs.base.History.{Accepted, EventCase, refused, whole, cut, event-case, passed}
+use Rattle.joint.proofs.base.Looked.{bytes-delivery}
 use Rattle.joint.proofs.base.Moments.{Within, moment-within}
 use Rattle.joint.proofs.base.Plans.{not-struck, is-up, All, all-step, all-or, all-only}
-
--- ---- the bytes of a delivered Yes
-
-delivered : (b : List ℕ) (x : Parsed) → parse b ≡ some x → (t p : ℕ) → take 4 b ≡ 2 ∷ t ∷ p ∷ 1 ∷ [] → (x .event ≡ delivery t p voteYes) × (1 ≤ p)
-unfolding parse eventOf messages
-delivered b x e t p q =
-    let made : x .event ≡ eventOf (getD b 0 0) (getD b 1 0) (getD b 2 0) (getD b 3 0) = ap (λ (y : Parsed). y .event) (sym (only-some _ _ x e .1)) in
-    let d : x .event ≡ delivery t p voteYes = simp (at 0 (omega arith), at 1 (omega arith), at 2 (omega arith), at 3 (omega arith)) at made in
-    (d, subst InRange d (parse-range b x e))
-  where
-    at : (i : ℕ) → i < 4 → getD b i 0 ≡ getD (2 ∷ t ∷ p ∷ 1 ∷ []) i 0
-    at i h = sym (getD-take 4 b i 0 h) ∙ ap (λ (l : List ℕ). getD l i 0) q
 
 -- ---- a reply
 
@@ -64,9 +52,9 @@ abbrev pub Silent : Run → ℕ → ℕ → Outcome → Type 0
 Silent r t p o = (o ≡ silence (presumptionOf (r .transaction t .cohort) p)) × T (member p (r .transaction t .cohort .members)) × (r .site 0 .up ≡ true)
 
 -- the acts of p's delivered Yes where the coordinator is Unknown
-yes-acts : (r : Run) (t p : ℕ) (q : Plan) → r .transaction t .coordinator ≡ CoordinatorPhase.unknown → plan r (delivery t p voteYes) ≡ some q
+yes-acts : (r : Run) (t p : ℕ) (q : Plan) → r .transaction t .coordinator .phase ≡ CoordinatorPhase.unknown → plan r (delivery t p voteYes) ≡ some q
     → q .acts ≡ record { transaction = t; effect = send (tell (silence (presumptionOf (r .transaction t .cohort) p))) p } ∷ []
-unfolding plan receiver coordinatorOf step coordinatorStep onYes telling planned rowPlan acting orNothing
+unfolding plan receiver coordinatorOf step coordinatorStep leavingIf leaving onYes telling planned rowPlan acting orNothing
 yes-acts r t p q u e = let d : some _ ≡ some q = rw u at e in cc
 
 part-member : (r : Run) (t p : ℕ) → 1 ≤ p → takesPart (r .transaction t) p ≡ true → T (member p (r .transaction t .cohort .members))
@@ -82,14 +70,14 @@ yes-passes r t p l h =
     let k = not-struck 2 _ _ h .1 in
     (part-member r t p l (not-false _ (not-struck 3 _ _ k .0)), is-up r 0 _ (not-struck 3 _ _ k .1))
 
-module _ (r : Run) (e : List ℕ) (m : Moment) (t p : ℕ) (o : Outcome) (reply : T (isReply t p o m)) (u : r .transaction t .coordinator ≡ CoordinatorPhase.unknown) where
+module _ (r : Run) (e : List ℕ) (m : Moment) (t p : ℕ) (o : Outcome) (reply : T (isReply t p o m)) (u : r .transaction t .coordinator .phase ≡ CoordinatorPhase.unknown) where
   -- the only act of the event is m's
   reply-accepted : {x : Parsed} {q : Plan} → Accepted r e x q → m .event ≡ e → (n : ℕ) (a b : List Act) → take n (q .acts) ≡ a ++ (m .act ∷ b)
       → Silent r t p o
   unfolding isReply messageKind
   reply-accepted {x} {q} c v n a b h =
       let tests = true-of _ reply in
-      let d = delivered e x (c .parsed) t p (rw v at (same-list _ _ (every-at _ tests 0))) in
+      let d = bytes-delivery e x (c .parsed) t p voteYes (rw v at (every-at _ tests 0)) in
       let act-is = sole n _ (m .act) a b (rw (yes-acts r t p q u (rw (d .0) at (c .planned))) at h) in
       let k = yes-passes r t p (d .1) (rw (d .0) at (c .passed)) in
       (told o _ p p (rw act-is at (of-true (every-at _ tests 3))), k .0, k .1)
@@ -102,7 +90,7 @@ module _ (r : Run) (e : List ℕ) (m : Moment) (t p : ℕ) (o : Outcome) (reply 
 
 -- upon p's Yes a coordinator in Unknown replies what silence means to p
 pub reply-silence : (r : Run) (e : List ℕ) (seen : List Moment) (m : Moment) (rest : List Moment) → happened r e ≡ seen ++ (m ∷ rest)
-    → (t p : ℕ) (o : Outcome) → T (isReply t p o m) → r .transaction t .coordinator ≡ CoordinatorPhase.unknown → Silent r t p o
+    → (t p : ℕ) (o : Outcome) → T (isReply t p o m) → r .transaction t .coordinator .phase ≡ CoordinatorPhase.unknown → Silent r t p o
 reply-silence r e seen m rest h t p o reply u = reply-case r e m t p o reply u (event-case r e) (moment-within r e seen m rest h)
 
 -- ---- a stable commit record
@@ -169,6 +157,7 @@ module _ (t : ℕ) where
   plan-keeps r (discarding u s) = all-only Keeps _ _ (λ e. inl refl)
   plan-keeps r (crash s) = inl refl
   plan-keeps r (restart s) = inr (restart-stable r s _)
+  plan-keeps r (marking u p) = all-only Keeps _ _ (λ e. inl refl)
 
   event-stable : (r : Run) (e : List ℕ) {x : Result} → EventCase r e x
       → T (any (commitStable t) (map leaves (moments e r (x .site) (x .acts) r))) → T (commitStable t (x .run))

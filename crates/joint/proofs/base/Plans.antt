@@ -10,7 +10,7 @@ use Rattle.codec.specs.Lists.{first, onlyIf}
 use Rattle.site.specs.Presumption.{Outcome, commit, abort, Presumption}
 use Rattle.site.specs.Step.{Message, tell, Input, Effect, append, force, enter, send, Row, given}
 use Rattle.site.specs.Cohort.{Cohort}
-use Rattle.site.specs.Coordinator.{inOrder, tellAll, restartFrom, coordinatorRestart}
+use Rattle.site.specs.Coordinator.{inOrder, tellAll, resuming, leaving, restartFrom, coordinatorRestart}
 use Rattle.site.specs.Participant.{voting, restartWith, participantRestart}
 use Rattle.joint.specs.State.{Run, Transaction}
 use Rattle.joint.specs.Refusals.{isDown}
@@ -78,11 +78,11 @@ unfolding given
 logless-given true es h = h
 logless-given false es h = tt
 
-logless-from : (g : Cohort) (c i : Bool) → Each Logless (restartFrom g c i .effects)
-unfolding restartFrom
-logless-from g true i = (tt, logless-given _ _ (logless-all g commit (g .members)))
-logless-from g false true = (tt, logless-all g abort (g .members))
-logless-from g false false = tt
+logless-from : (c i : Bool) (told : ℕ → Cohort) → Each Logless (restartFrom c i told .effects)
+unfolding restartFrom resuming
+logless-from true i told = (tt, logless-given _ _ (logless-all (told 2) commit (told 2 .members)))
+logless-from false true told = (tt, logless-given _ _ (logless-all (told 1) abort (told 1 .members)))
+logless-from false false told = tt
 
 logless-with : (c : Presumption) (p : ℕ) (a b v : Bool) → Each Logless (restartWith c p a b v .effects)
 unfolding restartWith voting
@@ -91,9 +91,9 @@ logless-with c p false true v = (tt, tt)
 logless-with c p false false true = (tt, tt)
 logless-with c p false false false = tt
 
-pub coordinator-logless : (g : Cohort) (f : ℕ → Bool) → Each Logless (coordinatorRestart g f .effects)
-unfolding coordinatorRestart
-coordinator-logless g f = logless-from g _ _
+pub coordinator-logless : (f : ℕ → Bool) (told : ℕ → Cohort) → Each Logless (coordinatorRestart f told .effects)
+unfolding coordinatorRestart leaving
+coordinator-logless f told = logless-from _ _ told
 
 pub participant-logless : (c : Presumption) (p : ℕ) (f : ℕ → Bool) → Each Logless (participantRestart c p f .effects)
 unfolding participantRestart

@@ -9,9 +9,9 @@ use borrow.Author.Tests.{leb-true}
 use Rattle.codec.specs.Lists.{onlyIf}
 use Rattle.codec.specs.Sets.{part}
 use Rattle.codec.specs.laws.Tests.{every-at}
-use Rattle.joint.specs.Event.{Event, opening, beginning, delivery, timeout, forcing, discarding, crash, restart, eventOf, ranges, bytesInRange, Parsed, parse}
+use Rattle.joint.specs.Event.{Event, opening, beginning, delivery, timeout, forcing, discarding, crash, restart, marking, eventOf, ranges, bytesInRange, Parsed, parse}
 
--- an opened transaction is one of eight, its members are a byte that is not 0, and PC a part of it; a delivered message is of a participant
+-- an opened transaction is one of eight, its members are a byte that is not 0, and PC a part of it; a delivered message is of a participant, and so is a mark
 abbrev pub InRange : Event → Type 0
 InRange (opening t M C) = (t < 8) × (M < 256) × (1 ≤ M) × (part C M ≡ true)
 InRange (beginning t) = Unit {0}
@@ -21,6 +21,7 @@ InRange (forcing s) = Unit {0}
 InRange (discarding t s) = Unit {0}
 InRange (crash s) = Unit {0}
 InRange (restart s) = Unit {0}
+InRange (marking t p) = 1 ≤ p
 
 event-range : (code x y z : ℕ) → bytesInRange code x y z ≡ true → InRange (eventOf code x y z)
 unfolding eventOf bytesInRange ranges
@@ -36,7 +37,8 @@ event-range (suc (suc (suc (suc zero)))) x y z h = tt
 event-range (suc (suc (suc (suc (suc zero))))) x y z h = tt
 event-range (suc (suc (suc (suc (suc (suc zero)))))) x y z h = tt
 event-range (suc (suc (suc (suc (suc (suc (suc zero))))))) x y z h = tt
-event-range (suc (suc (suc (suc (suc (suc (suc (suc n)))))))) x y z h = tt
+event-range (suc (suc (suc (suc (suc (suc (suc (suc zero)))))))) x y z h = leb-true 1 y (every-at _ h 2)
+event-range (suc (suc (suc (suc (suc (suc (suc (suc (suc n))))))))) x y z h = tt
 
 pub only-some : {A : Type 0} (b : Bool) (a c : A) → onlyIf b a ≡ some c → (b ≡ true) × (a ≡ c)
 unfolding onlyIf

@@ -8,8 +8,8 @@ use lib.Dec.{eqb}
 use Rattle.codec.specs.Lists.{any, every}
 use Rattle.site.specs.Presumption.{Outcome, sameOutcome}
 use Rattle.site.specs.Step.{messageKind, Input, begin, timer, received, receiver, Effect, append, force, enter, send}
-use Rattle.joint.specs.State.{Run, Transaction, Act, fresh, update, atSite, atTransaction, withCoordinator, withParticipant, withSent, withEntered, forgotten, down, perform, performAll}
-use Rattle.joint.specs.Event.{Event, opening, beginning, delivery, timeout, forcing, discarding, crash, restart}
+use Rattle.joint.specs.State.{Run, Transaction, Act, fresh, update, atSite, atTransaction, withCoordinator, withParticipant, withMarked, withSent, withEntered, forgotten, down, perform, performAll}
+use Rattle.joint.specs.Event.{Event, opening, beginning, delivery, timeout, forcing, discarding, crash, restart, marking}
 use Rattle.joint.specs.Plan.{Plan, rowPlan, step, openedAs, forgottenUnless, discard, restarting, joined, restartAll, plan}
 use Rattle.joint.specs.Run.{Result, refuse, carry, cutShort, partly, event, after}
 use Rattle.joint.specs.Safety.{Moment, moments, happened, history, enters, sends, isEntry, isEntryAt, isSending}
@@ -25,22 +25,22 @@ momentOf e r x s a = record { event = e; start = r; before = x; site = s; act = 
 
 -- ---- one thing that is stored of transaction t, and the moments at which it happens
 
-module _ (t : ℕ) (f : (ℕ → ℕ → Bool) → (ℕ → Outcome → Bool) → Bool) where
-  -- what the messages and entries of a transaction show
-  abbrev told : Transaction → Bool
-  told x = f (x .sent) (x .entered)
+module _ (t : ℕ) (f : (ℕ → Bool) → (ℕ → ℕ → Bool) → (ℕ → Outcome → Bool) → Bool) where
+  -- what the marks, messages and entries of a transaction show
+  abbrev pub told : Transaction → Bool
+  told x = f (x .marked) (x .sent) (x .entered)
 
-  abbrev shown : Run → Bool
+  abbrev pub shown : Run → Bool
   shown r = told (r .transaction t)
 
   -- what settles at the end of an event changes none of it
-  abbrev Keeps : (Run → Run) → Type 0
+  abbrev pub Keeps : (Run → Run) → Type 0
   Keeps h = (x : Run) → shown (h x) ≡ shown x
 
-  abbrev Settles : Plan → Type 0
+  abbrev pub Settles : Plan → Type 0
   Settles p = Keeps (p .settle)
 
-  at-keeps : (u : ℕ) (h : Transaction → Transaction) → ((x : Transaction) → told (h x) ≡ told x) → Keeps (atTransaction u h)
+  pub at-keeps : (u : ℕ) (h : Transaction → Transaction) → ((x : Transaction) → told (h x) ≡ told x) → Keeps (atTransaction u h)
   unfolding atTransaction
   at-keeps u h k x = update-keeps told h k u (x .transaction) t
 
@@ -64,24 +64,27 @@ module _ (t : ℕ) (f : (ℕ → ℕ → Bool) → (ℕ → Outcome → Bool) �
   restart-keeps r s [] x = refl
   restart-keeps r s (u ∷ ts) x = restart-keeps r s ts _ ∙ restarting-keeps r s u x
 
-  plan-keeps : (r : Run) (e : Event) → All Settles (plan r e)
+  -- but for a mark
+  pub plan-keeps : (r : Run) (e : Event) → ((u q : ℕ) → e ≡ marking u q → (x : Transaction) → told (withMarked q x) ≡ told x) → All Settles (plan r e)
   unfolding plan openedAs discard atSite
-  plan-keeps r (opening u M C) = at-keeps u _ (λ y. refl)
-  plan-keeps r (beginning u) = step-keeps r u 0 begin
-  plan-keeps r (delivery u p m) = all-or Settles _ _ (λ x. refl) (step-keeps r u (receiver m p) (received m p))
-  plan-keeps r (timeout u s) = step-keeps r u s timer
-  plan-keeps r (forcing s) = λ x. refl
-  plan-keeps r (discarding u s) = all-only Settles _ _ (λ h x. forget-keeps _ u s _)
-  plan-keeps r (crash s) = λ x. refl
-  plan-keeps r (restart s) = restart-keeps r s _
+  plan-keeps r (opening u M C) k = at-keeps u _ (λ y. refl)
+  plan-keeps r (beginning u) k = step-keeps r u 0 begin
+  plan-keeps r (delivery u p m) k = all-or Settles _ _ (λ x. refl) (step-keeps r u (receiver m p) (received m p))
+  plan-keeps r (timeout u s) k = step-keeps r u s timer
+  plan-keeps r (forcing s) k = λ x. refl
+  plan-keeps r (discarding u s) k = all-only Settles _ _ (λ h x. forget-keeps _ u s _)
+  plan-keeps r (crash s) k = λ x. refl
+  plan-keeps r (restart s) k = restart-keeps r s _
+  plan-keeps r (marking u q) k = all-only Settles _ _ (λ h. at-keeps u (withMarked q) (k u q refl))
 
-  down-keeps : (s k : ℕ) → Keeps (down s k)
+  pub down-keeps : (s k : ℕ) → Keeps (down s k)
   unfolding down forgotten withCoordinator withParticipant
   down-keeps zero k x = refl
   down-keeps (suc n) k x = refl
 
   -- an act stores it exactly where it happens
   module _ (g : Moment → Bool)
+      (unmarked : (q : ℕ) (x : Transaction) → told (withMarked q x) ≡ told x)
       (one : (e : List ℕ) (r x : Run) (s : ℕ) (a : Act) → shown (perform s (a .transaction) (a .effect) x) ≡ (shown x || g (momentOf e r x s a))) where
     acts-shown : (e : List ℕ) (r : Run) (s : ℕ) (l : List Act) (x : Run) → shown (performAll s l x) ≡ (shown x || any g (moments e r s l x))
     unfolding performAll moments any
@@ -96,7 +99,7 @@ module _ (t : ℕ) (f : (ℕ → ℕ → Bool) → (ℕ → Outcome → Bool) �
     unfolding refuse carry cutShort partly
     case-shown r e (refused n) = unfold moments any in sym (or-false (shown r))
     case-shown r e (whole {x} {p} a c) =
-        subst (All Settles) (a .planned) (plan-keeps r (x .event)) (performAll (p .site) (p .acts) r) ∙ acts-shown e r (p .site) (p .acts) r
+        subst (All Settles) (a .planned) (plan-keeps r (x .event) (λ u q _. unmarked q)) (performAll (p .site) (p .acts) r) ∙ acts-shown e r (p .site) (p .acts) r
     case-shown r e (cut {x} {p} n k a c h) = down-keeps (p .site) k _ ∙ acts-shown e r (p .site) (take n (p .acts)) r
 
     event-shown : (r : Run) (e : List ℕ) → shown (event r e .run) ≡ (shown r || any g (happened r e))
@@ -135,7 +138,7 @@ module _ (e : List ℕ) (r x : Run) (s t : ℕ) where
       go true = unfold withEntered in simp (and-true, or-comm)
       go false = none-added (x .transaction t .entered z o) (eqb z s) true
   entry-stored z o u (send m p) =
-      at-keeps t (λ sent entered. entered z o) u (withSent p (messageKind m)) (λ y. refl) x
+      at-keeps t (λ marked sent entered. entered z o) u (withSent p (messageKind m)) (λ y. refl) x
       ∙ none-added (x .transaction t .entered z o) (eqb s z) (eqb u t)
 
   message-stored : (q k u : ℕ) (w : Effect) → perform s u w x .transaction t .sent q k ≡ (x .transaction t .sent q k || isSending t q k (now u w))
@@ -143,7 +146,7 @@ module _ (e : List ℕ) (r x : Run) (s t : ℕ) where
   message-stored q k u (append j fs) = none-added (x .transaction t .sent q k) (eqb u t) true
   message-stored q k u force = none-added (x .transaction t .sent q k) (eqb u t) true
   message-stored q k u (enter o) =
-      at-keeps t (λ sent entered. sent q k) u (withEntered s o) (λ y. refl) x
+      at-keeps t (λ marked sent entered. sent q k) u (withEntered s o) (λ y. refl) x
       ∙ none-added (x .transaction t .sent q k) (eqb u t) true
   message-stored q k u (send m p) = rw (eqb-sym u t) (unfold atTransaction update in go (eqb t u))
     where
@@ -155,10 +158,10 @@ module _ (e : List ℕ) (r x : Run) (s t : ℕ) where
 -- for every list of events
 pub entries-happened : (es : List (List ℕ)) (t s : ℕ) (o : Outcome) → after fresh es .transaction t .entered s o ≡ any (isEntryAt t s o) (history fresh es)
 entries-happened es t s o =
-    stored-is-history t (λ sent entered. entered s o) (isEntryAt t s o) (λ e r x z a. entry-stored e r x z t s o (a .transaction) (a .effect))
+    stored-is-history t (λ marked sent entered. entered s o) (isEntryAt t s o) (λ q x. unfold withMarked in refl) (λ e r x z a. entry-stored e r x z t s o (a .transaction) (a .effect))
     (unfold fresh in refl) es
 
 pub messages-happened : (es : List (List ℕ)) (t p k : ℕ) → after fresh es .transaction t .sent p k ≡ any (isSending t p k) (history fresh es)
 messages-happened es t p k =
-    stored-is-history t (λ sent entered. sent p k) (isSending t p k) (λ e r x z a. message-stored e r x z t p k (a .transaction) (a .effect))
+    stored-is-history t (λ marked sent entered. sent p k) (isSending t p k) (λ q x. unfold withMarked in refl) (λ e r x z a. message-stored e r x z t p k (a .transaction) (a .effect))
     (unfold fresh in refl) es

@@ -19,10 +19,10 @@ use Rattle.site.specs.Numbers.{inputOf, appending, entryOf}
 use Rattle.site.specs.Answers.{effectsIn, closing, sending}
 use Rattle.site.specs.declared.effects.Effects.{Effects}
 use Rattle.joint.specs.State as plain
-use Rattle.joint.specs.State.{Run, Act, opened, takesPart, atSite, atTransaction, perform, performAll, down}
-use Rattle.joint.specs.Event.{Event, opening, forcing, discarding, crash, cutAt}
+use Rattle.joint.specs.State.{Run, Act, opened, takesPart, atSite, atTransaction, withMarked, perform, performAll, down}
+use Rattle.joint.specs.Event.{Event, opening, forcing, discarding, crash, marking, cutAt}
 use Rattle.joint.specs.Refusals.{unopened, stranger, isDown, refusals}
-use Rattle.joint.specs.Plan.{Plan, plan, step, settling, acting, orNothing, openedAs, closes, newest, mayDiscard, trimmed, remembers, forgottenUnless, discard}
+use Rattle.joint.specs.Plan.{Plan, plan, step, settling, acting, orNothing, openedAs, closes, newest, closed, mayDiscard, trimmed, remembers, forgottenUnless, discard, isWorking}
 use Rattle.joint.specs.Run.{partly, canCut, cutShort, carry, carryPlan, isAppend, isForce, isSend, count, answerOf}
 use Rattle.joint.specs.Program.{roomFor, roomForPlan}
 use Rattle.joint.specs.Answers.{siteFrom, noSite, seen}
@@ -258,7 +258,7 @@ module _ (w : Run) (s t : ℕ) where
 -- by the counts and the records
 module _ (x y : Site) (rs qs : List Record) (w : Run) (t s : ℕ) (all : length rs ≡ 24) (own : siteFrom x rs ≡ w .site s) where
   pub may-discard : newest closes (select (ofTransaction t) (take (stableOf x) (map recordIn rs))) ≡ mayDiscard w t s
-  unfolding mayDiscard
+  unfolding mayDiscard closed
   may-discard = ap (λ (l : List LogRecord). newest closes (select (ofTransaction t) l)) (stable-taken x rs all ∙ ap (λ (a : plain.Site). a .stable) own)
 
   -- y with qs is the log without the record
@@ -268,20 +268,27 @@ module _ (x y : Site) (rs qs : List Record) (w : Run) (t s : ℕ) (all : length 
       ap (any (ofTransaction t)) (log-taken y qs n)
       ∙ ap (λ (a : plain.Site). any (ofTransaction t) (a .stable ++ a .unforced)) (e ∙ ap (trimmed t) own)
 
--- the first of 3 to 5 that strikes a discard, or 0
-abbrev pub discardStruck : Run → ℕ → ℕ → ℕ
-discardStruck w t s = struck (empty (w .transaction t .cohort .members)) (not (takesPart (w .transaction t) s)) (not (w .site s .up)) false
+-- the first of 3 to 5 that strikes a discard or a mark at site s, or 0
+abbrev pub siteStruck : Run → ℕ → ℕ → ℕ
+siteStruck w t s = struck (empty (w .transaction t .cohort .members)) (not (takesPart (w .transaction t) s)) (not (w .site s .up)) false
 
 module _ (w : Run) (t s : ℕ) where
-  discard-struck : first (refusals w (discarding t s)) ≡ discardStruck w t s
+  discard-struck : first (refusals w (discarding t s)) ≡ siteStruck w t s
   unfolding refusals first unopened opened isDown stranger
   discard-struck = rw (not-not (empty (w .transaction t .cohort .members))) refl
 
-  pub discard-refused : (n : ℕ) → discardStruck w t s ≡ suc n
-      → refusedBy (suc n) w ≡ taken w (discarding t s) none
-  discard-refused n q = sym (refused-by w (discarding t s) none n (discard-struck ∙ q))
+  mark-struck : first (refusals w (marking t s)) ≡ siteStruck w t s
+  unfolding refusals first unopened opened isDown stranger
+  mark-struck = rw (not-not (empty (w .transaction t .cohort .members))) refl
 
-  module _ (passed : discardStruck w t s ≡ 0) where
+  module _ (n : ℕ) (q : siteStruck w t s ≡ suc n) where
+    pub discard-refused : refusedBy (suc n) w ≡ taken w (discarding t s) none
+    discard-refused = sym (refused-by w (discarding t s) none n (discard-struck ∙ q))
+
+    pub mark-refused : refusedBy (suc n) w ≡ taken w (marking t s) none
+    mark-refused = sym (refused-by w (marking t s) none n (mark-struck ∙ q))
+
+  module _ (passed : siteStruck w t s ≡ 0) where
     discards : taken w (discarding t s) none ≡ seen (carryPlan w (onlyIf (mayDiscard w t s) (settling s (discard t s))) none)
     unfolding plan
     discards = not-refused w (discarding t s) none (discard-struck ∙ passed)
@@ -298,3 +305,20 @@ module _ (w : Run) (t s : ℕ) where
         ap (λ (l : List Act). seen (record { answer = 0; site = s; acts = l; run = thenIn s t (follows.Discarded last) (performAll s l w) })) (nothing-acts t)
         ∙ ap (λ b. seen (record { answer = 0; site = s; acts = []; run = forgottenUnless b t s (atSite s (trimmed t) w) })) (q ∙ ap (λ (a : plain.Site). eqb s 0 || remembers t a) (sym (update-same s (trimmed t) (w .site))))
         ∙ sym (discards ∙ ap (λ b. seen (carryPlan w (onlyIf b (settling s (discard t s))) none)) e)
+
+    -- ---- mark
+
+    marks : taken w (marking t s) none ≡ seen (carryPlan w (onlyIf (isWorking (w .transaction t .participant s)) (settling s (atTransaction t (withMarked s)))) none)
+    unfolding plan
+    marks = not-refused w (marking t s) none (mark-struck ∙ passed)
+
+    pub mark-unallowed : isWorking (w .transaction t .participant s) ≡ false → refusedBy 8 w ≡ taken w (marking t s) none
+    unfolding carryPlan onlyIf
+    mark-unallowed e = sym (marks ∙ ap (λ b. seen (carryPlan w (onlyIf b (settling s (atTransaction t (withMarked s)))) none)) e ∙ refuse-seen w 8)
+
+    pub mark-marks : isWorking (w .transaction t .participant s) ≡ true
+        → seen (carry w (planIn s t (record { effects = noEffects; then = follows.Marked })) none) ≡ taken w (marking t s) none
+    unfolding carryPlan onlyIf thenIn
+    mark-marks e =
+        ap (λ (l : List Act). seen (carry w (record { site = s; acts = l; settle = atTransaction t (withMarked s) }) none)) (nothing-acts t)
+        ∙ sym (marks ∙ ap (λ b. seen (carryPlan w (onlyIf b (settling s (atTransaction t (withMarked s)))) none)) e)

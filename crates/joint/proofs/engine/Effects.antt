@@ -92,7 +92,7 @@ module _ (t : ℕ) where
 
   unsent : (a : Site) (kind owing to : ℕ) → siteAfter t (sending kind owing to) a ≡ a
   unfolding sending given siteAfter
-  unsent a kind owing to = by (leb kind 6)
+  unsent a kind owing to = by (leb kind 7)
     where
       by : (b : Bool) → siteAfter t (cond b (map (send (getD messages kind prepare)) (ordered owing to)) []) a ≡ a
       by true = unsent-each a _ (ordered owing to)
@@ -121,7 +121,7 @@ counted-given false = refl
 
 counted-sends : (kind owing to : ℕ) → counted isSend (sending kind owing to) ≡ length (sending kind owing to)
 unfolding sending given counted select isSend
-counted-sends kind owing to = by (leb kind 6)
+counted-sends kind owing to = by (leb kind 7)
   where
     each : (m : Message) (ps : List ℕ) → length (select isSend (map (send m) ps)) ≡ length (map (send m) ps)
     each m [] = refl
@@ -153,7 +153,7 @@ module _ (f : Effect → Bool) where
 
   none-sent : ((m : Message) (p : ℕ) → f (send m p) ≡ false) → (kind owing to : ℕ) → counted f (sending kind owing to) ≡ 0
   unfolding sending given counted select
-  none-sent h kind owing to = by (leb kind 6)
+  none-sent h kind owing to = by (leb kind 7)
     where
       each : (m : Message) (ps : List ℕ) → length (select f (map (send m) ps)) ≡ 0
       each m [] = refl

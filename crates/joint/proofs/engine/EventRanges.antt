@@ -54,7 +54,7 @@ module _ (bytes : List ℕ) where
   -- an event that is not refused by 1, with its code. Where power cannot cut an event it is whole
   pub record Accepted (code : ℕ) : Type 0 where
     pub is : parse bytes ≡ some (parsed code)
-    pub known : code ≤ 7
+    pub known : code ≤ 8
     pub last-x : at 1 ≤ getD (getD ranges code []) 0 0
     pub first-y : getD (getD ranges code []) 1 0 ≤ at 2
     pub last-y : at 2 ≤ getD (getD ranges code []) 2 0

@@ -31,21 +31,21 @@ struck a b c d = cond a 3 (cond b 4 (cond c 5 (cond d 7 0)))
 abbrev pub inputStruck : Run → ℕ → ℕ → ℕ → ℕ → ℕ
 inputStruck r t s kind p =
     let x = r .transaction t in
-    struck (empty (x .cohort .members)) (not (takesPart x p)) (not (r .site s .up)) (leb kind 6 && not (x .sent p kind))
+    struck (empty (x .cohort .members)) (not (takesPart x p)) (not (r .site s .up)) (leb kind 7 && not (x .sent p kind))
 
 -- ---- messages, by kind
 
-message-of : (kind : ℕ) → kind ≤ 6 → messageKind (getD messages kind prepare) ≡ kind
+message-of : (kind : ℕ) → kind ≤ 7 → messageKind (getD messages kind prepare) ≡ kind
 unfolding messageKind messages
-message-of kind h = eqb→eq _ _ (below-at 7 (λ kind. eqb (messageKind (getD messages kind prepare)) kind) tt kind (omega (arith, h)))
+message-of kind h = eqb→eq _ _ (below-at 8 (λ kind. eqb (messageKind (getD messages kind prepare)) kind) tt kind (omega (arith, h)))
 
-participant-receives : (kind : ℕ) → kind ≤ 6 → receives 1 kind ≡ not (inward kind)
+participant-receives : (kind : ℕ) → kind ≤ 7 → receives 1 kind ≡ not (inward kind)
 unfolding receives kindsReceived any
-participant-receives kind h = alike-eq _ _ (below-at 7 (λ kind. alike (receives 1 kind) (not (inward kind))) tt kind (omega (arith, h)))
+participant-receives kind h = alike-eq _ _ (below-at 8 (λ kind. alike (receives 1 kind) (not (inward kind))) tt kind (omega (arith, h)))
 
-coordinator-receives : (kind : ℕ) → kind ≤ 6 → receives 0 kind ≡ inward kind
+coordinator-receives : (kind : ℕ) → kind ≤ 7 → receives 0 kind ≡ inward kind
 unfolding receives kindsReceived any
-coordinator-receives kind h = alike-eq _ _ (below-at 7 (λ kind. alike (receives 0 kind) (inward kind)) tt kind (omega (arith, h)))
+coordinator-receives kind h = alike-eq _ _ (below-at 8 (λ kind. alike (receives 0 kind) (inward kind)) tt kind (omega (arith, h)))
 
 -- ---- the three events
 
@@ -61,7 +61,7 @@ module _ (r : Run) where
   unfolding refusals first unopened opened isDown stranger takesPart
   input-struck (begins t) = ap (λ b. cond b 3 (cond (not (r .site 0 .up)) 5 0)) (not-not (empty (r .transaction t .cohort .members)))
   input-struck (delivers t kind p h l u) =
-      rw (not-not (empty (r .transaction t .cohort .members)), message-of kind h, le-leb kind 6 h) refl
+      rw (not-not (empty (r .transaction t .cohort .members)), message-of kind h, le-leb kind 7 h) refl
   input-struck (times t s h) =
       rw (not-not (empty (r .transaction t .cohort .members))) refl
 

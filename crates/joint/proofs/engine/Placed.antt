@@ -10,7 +10,7 @@ use Rattle.codec.specs.Lists.{select}
 use Rattle.codec.specs.Records.{LogRecord}
 use Rattle.site.specs.Presumption.{Outcome}
 use Rattle.site.specs.Step.{messageKind, Effect, append, force, enter, send}
-use Rattle.site.specs.Coordinator.{CoordinatorPhase}
+use Rattle.site.specs.Coordinator.{Coordinator}
 use Rattle.site.specs.Participant.{ParticipantPhase}
 use Rattle.joint.specs.State.{Run, Site, Transaction, Act, update, atSite, atTransaction, appended, forced, withCoordinator, withParticipant, withSent, withEntered, forgotten, perform, performAll}
 use Rattle.joint.specs.Plan.{acting}
@@ -124,7 +124,7 @@ pub record Phase (s : ℕ) (g : Transaction → Transaction) : Type 0 where
   pub sent-later : (p k : ℕ) (x : Transaction) → g (withSent p k x) ≡ withSent p k (g x)
   pub taken : (x : Transaction) → forgotten s (g x) ≡ forgotten s x
 
-pub coordinator-phase : (c : CoordinatorPhase) → Phase 0 (withCoordinator 0 c)
+pub coordinator-phase : (c : Coordinator) → Phase 0 (withCoordinator 0 c)
 unfolding withCoordinator withEntered withSent forgotten withParticipant
 coordinator-phase c = record { entered-later = λ z o x. refl; sent-later = λ p k x. refl; taken = λ x. refl }
 
@@ -139,6 +139,7 @@ participant-phase n c =
             cohort = x .cohort;
             coordinator = x .coordinator;
             participant = update-twice (suc n) (λ _. ParticipantPhase.unknown) (λ _. c) (x .participant) i;
+            marked = x .marked;
             sent = x .sent;
             entered = x .entered;
           };

@@ -11,10 +11,10 @@ use Rattle.codec.specs.Sets.{participants, member, empty, listed}
 use Rattle.site.specs.Presumption.{Outcome, commit, abort, Presumption}
 use Rattle.site.specs.Cohort.{Cohort, owing}
 use Rattle.site.specs.Step.{messageKind, Effect, append, force, enter, send, Row, given}
-use Rattle.site.specs.Coordinator.{inOrder, tellAll, restartFrom, coordinatorRestart}
+use Rattle.site.specs.Coordinator.{inOrder, tellAll, resuming, restartFrom, leaving, coordinatorRestart}
 use Rattle.site.specs.Participant.{voting, restartWith, participantRestart}
 use Rattle.site.specs.laws.Sets.{order-length, take-append}
-use Rattle.joint.specs.State.{Run, Transaction, Act, holds, update, atSite, atTransaction, started, withEntered, withSent, forgotten, perform, performAll}
+use Rattle.joint.specs.State.{Run, Transaction, Act, holds, recordedCohort, update, atSite, atTransaction, started, withEntered, withSent, forgotten, perform, performAll}
 use Rattle.joint.specs.Plan.{Plan, acting, rowPlan, restarting, joined, restartAll}
 use Rattle.joint.specs.Run.{isAppend, isForce, isSend, count}
 use Rattle.joint.specs.Inside.{Resumption}
@@ -34,11 +34,15 @@ unfolding given
 given-few true es = omega arith
 given-few false es = omega arith
 
-from-few : (g : Cohort) (c i : Bool) → length (restartFrom g c i .effects) ≤ 9
+resuming-few : (g : Cohort) (o : Outcome) (b : Bool) → length (resuming g o b .effects) ≤ 9
+unfolding resuming
+resuming-few g o b = omega (arith, given-few b (tellAll g o (g .members)), tell-few g o (g .members))
+
+from-few : (c i : Bool) (told : ℕ → Cohort) → length (restartFrom c i told .effects) ≤ 9
 unfolding restartFrom
-from-few g true i = omega (arith, given-few (not (empty (owing g commit))) (tellAll g commit (g .members)), tell-few g commit (g .members))
-from-few g false true = omega (arith, tell-few g abort (g .members))
-from-few g false false = omega arith
+from-few true i told = resuming-few (told 2) commit (not (empty (owing (told 2) commit)))
+from-few false true told = resuming-few (told 1) abort true
+from-few false false told = omega arith
 
 with-few : (c : Presumption) (p : ℕ) (a b v : Bool) → length (restartWith c p a b v .effects) ≤ 9
 unfolding restartWith voting
@@ -127,8 +131,8 @@ row-resumes s t g row h n q =
     }
 
 pub resumes : (r : Run) (s t : ℕ) → Resumes s (restarting r s t)
-unfolding restarting coordinatorRestart participantRestart
-resumes r zero t = row-resumes 0 t _ _ (coordinator-phase _) (from-few _ _ _) (coordinator-logless _ (λ k. holds t k (r .site 0 .stable)))
+unfolding restarting coordinatorRestart leaving participantRestart
+resumes r zero t = row-resumes 0 t _ _ (coordinator-phase _) (from-few _ _ _) (coordinator-logless (λ k. holds t k (r .site 0 .stable)) (λ k. recordedCohort t k (r .site 0 .stable)))
 resumes r (suc n) t = row-resumes (suc n) t _ _ (participant-phase n _) (with-few _ _ _ _ _) (participant-logless _ (suc n) (λ k. holds t k (r .site (suc n) .stable)))
 
 -- n of them, and the site is up at the end

@@ -11,6 +11,7 @@ use lib.Seq.{take-nil, drop-cons, getD-set-other}
 use lib.Dec.{eqb, eqb→eq}
 use Rattle.codec.specs.Lists.{select}
 use Rattle.codec.specs.Sets.{empty}
+use Rattle.codec.specs.Records.{LogRecord}
 use Rattle.codec.specs.laws.Tests.{below-at}
 use Rattle.site.specs.Step.{Effect}
 use Rattle.site.specs.Answers.{effectsIn, hasKind}
@@ -36,12 +37,13 @@ use Rattle.joint.proofs.engine.Restarts.{resumes, resumedBy, resumed-jo
 stays-up : (s t : ℕ) (h : Then) → ((x : plain.Run) → thenIn s t h x .site ≡ x .site) → goesDown h ≡ false
 unfolding thenIn goesDown down stopped fresh
 stays-up s t follows.Same k = refl
-stays-up s t (follows.Coordinator c) k = refl
+stays-up s t (follows.Coordinator c out) k = refl
 stays-up s t (follows.Participant c) k = refl
-stays-up s t (follows.Opened c) k = refl
+stays-up s t (follows.Opened m c) k = refl
 stays-up s t (follows.Discarded b) k = refl
 stays-up s t (follows.Down n) k =
     absurd (true≢false (sym (ap (λ (f : ℕ → plain.Site). f s .up) (k fresh)) ∙ ap (λ (a : plain.Site). a .up) (update-same s (stopped n) (fresh .site))))
+stays-up s t follows.Marked k = refl
 
 -- a row of a restart, with hs for the effects that happened
 row-resumed : (x : plain.Run) (s t : ℕ) (row : Row) → planIn s t row ≡ restarting x s t
@@ -90,16 +92,16 @@ abbrev pub soFar : List Transaction → ℕ → ℕ → Resumption
 soFar now left sends = record { transaction = transactionsIn now; left = left; sends = sends }
 
 -- before transaction i: it and those behind it are as they were, and what is left to do leads to the whole
-pub record Resuming (s cut : ℕ) (kinds : List ℕ) (before now : List Transaction) (left sends i : ℕ) : Type 0 where
+pub record Resuming (s cut : ℕ) (kinds : List ℕ) (log : List LogRecord) (before now : List Transaction) (left sends i : ℕ) : Type 0 where
   pub size : length now ≡ 8
   pub within : i ≤ 8
   pub few : sends ≤ 8 * i
   pub same : (j : ℕ) → i ≤ j → transactionsIn now j ≡ transactionsIn before j
-  pub rest : (x : plain.Run) → transactionsIn before ≡ x .transaction → KindsOf kinds x s
+  pub rest : (x : plain.Run) → transactionsIn before ≡ x .transaction → KindsOf kinds x s → log ≡ x .site s .stable
       → resumedBy x s (restartAll x s (select (opened x) (drop i transactions))) (soFar now left sends) ≡ resumed x s cut
 
-module _ (s cut : ℕ) (kinds : List ℕ) (before : List Transaction) where
-  pub resuming-starts : length before ≡ 8 → Resuming s cut kinds before before cut 0 0
+module _ (s cut : ℕ) (kinds : List ℕ) (log : List LogRecord) (before : List Transaction) where
+  pub resuming-starts : length before ≡ 8 → Resuming s cut kinds log before before cut 0 0
   unfolding resumed
   resuming-starts n =
       record {
@@ -108,7 +110,7 @@ module _ (s cut : ℕ) (kinds : List ℕ) (before : List Transaction) where
         few = omega arith;
         same = λ j h. refl;
         rest =
-            λ x e k.
+            λ x e k q.
             let p = restartAll x s (select (opened x) transactions) in
             λ i. record {
               transaction = p .settle (performAll s (take cut (p .acts)) (record { site = x .site; transaction = e i })) .transaction;
@@ -117,7 +119,7 @@ module _ (s cut : ℕ) (kinds : List ℕ) (before : List Transaction) where
             };
       }
 
-  module _ (now : List Transaction) (left sends i : ℕ) (w : Resuming s cut kinds before now left sends i) where
+  module _ (now : List Transaction) (left sends i : ℕ) (w : Resuming s cut kinds log before now left sends i) where
     here : (x : plain.Run) → transactionsIn before ≡ x .transaction → transactionsIn now i ≡ x .transaction i
     here x e = w .same i (omega arith) ∙ ap (λ (f : ℕ → plain.Transaction). f i) e
 
@@ -130,10 +132,10 @@ module _ (s cut : ℕ) (kinds : List ℕ) (before : List Transaction) where
 
     -- transaction i is opened: its row, with hs for the effects that happen, and v for the transaction after it
     pub resuming-row : i < 8 → not (empty (transactionsIn now i .cohort .members)) ≡ true → (row : Row) (hs : List Effect) (v : Transaction) (m n : ℕ)
-        → ((x : plain.Run) (t : ℕ) → transactionsIn now i ≡ x .transaction t → ((k : ℕ) → k ≤ 7 → hasKind (getD kinds i 0) k ≡ holds t k (x .site s .stable)) → planIn s t row ≡ restarting x s t)
+        → ((x : plain.Run) → transactionsIn now i ≡ x .transaction i → ((k : ℕ) → k ≤ 7 → hasKind (getD kinds i 0) k ≡ holds i k (x .site s .stable)) → log ≡ x .site s .stable → planIn s i row ≡ restarting x s i)
         → hs ≡ take left (effectsIn (row .effects)) → transactionIn v ≡ thenTransaction s (row .then) (transactionAfter s hs (transactionsIn now i))
         → m ≡ left - length (effectsIn (row .effects)) → n ≡ counted isSend hs → n ≤ 8
-        → Resuming s cut kinds before (set now i v) m (sends + n) (i + 1)
+        → Resuming s cut kinds log before (set now i v) m (sends + n) (i + 1)
     unfolding restartAll
     resuming-row h o row hs v m n plan happen e p q small =
         record {
@@ -142,33 +144,33 @@ module _ (s cut : ℕ) (kinds : List ℕ) (before : List Transaction) where
           few = omega (arith, w .few, small);
           same = λ j l. ap transactionIn (getD-set-other now i j v noTransaction (λ d. absurd (omega (arith, l, d)))) ∙ w .same j (omega (arith, l));
           rest =
-              λ x b ks.
+              λ x b ks own.
               let z = soFar now left sends in
               let ts = select (opened x) (drop (i + 1) transactions) in
               let store = stored transactionIn (λ _. thenTransaction s (row .then) (transactionAfter s hs (transactionsIn now i))) now i v noTransaction (omega (arith, h, w .size)) e in
               let done : soFar (set now i v) m (sends + n) ≡ resumedBy x s (restarting x s i) z =
               (λ j. record { transaction = store j; left = p j; sends = sends + q j })
-              ∙ sym (row-resumed x s i row (plan x i (here x b) (λ k. ks i k (omega (arith, h)))) z hs happen) in
+              ∙ sym (row-resumed x s i row (plan x (here x b) (λ k. ks i k (omega (arith, h))) own) z hs happen) in
               ap (resumedBy x s (restartAll x s ts)) done
               ∙ sym (resumed-joined x s (restarting x s i) (restartAll x s ts) (resumes x s i) z)
               ∙ ap (λ (l : List ℕ). resumedBy x s (restartAll x s l) z) (sym (next h true o x b))
-              ∙ w .rest x b ks;
+              ∙ w .rest x b ks own;
         }
 
     -- it is not
-    pub resuming-passed : i < 8 → not (empty (transactionsIn now i .cohort .members)) ≡ false → Resuming s cut kinds before now left sends (i + 1)
+    pub resuming-passed : i < 8 → not (empty (transactionsIn now i .cohort .members)) ≡ false → Resuming s cut kinds log before now left sends (i + 1)
     resuming-passed h o =
         record {
           size = w .size;
           within = omega (arith, h);
           few = omega (arith, w .few);
           same = λ j l. w .same j (omega (arith, l));
-          rest = λ x b ks. ap (λ (l : List ℕ). resumedBy x s (restartAll x s l) (soFar now left sends)) (sym (next h false o x b)) ∙ w .rest x b ks;
+          rest = λ x b ks own. ap (λ (l : List ℕ). resumedBy x s (restartAll x s l) (soFar now left sends)) (sym (next h false o x b)) ∙ w .rest x b ks own;
         }
 
-    pub resuming-ends : 8 ≤ i → (x : plain.Run) → transactionsIn before ≡ x .transaction → KindsOf kinds x s → soFar now left sends ≡ resumed x s cut
+    pub resuming-ends : 8 ≤ i → (x : plain.Run) → transactionsIn before ≡ x .transaction → KindsOf kinds x s → log ≡ x .site s .stable → soFar now left sends ≡ resumed x s cut
     unfolding select transactions
-    resuming-ends h x b ks =
+    resuming-ends h x b ks own =
         let z = soFar now left sends in
         let last : 8 ≡ i = omega (arith, h, w .within) in
-        sym (none-left x s z) ∙ ap (λ (n : ℕ). resumedBy x s (restartAll x s (select (opened x) (drop n transactions))) z) last ∙ w .rest x b ks
+        sym (none-left x s z) ∙ ap (λ (n : ℕ). resumedBy x s (restartAll x s (select (opened x) (drop n transactions))) z) last ∙ w .rest x b ks own

@@ -13,10 +13,10 @@ use Rattle.codec.specs.Records.{LogRecord}
 use Rattle.codec.specs.Image.{most}
 use Rattle.codec.specs.laws.Tests.{every-at}
 use Rattle.site.specs.Step.{Effect, append, force, enter, send, Input, begin, timer}
-use Rattle.joint.specs.State.{Run, Site, Act, fresh, opened, appended, forced, atSite, atTransaction, perform, performAll}
+use Rattle.joint.specs.State.{Run, Site, Act, fresh, opened, appended, forced, atSite, atTransaction, withMarked, perform, performAll}
 use Rattle.joint.specs.Event.{Event, eventLength, eventOf, bytesInRange, cutInRange, cutAt, cutOf, parse}
 use Rattle.joint.specs.Refusals.{refusals}
-use Rattle.joint.specs.Plan.{Plan, plan, settling, step, mayDiscard, discard, rowPlan, acting, restartAll, transactions}
+use Rattle.joint.specs.Plan.{Plan, plan, settling, step, mayDiscard, discard, isWorking, rowPlan, acting, restartAll, transactions}
 use Rattle.joint.specs.Run.{isAppend, count, carry, carryPlan, carryUnless, eventParsed, event, after}
 use Rattle.joint.specs.Program.{roomForPlan, roomFor, roomParsed, hasRoom}
 use Rattle.joint.specs.Inside.{size, roomAlong}
@@ -120,7 +120,8 @@ module _ (es : List (List ℕ)) where
   room (suc (suc (suc (suc (suc zero))))) x y z h = recordless-room _ (all-only Recordless (mayDiscard r x y) (settling y (discard x y)) (λ _. refl))
   room (suc (suc (suc (suc (suc (suc zero)))))) x y z h = recordless-room _ refl
   room (suc (suc (suc (suc (suc (suc (suc zero))))))) x y z h = recordless-room _ (quiet-count isAppend (λ e l. unlogged e l .0) (restartAll r y (select (opened r) transactions) .acts) (restarts r y (select (opened r) transactions) .quiet))
-  room (suc (suc (suc (suc (suc (suc (suc (suc n)))))))) x y z h = recordless-room _ refl
+  room (suc (suc (suc (suc (suc (suc (suc (suc zero)))))))) x y z h = recordless-room _ (all-only Recordless (isWorking (r .transaction x .participant y)) (settling y (atTransaction x (withMarked y))) (λ _. refl))
+  room (suc (suc (suc (suc (suc (suc (suc (suc (suc n))))))))) x y z h = recordless-room _ refl
 
   pub has-room : (bytes : List ℕ) → hasRoom (after fresh es) bytes ≡ true
   unfolding hasRoom roomParsed parse onlyIf

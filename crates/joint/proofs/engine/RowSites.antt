@@ -25,22 +25,24 @@ use Rattle.joint.proofs.engine.Effects.{site-row, kind-none}
 pub undropped : (ks : List ℕ) → T (not (hasKey ks 4)) → (x : Then) → OneOf ks (tagOf the-type x) → drops x ≡ false
 unfolding drops
 undropped ks off follows.Same k = refl
-undropped ks off (follows.Coordinator c) k = refl
+undropped ks off (follows.Coordinator c out) k = refl
 undropped ks off (follows.Participant c) k = refl
-undropped ks off (follows.Opened c) k = refl
+undropped ks off (follows.Opened m c) k = refl
 undropped ks off (follows.Discarded last) k = absurd (miss ks 4 off k)
 undropped ks off (follows.Down keep) k = refl
+undropped ks off follows.Marked k = refl
 
 -- no record is dropped, and the site stays up
 pub unchanged : (ks : List ℕ) → T (not (hasKey ks 5)) → (x : Then) → OneOf ks (tagOf the-type x) → drops x ≡ false
     → (t : ℕ) (a : Site) → a ≡ thenSite t x a
 unfolding drops thenSite
 unchanged ks off follows.Same k d t a = refl
-unchanged ks off (follows.Coordinator c) k d t a = refl
+unchanged ks off (follows.Coordinator c out) k d t a = refl
 unchanged ks off (follows.Participant c) k d t a = refl
-unchanged ks off (follows.Opened c) k d t a = refl
+unchanged ks off (follows.Opened m c) k d t a = refl
 unchanged ks off (follows.Discarded last) k d t a = absurd (clash d)
 unchanged ks off (follows.Down keep) k d t a = absurd (miss ks 5 off k)
+unchanged ks off follows.Marked k d t a = refl
 
 -- ---- a row that leaves the records
 

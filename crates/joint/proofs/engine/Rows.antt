@@ -1,7 +1,7 @@
 -- A row of one site in one transaction: found by site's step or restart, and what it does to the site, the transaction and the run.
 use Prim.Native.Nat.{ℕ, zero, suc, _≤_}
-use mathlib.Core.Path.{_≡_, refl, ap, _∙_}
-use mathlib.Core.Bool.{Bool, true, false, _&&_, _||_}
+use mathlib.Core.Path.{_≡_, refl, sym, ap, ap₂, _∙_}
+use mathlib.Core.Bool.{Bool, true, false, cond, _&&_, _||_}
 use mathlib.Core.List.{List, [], _∷_}
 use mathlib.Core.Option.{Option, none, some}
 use lib.Dec.{eqb, ltb, leb}
@@ -13,12 +13,15 @@ use Rattle.codec.specs.Lists.{any, select}
 use Rattle.codec.specs.Sets.{participants, member, listed}
 use Rattle.codec.specs.laws.Tests.{below-at, true-of}
 use Rattle.site.specs.Step.{Row, Effect, Answer, refused, noRow, row, answered, answerIf, given}
-use Rattle.site.specs.Cohort.{presumptionOf}
+use Rattle.site.specs.Cohort.{Cohort, presumptionOf}
+use Rattle.site.specs.Coordinator as part
 use Rattle.site.specs.Coordinator.{coordinatorStep, coordinatorRestart, ordered, inTurn}
 use Rattle.site.specs.Participant.{participantStep, participantRestart}
 use Rattle.site.specs.Numbers.{inputOf, receives, coordinatorAnswer, participantAnswer, participantRestarted, appending, entryOf}
-use Rattle.site.specs.Answers.{coordinatorIn, participantIn, presumptionIn, cohortIn, effectsIn, closing, sending, coordinatorRowIn, coordinatorAnswerIn, participantAnswerIn}
+use Rattle.site.specs.Answers.{coordinatorStateIn, participantIn, presumptionIn, cohortIn, effectsIn, closing, sending, coordinatorRowIn, coordinatorAnswerIn, participantAnswerIn}
+use Rattle.site.specs.laws.Remaining.{restart-by}
 use Rattle.site.specs.declared.effects.Effects.{Effects}
+use Rattle.site.specs.declared.coordinator.Coordinator.{Coordinator}
 use Rattle.site.specs.declared.coordinator.CoordinatorRow.{CoordinatorRow}
 use Rattle.site.specs.declared.coordinator.CoordinatorAnswer.{CoordinatorAnswer}
 use Rattle.site.specs.declared.coordinator.CoordinatorAnswer.the-variants as coordinator
@@ -28,10 +31,10 @@ use Rattle.site.specs.declared.participant.ParticipantAnswer.the-variants as pa
 use Rattle.site.proofs.coordinator.CoordinatorAnswer as coordinator-answer
 use Rattle.site.proofs.participant.ParticipantAnswer as participant-answer
 use Rattle.joint.specs.State as plain
-use Rattle.joint.specs.State.{holds, update, withCoordinator, withParticipant, atSite, atTransaction, forgotten, stopped, down, performAll}
+use Rattle.joint.specs.State.{holds, recordedCohort, update, withCoordinator, withParticipant, withMarked, atSite, atTransaction, forgotten, stopped, down, performAll}
 use Rattle.joint.specs.Plan as plan
 use Rattle.joint.specs.Plan.{Plan, acting, rowPlan, planned, step, restarting, trimmed, forgottenUnless}
-use Rattle.joint.specs.Answers.{transactionIn}
+use Rattle.joint.specs.Answers.{partIn, transactionIn}
 use Rattle.joint.specs.Inside.{siteAfter, transactionAfter, thenIn, thenSite, thenTransaction, goesDown, drops, MayReceive}
 use Rattle.joint.specs.declared.transactions.Transaction.{Transaction}
 use Rattle.joint.specs.declared.rows.Then.{Then}
@@ -50,32 +53,35 @@ no-effects = refl
 
 -- ---- what follows it, by its kind
 
-pub not-down : (th : Then) → OneOf (0 ∷ 1 ∷ 2 ∷ 3 ∷ 4 ∷ []) (tagOf the-type th) → false ≡ goesDown th
+pub not-down : (th : Then) → OneOf (0 ∷ 1 ∷ 2 ∷ 3 ∷ 4 ∷ 6 ∷ []) (tagOf the-type th) → false ≡ goesDown th
 unfolding goesDown
 not-down follows.Same k = refl
-not-down (follows.Coordinator c) k = refl
+not-down (follows.Coordinator c out) k = refl
 not-down (follows.Participant c) k = refl
-not-down (follows.Opened c) k = refl
+not-down (follows.Opened m c) k = refl
 not-down (follows.Discarded b) k = refl
-not-down (follows.Down keep) k = absurd (miss (0 ∷ 1 ∷ 2 ∷ 3 ∷ 4 ∷ []) 5 tt k)
+not-down (follows.Down keep) k = absurd (miss (0 ∷ 1 ∷ 2 ∷ 3 ∷ 4 ∷ 6 ∷ []) 5 tt k)
+not-down follows.Marked k = refl
 
-pub not-dropping : (th : Then) → OneOf (0 ∷ 1 ∷ 2 ∷ 3 ∷ 5 ∷ []) (tagOf the-type th) → false ≡ drops th
+pub not-dropping : (th : Then) → OneOf (0 ∷ 1 ∷ 2 ∷ 3 ∷ 5 ∷ 6 ∷ []) (tagOf the-type th) → false ≡ drops th
 unfolding drops
 not-dropping follows.Same k = refl
-not-dropping (follows.Coordinator c) k = refl
+not-dropping (follows.Coordinator c out) k = refl
 not-dropping (follows.Participant c) k = refl
-not-dropping (follows.Opened c) k = refl
-not-dropping (follows.Discarded b) k = absurd (miss (0 ∷ 1 ∷ 2 ∷ 3 ∷ 5 ∷ []) 4 tt k)
+not-dropping (follows.Opened m c) k = refl
+not-dropping (follows.Discarded b) k = absurd (miss (0 ∷ 1 ∷ 2 ∷ 3 ∷ 5 ∷ 6 ∷ []) 4 tt k)
 not-dropping (follows.Down keep) k = refl
+not-dropping follows.Marked k = refl
 
 pub kept-transaction : (s : ℕ) (th : Then) (x : plain.Transaction) → OneOf (0 ∷ 5 ∷ []) (tagOf the-type th) → x ≡ thenTransaction s th x
 unfolding thenTransaction
 kept-transaction s follows.Same x k = refl
-kept-transaction s (follows.Coordinator c) x k = absurd (miss (0 ∷ 5 ∷ []) 1 tt k)
+kept-transaction s (follows.Coordinator c out) x k = absurd (miss (0 ∷ 5 ∷ []) 1 tt k)
 kept-transaction s (follows.Participant c) x k = absurd (miss (0 ∷ 5 ∷ []) 2 tt k)
-kept-transaction s (follows.Opened c) x k = absurd (miss (0 ∷ 5 ∷ []) 3 tt k)
+kept-transaction s (follows.Opened m c) x k = absurd (miss (0 ∷ 5 ∷ []) 3 tt k)
 kept-transaction s (follows.Discarded b) x k = absurd (miss (0 ∷ 5 ∷ []) 4 tt k)
 kept-transaction s (follows.Down keep) x k = refl
+kept-transaction s follows.Marked x k = absurd (miss (0 ∷ 5 ∷ []) 6 tt k)
 
 -- ---- what a row does in a run
 
@@ -92,9 +98,9 @@ module _ (s t : ℕ) (a : plain.Site) (x : plain.Transaction) (w : plain.Run) wh
       }
   unfolding thenIn thenSite thenTransaction goesDown forgottenUnless atSite down
   then-placed follows.Same = refl
-  then-placed (follows.Coordinator c) = placed-changed s t (withCoordinator 0 (coordinatorIn c)) a x w
+  then-placed (follows.Coordinator c out) = placed-changed s t (withCoordinator 0 (partIn c out)) a x w
   then-placed (follows.Participant c) = placed-changed s t (withParticipant s (participantIn c)) a x w
-  then-placed (follows.Opened c) = placed-changed s t (plan.openedAs (cohortIn c)) a x w
+  then-placed (follows.Opened m c) = placed-changed s t (plan.openedAs (record { members = m; presumeCommit = c })) a x w
   then-placed (follows.Discarded true) =
       ap (atTransaction t (withParticipant s _)) dropped ∙ placed-changed s t (withParticipant s _) (trimmed t a) x w
     where
@@ -102,6 +108,7 @@ module _ (s t : ℕ) (a : plain.Site) (x : plain.Transaction) (w : plain.Run) wh
       dropped = run-path (update-twice s (trimmed t) (λ _. a) (w .site)) refl
   then-placed (follows.Discarded false) = run-path (update-twice s (trimmed t) (λ _. a) (w .site)) refl
   then-placed (follows.Down keep) = run-path (update-twice s (stopped keep) (λ _. a) (w .site)) refl
+  then-placed follows.Marked = placed-changed s t (withMarked s) a x w
 
 pub row-happens : (s t : ℕ) (th : Then) (es : List Effect) (w : plain.Run)
     → thenIn s t th (performAll s (acting t es) w)
@@ -149,22 +156,33 @@ no-participant-row participant.Refused k = refl
 
 -- ---- the coordinator
 
-module _ (x : Transaction) (w : plain.Run) (t : ℕ) (own : transactionIn x ≡ w .transaction t) where
-  pub coordinator-found : (kind p : ℕ) (a : CoordinatorAnswer) → (receives 0 kind && (leb 16 kind || member p (x .coordinator .members))) ≡ true
-      → coordinatorAnswerIn a ≡ coordinatorAnswer (cohortIn (x .coordinator)) kind p (coordinatorIn (x .coordinator .phase))
-      → planned 0 t (withCoordinator 0) (rowOf (coordinatorAnswerIn a)) ≡ step w t 0 (inputOf kind p)
-  unfolding step coordinatorAnswer transactionIn
-  coordinator-found kind p a h e =
-      ap (planned 0 t (withCoordinator 0)) (ap rowOf e ∙ row-answered _ _ h)
-      ∙ ap (λ (y : plain.Transaction). planned 0 t (withCoordinator 0) (coordinatorStep (y .cohort) (inputOf kind p) (y .coordinator))) own
+-- c: the coordinator, as the program hands it to its step
+pub coordinator-found : (x : plain.Transaction) (c : Coordinator) → (cohortIn c ≡ x .cohort) × (coordinatorStateIn c ≡ x .coordinator)
+    → (w : plain.Run) (t : ℕ) → x ≡ w .transaction t
+    → (kind p : ℕ) (a : CoordinatorAnswer) → (receives 0 kind && (leb 16 kind || member p (x .cohort .members))) ≡ true
+    → coordinatorAnswerIn a ≡ coordinatorAnswer (cohortIn c) kind p (coordinatorStateIn c)
+    → planned 0 t (withCoordinator 0) (rowOf (coordinatorAnswerIn a)) ≡ step w t 0 (inputOf kind p)
+unfolding step coordinatorAnswer
+coordinator-found x c stands w t own kind p a h e =
+    let same = ap₂ (λ (g : Cohort) (k : part.Coordinator). coordinatorAnswer g kind p k) (stands .0) (stands .1) in
+    ap (planned 0 t (withCoordinator 0)) (ap rowOf (e ∙ same) ∙ row-answered _ _ h)
+    ∙ ap (λ (y : plain.Transaction). planned 0 t (withCoordinator 0) (coordinatorStep (y .cohort) (inputOf kind p) (y .coordinator))) own
 
-  pub coordinator-restarts : (f : ℕ → Bool) (r : CoordinatorRow) → coordinatorRowIn r ≡ coordinatorRestart (cohortIn (x .coordinator)) f
-      → ((k : ℕ) → k ≤ 7 → f k ≡ holds t k (w .site 0 .stable))
-      → rowPlan 0 t (withCoordinator 0) (coordinatorRowIn r) ≡ restarting w 0 t
-  unfolding restarting coordinatorRestart transactionIn
-  coordinator-restarts f r e h =
-      ap (rowPlan 0 t (withCoordinator 0)) (rw (h 1 (omega arith), h 2 (omega arith), h 3 (omega arith), h 4 (omega arith)) at e)
-      ∙ ap (λ (y : plain.Transaction). rowPlan 0 t (withCoordinator 0) (coordinatorRestart (y .cohort) (λ k. holds t k (w .site 0 .stable)))) own
+same-kinds : (a b : ℕ → Bool) (told : ℕ → Cohort) → ((k : ℕ) → k ≤ 7 → a k ≡ b k) → coordinatorRestart a told ≡ coordinatorRestart b told
+unfolding coordinatorRestart
+same-kinds a b told q = rw (q 1 (omega arith), q 2 (omega arith), q 3 (omega arith), q 4 (omega arith)) refl
+
+-- g: the cohort in the record from which it resumes
+pub coordinator-restarts : (w : plain.Run) (t : ℕ) (f : ℕ → Bool) (g : Cohort) (r : CoordinatorRow) → coordinatorRowIn r ≡ coordinatorRestart f (λ k. g)
+    → ((k : ℕ) → k ≤ 7 → f k ≡ holds t k (w .site 0 .stable))
+    → g ≡ recordedCohort t (cond (f 2) 2 1) (w .site 0 .stable)
+    → rowPlan 0 t (withCoordinator 0) (coordinatorRowIn r) ≡ restarting w 0 t
+unfolding restarting
+coordinator-restarts w t f g r e h m =
+    let log = w .site 0 .stable in
+    let told : g ≡ recordedCohort t (cond (holds t 2 log) 2 1) log = rw (h 2 (omega arith)) at m in
+    ap (rowPlan 0 t (withCoordinator 0))
+    (e ∙ same-kinds f (λ k. holds t k log) (λ k. g) h ∙ ap (λ (g : Cohort). coordinatorRestart (λ k. holds t k log) (λ k. g)) told ∙ sym (restart-by (λ k. holds t k log) (λ k. recordedCohort t k log)))
 
 -- ---- a participant
 
@@ -175,7 +193,7 @@ own-message x zero kind p h z = absurd (z refl)
 own-message x (suc n) kind p h z = (omega arith, h)
 
 step-of-participant : (w : plain.Run) (t n kind : ℕ) → 1 ≤ n
-    → planned n t (withParticipant n) (participantStep (presumptionOf (w .transaction t .cohort) n) n (inputOf kind n) (w .transaction t .participant n)) ≡ step w t n (inputOf kind n)
+    → planned n t (withParticipant n) (participantStep (presumptionOf (w .transaction t .cohort) n) n (w .transaction t .marked n) (inputOf kind n) (w .transaction t .participant n)) ≡ step w t n (inputOf kind n)
 unfolding step
 step-of-participant w t zero kind h = absurd (omega (arith, h))
 step-of-participant w t (suc n) kind h = refl
@@ -193,14 +211,14 @@ module _ (x : Transaction) (w : plain.Run) (t : ℕ) (own : transactionIn x ≡ 
 
   -- r: this participant, as the program hands it to its step
   module _ (r : Participant) (number : r .number ≡ n) (phase : participantIn (r .phase) ≡ transactionIn x .participant n)
-      (presumption : presumptionIn (r .presumption) ≡ presumptionOf (transactionIn x .cohort) n) where
+      (presumption : presumptionIn (r .presumption) ≡ presumptionOf (transactionIn x .cohort) n) (mark : r .marked ≡ transactionIn x .marked n) where
     pub participant-found : (kind : ℕ) (a : ParticipantAnswer) → receives 1 kind ≡ true
-        → participantAnswerIn a ≡ participantAnswer (presumptionIn (r .presumption)) (r .number) kind (participantIn (r .phase))
+        → participantAnswerIn a ≡ participantAnswer (presumptionIn (r .presumption)) (r .number) (r .marked) kind (participantIn (r .phase))
         → planned n t (withParticipant n) (rowOf (participantAnswerIn a)) ≡ step w t n (inputOf kind n)
     unfolding participantAnswer
     participant-found kind a h e =
-        ap (planned n t (withParticipant n)) (ap rowOf (rw (number, phase, presumption) at e) ∙ row-answered _ _ (rw (h, numbered) refl))
-        ∙ ap (λ (y : plain.Transaction). planned n t (withParticipant n) (participantStep (presumptionOf (y .cohort) n) n (inputOf kind n) (y .participant n))) own
+        ap (planned n t (withParticipant n)) (ap rowOf (rw (number, phase, presumption, mark) at e) ∙ row-answered _ _ (rw (h, numbered) refl))
+        ∙ ap (λ (y : plain.Transaction). planned n t (withParticipant n) (participantStep (presumptionOf (y .cohort) n) n (y .marked n) (inputOf kind n) (y .participant n))) own
         ∙ step-of-participant w t n kind low
 
     pub participant-restarts : (f : ℕ → Bool) (a : ParticipantAnswer) → participantAnswerIn a ≡ participantRestarted (presumptionIn (r .presumption)) (r .number) f

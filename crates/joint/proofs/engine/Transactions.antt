@@ -25,7 +25,7 @@ use Rattle.site.specs.declared.phases.CoordinatorPhase.the-variants as phases
 use Rattle.site.specs.declared.phases.ParticipantPhase.{ParticipantPhase}
 use Rattle.site.specs.laws.Sets.{ordered-none}
 use Rattle.joint.specs.State as plain
-use Rattle.joint.specs.State.{takesPart, update, withParticipant, withSent, withEntered, forgotten}
+use Rattle.joint.specs.State.{takesPart, update, withParticipant, withMarked, withSent, withEntered, forgotten}
 use Rattle.joint.specs.Plan.{openedAs}
 use Rattle.joint.specs.Answers.{transactionIn, enteredIn, noHeld}
 use Rattle.joint.specs.Inside.{transactionAfter}
@@ -39,10 +39,10 @@ read-any [] i d d′ h = absurd (omega (arith, h))
 read-any (x ∷ l) zero d d′ h = refl
 read-any (x ∷ l) (suc i) d d′ h = read-any l i d d′ (omega (arith, h))
 
-transaction-path : {g : Cohort} {c : coordinator.CoordinatorPhase} {p p′ : ℕ → participant.ParticipantPhase} {s s′ : ℕ → ℕ → Bool} {e e′ : ℕ → outcomes.Outcome → Bool}
+transaction-path : {g : Cohort} {c : coordinator.Coordinator} {p p′ : ℕ → participant.ParticipantPhase} {m : ℕ → Bool} {s s′ : ℕ → ℕ → Bool} {e e′ : ℕ → outcomes.Outcome → Bool}
     → p ≡ p′ → s ≡ s′ → e ≡ e′
-    → _≡_ {A = plain.Transaction} (record { cohort = g; coordinator = c; participant = p; sent = s; entered = e }) (record { cohort = g; coordinator = c; participant = p′; sent = s′; entered = e′ })
-transaction-path {g} {c} p s e = λ i. record { cohort = g; coordinator = c; participant = p i; sent = s i; entered = e i }
+    → _≡_ {A = plain.Transaction} (record { cohort = g; coordinator = c; participant = p; marked = m; sent = s; entered = e }) (record { cohort = g; coordinator = c; participant = p′; marked = m; sent = s′; entered = e′ })
+transaction-path {g} {c} {m} p s e = λ i. record { cohort = g; coordinator = c; participant = p i; marked = m; sent = s i; entered = e i }
 
 -- ---- by site
 
@@ -59,17 +59,27 @@ forgotten-participant x (suc n) h = refl
 -- ---- a phase is stored
 
 pub phase-stored : (x : Transaction) (i : ℕ) → i < length (x .participants) → (phase : ParticipantPhase)
-    → transactionIn (record { coordinator = x .coordinator; participants = set (x .participants) i (record { phase = phase }); sent = x .sent; committed = x .committed; aborted = x .aborted })
+    → transactionIn (record { part = x .part; «taken_out» = x .«taken_out»; participants = set (x .participants) i (record { phase = phase }); marked = x .marked; sent = x .sent; committed = x .committed; aborted = x .aborted })
     ≡ withParticipant i (participantIn phase) (transactionIn x)
 unfolding transactionIn withParticipant
 phase-stored x i lt phase =
     transaction-path (stored (λ (v : Held). participantIn (v .phase)) (λ _. participantIn phase) (x .participants) i (record { phase = phase }) noHeld lt refl) refl refl
 
+-- ---- a mark is stored
+
+pub mark-stored : (x : Transaction) (p bits : ℕ) → ((k : ℕ) → hasKind bits k ≡ (eqb k p || hasKind (x .marked) k))
+    → transactionIn (record { part = x .part; «taken_out» = x .«taken_out»; participants = x .participants; marked = bits; sent = x .sent; committed = x .committed; aborted = x .aborted })
+    ≡ withMarked p (transactionIn x)
+unfolding transactionIn withMarked
+mark-stored x p bits e =
+    let y = transactionIn x in
+    λ i. record { cohort = y .cohort; coordinator = y .coordinator; participant = y .participant; marked = λ k. e k i; sent = y .sent; entered = y .entered }
+
 -- ---- an outcome is entered
 
 module _ (x : Transaction) (s bits : ℕ) where
   pub commit-entered : ((k : ℕ) → hasKind bits k ≡ (eqb k s || hasKind (x .committed) k))
-      → transactionIn (record { coordinator = x .coordinator; participants = x .participants; sent = x .sent; committed = bits; aborted = x .aborted }) ≡ withEntered s commit (transactionIn x)
+      → transactionIn (record { part = x .part; «taken_out» = x .«taken_out»; participants = x .participants; marked = x .marked; sent = x .sent; committed = bits; aborted = x .aborted }) ≡ withEntered s commit (transactionIn x)
   unfolding transactionIn withEntered enteredIn sameOutcome
   commit-entered e = transaction-path refl refl (fun-ext (λ z. fun-ext (by z)))
     where
@@ -78,7 +88,7 @@ module _ (x : Transaction) (s bits : ℕ) where
       by z abort = rw and-false
 
   pub abort-entered : ((k : ℕ) → hasKind bits k ≡ (eqb k s || hasKind (x .aborted) k))
-      → transactionIn (record { coordinator = x .coordinator; participants = x .participants; sent = x .sent; committed = x .committed; aborted = bits }) ≡ withEntered s abort (transactionIn x)
+      → transactionIn (record { part = x .part; «taken_out» = x .«taken_out»; participants = x .participants; marked = x .marked; sent = x .sent; committed = x .committed; aborted = bits }) ≡ withEntered s abort (transactionIn x)
   unfolding transactionIn withEntered enteredIn sameOutcome
   abort-entered e = transaction-path refl refl (fun-ext (λ z. fun-ext (by z)))
     where
@@ -100,7 +110,7 @@ among false false c d = refl
 
 pub sent-each : (s : ℕ) (m : Message) (ps : List ℕ) (x : plain.Transaction)
     → transactionAfter s (map (send m) ps) x
-    ≡ record { cohort = x .cohort; coordinator = x .coordinator; participant = x .participant; sent = λ q j. (any (eqb q) ps && eqb j (messageKind m)) || x .sent q j; entered = x .entered }
+    ≡ record { cohort = x .cohort; coordinator = x .coordinator; participant = x .participant; marked = x .marked; sent = λ q j. (any (eqb q) ps && eqb j (messageKind m)) || x .sent q j; entered = x .entered }
 unfolding transactionAfter any withSent
 sent-each s m [] x = refl
 sent-each s m (p ∷ ps) x =
@@ -175,17 +185,17 @@ member-either q a b ha hb = by (noParticipant q) refl
         let e : suc (q - 1) ≡ q = omega (arith, r .0) in
         rw e at (in-those (λ p. member p a || member p b) (q - 1) (omega (arith, r .0, r .1)))
 
-kind-number : (kind : ℕ) → kind ≤ 6 → messageKind (getD messages kind prepare) ≡ kind
+kind-number : (kind : ℕ) → kind ≤ 7 → messageKind (getD messages kind prepare) ≡ kind
 unfolding messageKind messages
-kind-number kind h = eqb→eq _ _ (below-at 7 (λ k. eqb (messageKind (getD messages k prepare)) k) tt kind (omega arith))
+kind-number kind h = eqb→eq _ _ (below-at 8 (λ k. eqb (messageKind (getD messages k prepare)) k) tt kind (omega arith))
 
-pub sent-all : (x : Transaction) (kind owing to v : ℕ) → kind ≤ 6 → kind < length (x .sent) → to < 256
+pub sent-all : (x : Transaction) (kind owing to v : ℕ) → kind ≤ 7 → kind < length (x .sent) → to < 256
     → ((q : ℕ) → member q v ≡ (member q (getD (x .sent) kind 0) || member q to)) → (s : ℕ)
-    → transactionIn (record { coordinator = x .coordinator; participants = x .participants; sent = set (x .sent) kind v; committed = x .committed; aborted = x .aborted })
+    → transactionIn (record { part = x .part; «taken_out» = x .«taken_out»; participants = x .participants; marked = x .marked; sent = set (x .sent) kind v; committed = x .committed; aborted = x .aborted })
     ≡ transactionAfter s (sending kind owing to) (transactionIn x)
 unfolding transactionIn sending given
 sent-all x kind owing to v k lt byte e s =
-    rw (le-leb kind 6 k)
+    rw (le-leb kind 7 k)
     (transaction-path refl (fun-ext (λ q. fun-ext (at q))) refl
     ∙ sym (sent-each s (getD messages kind prepare) (ordered owing to) (transactionIn x)))
   where
@@ -200,13 +210,13 @@ sent-all x kind owing to v k lt byte e s =
         by false h = rw (getD-set-other (x .sent) kind j v 0 (eqb-false j kind h), and-false) refl
 
 -- what is sent is a message
-pub is-kind : (to kind : ℕ) → (not (eqb to 0) && leb kind 6) ≡ true → kind ≤ 6
-is-kind to kind q = leb-true kind 6 (and-eq-true-iff (not (eqb to 0)) (leb kind 6) .0 q .1)
+pub is-kind : (to kind : ℕ) → (not (eqb to 0) && leb kind 7) ≡ true → kind ≤ 7
+is-kind to kind q = leb-true kind 7 (and-eq-true-iff (not (eqb to 0)) (leb kind 7) .0 q .1)
 
 -- to nobody, or what is no message
-pub sent-none : (kind owing to : ℕ) → (not (eqb to 0) && leb kind 6) ≡ false → (s : ℕ) (x : plain.Transaction) → x ≡ transactionAfter s (sending kind owing to) x
+pub sent-none : (kind owing to : ℕ) → (not (eqb to 0) && leb kind 7) ≡ false → (s : ℕ) (x : plain.Transaction) → x ≡ transactionAfter s (sending kind owing to) x
 unfolding sending given transactionAfter
-sent-none kind owing to q s x = by (eqb to 0) refl (leb kind 6) q
+sent-none kind owing to q s x = by (eqb to 0) refl (leb kind 7) q
   where
     by : (z : Bool) → eqb to 0 ≡ z → (m : Bool) → (not z && m) ≡ false → x ≡ transactionAfter s (cond m (map (send (getD messages kind prepare)) (ordered owing to)) []) x
     by true e true q = rw (eqb-true to 0 e, ordered-none owing) refl
@@ -222,6 +232,7 @@ working-below n m x =
       cohort = x .cohort;
       coordinator = x .coordinator;
       participant = λ p. cond (ltb p n && member p m) participant.working (x .participant p);
+      marked = x .marked;
       sent = x .sent;
       entered = x .entered;
     }
@@ -269,8 +280,10 @@ module _ (m : ℕ) (x : plain.Transaction) where
 abbrev pub opening : Transaction → ℕ → ℕ → List Held → Transaction
 opening x m pc held =
     record {
-      coordinator = record { phase = phases.Open; members = m; «presume_commit» = pc };
+      part = record { phase = phases.Open; members = m; «presume_commit» = pc };
+      «taken_out» = 0;
       participants = held;
+      marked = x .marked;
       sent = x .sent;
       committed = x .committed;
       aborted = x .aborted;

@@ -209,6 +209,7 @@ step-site w (steps.Input e) h = input-site w (h .1 .1)
 step-site w (steps.Force s) h = refl
 step-site w (steps.Discard e) h = all-only (λ p. p .site ≡ e .site) _ _ (λ _. refl)
 step-site w (steps.Crash e) h = refl
+step-site w (steps.Mark e) h = all-only (λ p. p .site ≡ e .participant) _ _ (λ _. refl)
 
 pub step-low : (e : Step) → StepInRange e → (stepSite e ≤ 8) × (stepTransaction e ≤ 7)
 step-low (steps.Open e) h = (omega arith, h)
@@ -216,6 +217,7 @@ step-low (steps.Input e) h = (h .1 .0, h .0)
 step-low (steps.Force s) h = (h, omega arith)
 step-low (steps.Discard e) h = (h .1, h .0)
 step-low (steps.Crash e) h = (h, omega arith)
+step-low (steps.Mark e) h = (h .1, h .0)
 
 -- ---- a restart: one site's counts and all transactions are stored, if it is accepted
 

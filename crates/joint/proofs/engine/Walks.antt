@@ -1,22 +1,23 @@
 -- Walks over the first records of an array: what one record more changes.
 use Prim.Native.Nat.{ℕ, suc, _+_, _-_, _≤_, _<_}
-use mathlib.Core.Path.{_≡_, refl, sym, ap, _∙_}
-use mathlib.Core.Bool.{Bool, true, false, cond, _&&_, _||_, or-false, or-comm}
+use mathlib.Core.Path.{_≡_, refl, sym, ap, _∙_, fun-ext}
+use mathlib.Core.Bool.{Bool, true, false, cond, _&&_, _||_, and-true, and-eq-true-iff, or-false, or-comm}
 use mathlib.Core.List.{List, [], _∷_, _++_, map, append-assoc, append-nil}
 use native.Mathlib.Omega.{arith}
-use borrow.Author.Tests.{eq-eqb, eqb-true, eqb-false, ne-eqb, lt-ltb, le-leb}
+use borrow.Author.Tests.{eq-eqb, eqb-true, eqb-false, ne-eqb, lt-ltb, le-ltb, le-leb}
 use lib.ListN.{length, take, getD, set, replicate, length-map, List·getD-map, length-take}
-use lib.Seq.{take-suc, take-add, getD-set-same, getD-set-other}
+use lib.Seq.{take-suc, take-add, getD-take, getD-set-same, getD-set-other}
 use lib.Dec.{eqb, leb, ltb, leb·suc-suc}
 use Rattle.codec.specs.Lists.{select, any}
-use Rattle.codec.specs.Records.{LogRecord, ofTransaction}
+use Rattle.codec.specs.Records.{LogRecord, lengths, lengthOf, ofTransaction, membersIn, presumeCommitIn}
 use Rattle.codec.specs.Answers.{recordIn, noRecord}
 use Rattle.codec.specs.laws.Tests.{alike, alike-eq, below-at-2}
 use Rattle.codec.specs.declared.record.Record.{Record}
+use Rattle.site.specs.Cohort.{Cohort}
 use Rattle.site.specs.Answers.{hasKind}
-use Rattle.joint.specs.State.{holds}
+use Rattle.joint.specs.State.{holds, recordedCohort}
 use Rattle.joint.specs.Plan.{newest}
-use Rattle.joint.specs.Inside.{oldestAt}
+use Rattle.joint.specs.Inside.{oldestAt, sought}
 use Rattle.joint.proofs.base.Booleans.{eqb-sym, clash}
 use Rattle.joint.proofs.base.Lists.{select-append, any-append}
 
@@ -48,6 +49,82 @@ module _ (f : LogRecord → Bool) where
       go : (b : Bool) → ltb (oldestAt f xs) (length xs) ≡ any f xs → ltb (cond b 0 (suc (oldestAt f xs))) (suc (length xs)) ≡ (b || any f xs)
       go true more = lt-ltb 0 (suc (length xs)) (omega arith)
       go false more = leb·suc-suc (suc (oldestAt f xs)) (length xs) ∙ more
+
+-- sought by its transaction alone
+pub any-kind : (t : ℕ) → sought t 0 ≡ ofTransaction t
+unfolding sought
+any-kind t = fun-ext (λ x. and-true (ofTransaction t x))
+
+-- the oldest that passes a test passes it
+oldest-passes : (f : LogRecord → Bool) (d : LogRecord) (xs : List LogRecord) → oldestAt f xs < length xs → f (getD xs (oldestAt f xs) d) ≡ true
+unfolding oldestAt
+oldest-passes f d [] h = absurd (omega (arith, h))
+oldest-passes f d (x ∷ xs) h = go (f x) refl h (oldest-passes f d xs)
+  where
+    go : (b : Bool) → f x ≡ b → cond b 0 (suc (oldestAt f xs)) < suc (length xs) → (oldestAt f xs < length xs → f (getD xs (oldestAt f xs) d) ≡ true)
+        → f (getD (x ∷ xs) (cond b 0 (suc (oldestAt f xs))) d) ≡ true
+    go true e h more = e
+    go false e h more = more (omega (arith, h))
+
+-- ---- the cohort in the oldest record 2, or in the oldest record 1
+
+abbrev masksAt : LogRecord → Cohort
+masksAt x = record { members = membersIn x; presumeCommit = presumeCommitIn x }
+
+module _ (t k : ℕ) (some : eqb k 0 ≡ false) (d : LogRecord) where
+  recorded-by : (xs : List LogRecord) → recordedCohort t k xs
+      ≡ cond (ltb (oldestAt (sought t k) xs) (length xs)) (masksAt (getD xs (oldestAt (sought t k) xs) d)) (record { members = 0; presumeCommit = 0 })
+  unfolding recordedCohort oldestAt
+  recorded-by [] = refl
+  recorded-by (x ∷ xs) =
+      ap (λ (b : Bool). cond b (masksAt x) (recordedCohort t k xs)) same ∙ go (sought t k x) (oldestAt (sought t k) xs) (recorded-by xs)
+    where
+      same : (ofTransaction t x && eqb (x .kind) k) ≡ sought t k x
+      same = unfold sought in rw some refl
+
+      go : (b : Bool) (n : ℕ) → recordedCohort t k xs ≡ cond (ltb n (length xs)) (masksAt (getD xs n d)) (record { members = 0; presumeCommit = 0 })
+          → cond b (masksAt x) (recordedCohort t k xs)
+          ≡ cond (ltb (cond b 0 (suc n)) (suc (length xs))) (masksAt (getD (x ∷ xs) (cond b 0 (suc n)) d)) (record { members = 0; presumeCommit = 0 })
+      go true n more = rw (lt-ltb 0 (suc (length xs)) (omega arith)) refl
+      go false n more = rw (leb·suc-suc (suc n) (length xs)) more
+
+-- records 1 and 2 have two fields
+masks-in : (x : Record) (b : Bool) → x .kind ≡ cond b 2 1 → masksAt (recordIn x) ≡ record { members = x .first; presumeCommit = x .second }
+unfolding recordIn membersIn presumeCommitIn lengthOf lengths
+masks-in x true e = rw e refl
+masks-in x false e = rw e refl
+
+sought-kind : (t k : ℕ) (x : Record) → eqb k 0 ≡ false → sought t k (recordIn x) ≡ true → x .kind ≡ k
+unfolding sought recordIn
+sought-kind t k x e q =
+    let both = and-eq-true-iff (ofTransaction t (recordIn x)) (eqb k 0 || eqb (x .kind) k) .0 q in
+    eqb-true (x .kind) k (rw e at (both .1))
+
+-- of the first `count` records, n being where it stands
+module _ (t : ℕ) (b : Bool) (rs : List Record) (count n : ℕ) (all : length rs ≡ 24) (few : count ≤ 24)
+    (stands : n ≡ oldestAt (sought t (cond b 2 1)) (take count (map recordIn rs))) where
+  abbrev kind : ℕ
+  kind = cond b 2 1
+
+  abbrev log : List LogRecord
+  log = take count (map recordIn rs)
+
+  real : (b : Bool) → eqb (cond b 2 1) 0 ≡ false
+  real true = refl
+  real false = refl
+
+  sized : length log ≡ count
+  sized = simp (length-take, length-map) (omega (arith, all, few))
+
+  pub none-recorded : count ≤ n → record { members = 0; presumeCommit = 0 } ≡ recordedCohort t (cond b 2 1) (take count (map recordIn rs))
+  none-recorded h = sym (recorded-by t kind (real b) (recordIn noRecord) log ∙ rw (← stands, sized, le-ltb n count h) refl)
+
+  pub masks-recorded : n < count → record { members = getD rs n noRecord .first; presumeCommit = getD rs n noRecord .second } ≡ recordedCohort t (cond b 2 1) (take count (map recordIn rs))
+  masks-recorded h =
+      let x = getD rs n noRecord in
+      let read : getD log n (recordIn noRecord) ≡ recordIn x = getD-take count (map recordIn rs) n (recordIn noRecord) h ∙ List·getD-map recordIn rs n noRecord in
+      let passes : sought t kind (recordIn x) ≡ true = rw (← stands, read) at (oldest-passes (sought t kind) (recordIn noRecord) log (omega (arith, stands, h, sized))) in
+      sym (recorded-by t kind (real b) (recordIn noRecord) log ∙ rw (← stands, sized, lt-ltb n count h, read) (masks-in x b (sought-kind t kind x (real b) passes)))
 
 -- ---- a record's transaction
 

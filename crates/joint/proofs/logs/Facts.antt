@@ -15,20 +15,23 @@ use Rattle.codec.specs.Image.{most}
 use Rattle.codec.specs.laws.Tests.{and-left, and-right, true-of}
 use Rattle.codec.specs.laws.Masks.{those-alike, those-members}
 use Rattle.site.specs.Presumption.{commit, abort}
-use Rattle.site.specs.Cohort.{Cohort, owing, writesInit}
+use Rattle.site.specs.Cohort.{Cohort, remaining, owing, writesInit}
 use Rattle.site.specs.Numbers.{coordinatorPhase, waitingSet, waitingInRange}
 use Rattle.joint.specs.State.{Run, opened}
 use Rattle.joint.proofs.base.Lists.{select-append, Each}
-use Rattle.joint.proofs.safety.Invariant.{waiting, resting, down, Standing, never, initial, collecting, decided, SetsFit, awaitsCommit, phaseAt, between, recordFor}
+use Rattle.joint.proofs.safety.Sets.{no-zero, owing-remaining}
+use Rattle.joint.proofs.safety.Invariant.{waiting, resting, down, Standing, never, initial, collecting, decided, SetsFit, phaseAt, between, recordFor}
 use Rattle.joint.proofs.logs.Counts.{recordsOf, sumBelow}
-use Rattle.joint.proofs.logs.Orders.{mayStand, orderly, order-front, Ranged, Follows}
-use Rattle.joint.proofs.logs.Kinds.{share, fine, cohortIn, Known, Kinds}
+use Rattle.joint.proofs.logs.Orders.{mayStand, orderly, order-front, owes, Ranged, Follows}
+use Rattle.joint.proofs.logs.Kinds.{share, fine, has-front, cohortIn, Known, Kinds}
 
--- a record of a log at site s: its transaction is opened, s takes part in it, and it is the transaction's record of its kind
+-- a record of a log at site s: its transaction is opened, s takes part in it, and it is the transaction's record of its kind;
+-- record 2 leaves out the set that was taken out
 pub record OwnRecord (r : Run) (s : ℕ) (x : LogRecord) : Type 0 where
   pub known : Known r (x .transaction) s
   pub kind : recordKindAt s (x .kind) ≡ true
-  pub is : x ≡ recordFor (cohortIn r (x .transaction)) (x .transaction) s (x .kind)
+  pub out : ℕ
+  pub is : x ≡ recordFor (cohortIn r (x .transaction)) out (x .transaction) s (x .kind)
 
 -- ---- the records of transaction t at site s
 
@@ -39,7 +42,7 @@ front-nil (k ∷ ks) js e = absurd (omega (arith, ap length e))
 module _ {r : Run} {t s : ℕ} (x : Kinds r t s) where
   -- its record of a kind
   abbrev put : ℕ → LogRecord
-  put = recordFor (cohortIn r t) t s
+  put = recordFor (cohortIn r t) (x .out) t s
 
   -- record 1 is written at begin
   abbrev i : Bool
@@ -47,7 +50,7 @@ module _ {r : Run} {t s : ℕ} (x : Kinds r t s) where
 
   -- acks are owed for a commit
   abbrev a : Bool
-  a = awaitsCommit (cohortIn r t)
+  a = owes (cohortIn r t) (x .out)
 
   -- the kinds of all its records
   abbrev whole : List ℕ
@@ -78,7 +81,7 @@ module _ {r : Run} {t s : ℕ} (x : Kinds r t s) where
   each-kind k ks (j ∷ js) o =
       let stands = and-left (mayStand s i a ks j) _ o in
       let kind = true-of (recordKindAt s j) (and-left (recordKindAt s j) _ stands) in
-      (record { known = k; kind = kind; is = refl }, each-kind k (ks ++ (j ∷ [])) js (and-right (mayStand s i a ks j) _ o))
+      (record { known = k; kind = kind; out = x .out; is = refl }, each-kind k (ks ++ (j ∷ [])) js (and-right (mayStand s i a ks j) _ o))
 
   pub each-of : Each (OwnRecord r s) (recordsOf t (r .site s .stable ++ r .site s .unforced))
   each-of = subst (Each (OwnRecord r s)) (sym is-whole) (go (x .known))
@@ -100,24 +103,28 @@ module _ {r : Run} {t s : ℕ} (x : Kinds r t s) where
     unfolding select
     follows-whole =
         record {
+          out = x .out;
           earlier = [];
           later = whole;
           is-earlier = refl;
           is-later = is-whole;
           order = ordered;
           ranged = none-or-ranged whole (λ e. e);
+          left = x .left;
         }
 
     pub follows-stable : Follows (cohortIn r) s t [] (r .site s .stable)
     unfolding select
     follows-stable =
         record {
+          out = x .out;
           earlier = [];
           later = x .stable;
           is-earlier = refl;
           is-later = x .is-stable;
           order = order-front s i a [] (x .stable) (x .unforced) ordered;
           ranged = none-or-ranged (x .stable) (front-nil (x .stable) (x .unforced));
+          left = λ u. x .left (has-front 2 (x .stable) (x .unforced) u);
         }
 
 -- eight transactions' shares are the most records of a log
@@ -129,7 +136,7 @@ shares (suc n) = refl
 -- ---- waiting sets
 
 -- w is a part of m if each of its members is in m
-part-of : (w m : ℕ) → w < 256 → ((p : ℕ) → T (member p w) → T (member p m)) → part w m ≡ true
+pub part-of : (w m : ℕ) → w < 256 → ((p : ℕ) → T (member p w) → T (member p m)) → part w m ≡ true
 unfolding part both
 part-of w m h f =
     eq-eqb (both w m) w
@@ -140,14 +147,18 @@ part-of w m h f =
     go false c k = refl
 
 -- what is awaited is not empty, and a part of those that it may be awaited of
-pub standing-waits : (g : Cohort) (h : Standing) → SetsFit g h → T (between h)
+pub standing-waits : (g : Cohort) (h : Standing) → g .members < 256 → SetsFit g h → T (between h)
     → waitingInRange g (coordinatorPhase (phaseAt h)) (waitingSet (phaseAt h)) ≡ true
 unfolding waitingInRange coordinatorPhase waitingSet empty
-standing-waits g (never u) e b = refl
-standing-waits g (initial j) e b = refl
-standing-waits g (collecting w true) e b = absurd b
-standing-waits g (collecting w false) e b = rw (true-of (not (empty w)) b, part-of w (g .members) (e .0) (e .1))
-standing-waits g (decided commit (waiting w) l) e b = rw (true-of (not (empty w)) b, part-of w (owing g commit) (e .0) (e .1))
-standing-waits g (decided abort (waiting w) l) e b = rw (true-of (not (empty w)) b, part-of w (owing g abort) (e .0) (e .1))
-standing-waits g (decided o (resting j) l) e b = refl
-standing-waits g (decided o down l) e b = refl
+standing-waits g (never u) byte e b = refl
+standing-waits g (initial j) byte e b = refl
+standing-waits g (collecting w out true) byte e b = absurd b
+standing-waits g (collecting w out false) byte e b = rw (true-of (not (empty w)) b, part-of w (g .members) (e .0) (e .1))
+standing-waits g (decided commit out (waiting w) l) byte e b = rw (true-of (not (empty w)) b, part-of w (owing g commit) (e .0) (λ p k. waits-of p k (e .1 p k)))
+  where
+    waits-of : (p : ℕ) → T (member p w) → T (member p (owing (remaining g out) commit)) → T (member p (owing g commit))
+    waits-of zero k u = absurd (no-zero w k)
+    waits-of (suc n) k u = owing-remaining g out commit n u .1
+standing-waits g (decided abort out (waiting w) l) byte e b = rw (true-of (not (empty w)) b, part-of w (owing g abort) (e .0) (e .1))
+standing-waits g (decided o out (resting j) l) byte e b = refl
+standing-waits g (decided o out down l) byte e b = refl

@@ -1,32 +1,31 @@
 -- The kinds of one transaction's records at one site, as the invariant tells them: in order, and few.
 use Prim.Native.Nat.{ℕ, zero, suc, _≤_, _<_}
 use mathlib.Core.Path.{_≡_, refl, sym, ap, _∙_, subst}
-use mathlib.Core.Logic.{_⊎_, inl, inr}
+use mathlib.Core.Logic.{_⊎_, inl, inr, ⊎-elim}
 use mathlib.Core.Bool.{Bool, true, false, not, _&&_, _||_, true≢false, false≢true}
 use mathlib.Core.List.{List, [], _∷_, _++_, map, append-nil}
 use lib.ListN.{length}
-use lib.Dec.{T, leb}
+use lib.Dec.{T, eqb, leb}
 use native.Mathlib.Omega.{arith}
 use borrow.Author.Tests.{eqb-false, not-true}
 use Rattle.codec.specs.Lists.{any, same}
 use Rattle.codec.specs.Sets.{member, empty}
 use Rattle.codec.specs.Records.{recordKindAt, sequences}
-use Rattle.codec.specs.laws.Tests.{of-true}
-use Rattle.site.specs.Presumption.{Outcome, abort, sameOutcome}
-use Rattle.site.specs.Cohort.{Cohort, writesInit}
+use Rattle.site.specs.Presumption.{Outcome, commit, abort, sameOutcome}
+use Rattle.site.specs.Cohort.{Cohort, remaining, writesInit}
 use Rattle.site.specs.Participant.{outcomeRecord}
 use Rattle.site.specs.Coordinator.{endRecord}
 use Rattle.joint.specs.State.{Run, Site, opened, takesPart}
 use Rattle.joint.specs.Safety.{Moment}
-use Rattle.joint.proofs.base.Booleans.{_⇒_, mp, and-both}
+use Rattle.joint.proofs.base.Booleans.{_⇒_, mp, and-both, or-left, or-right, or-either, both-ways}
 use Rattle.joint.proofs.view.View.{siteView, view}
 use Rattle.joint.proofs.safety.Tables.{Status, working, prepared, gone, half, lone, shut, off, offVoted, offShut, isUp, stableKinds, unforcedKinds, has}
 use Rattle.joint.proofs.safety.Finite.{allBool, at-bool, at-status}
-use Rattle.joint.proofs.safety.Sets.{empty-none}
-use Rattle.joint.proofs.safety.Invariant.{Log, kindsIn, classOf, resting, waiting, down, Standing, never, initial, collecting, decided, logFits, standingFits, SetsFit, awaitsCommit, properKinds, properLog, initLog, standingUp, stableAt, kindIf, unforcedAt, isNever, recordFor, Place, Mid}
-use Rattle.joint.proofs.safety.coordinator.Logs.{closed, at-log, closed-kinds, closed-proper, may-close}
+use Rattle.joint.proofs.safety.Sets.{has-member}
+use Rattle.joint.proofs.safety.Invariant.{Log, kindsIn, classOf, resting, waiting, down, Standing, never, initial, collecting, decided, outOf, logFits, standingFits, SetsFit, SomeLeft, Remains, properKinds, properLog, initLog, standingUp, stableAt, kindIf, unforcedAt, isNever, recordFor, Place, Mid}
+use Rattle.joint.proofs.safety.coordinator.Logs.{withEnd, at-log, waiting-down, resting-down, commit-record, closed-kinds, closed-proper, may-close}
 use Rattle.joint.proofs.logs.Counts.{recordsOf}
-use Rattle.joint.proofs.logs.Orders.{orderly, Ranged}
+use Rattle.joint.proofs.logs.Orders.{orderly, owes, Ranged}
 
 -- ---- the kinds of one transaction's records
 
@@ -46,6 +45,11 @@ tidy s i a ks js = fine s i a (ks ++ js) && leb (length js) 1
 status-tidy : (n : ℕ) (i a : Bool) (x : Status) → T (tidy (suc n) i a (stableKinds x) (unforcedKinds x))
 unfolding recordKindAt any same sequences outcomeRecord
 status-tidy n i a x = at-status (λ x. tidy (suc n) i a (stableKinds x) (unforcedKinds x)) tt x
+
+-- a participant has no record 2
+no-commit : (x : Status) → T (has 2 (stableKinds x ++ unforcedKinds x)) → ⊥
+unfolding has any outcomeRecord
+no-commit x t = both-ways (has 2 (stableKinds x ++ unforcedKinds x)) t (at-status (λ x. not (has 2 (stableKinds x ++ unforcedKinds x))) tt x)
 
 -- the records of a proper log are fine
 abbrev logTest : Log → Bool
@@ -88,17 +92,54 @@ closing-tidy : (i a : Bool) (o : Outcome) (l : Log) → T (logFits i o (resting 
     → T (properKinds i a (kindsIn l))
     → T (tidy 0 i a (kindsIn l) (endRecord o ∷ []))
 closing-tidy i a o l f k p =
-    to-tidy i a (kindsIn l) (endRecord o ∷ []) (kindsIn (closed l)) (closed-kinds i o l f) tt (log-fine i a (closed l) (closed-proper i a o l f k p))
+    to-tidy i a (kindsIn l) (endRecord o ∷ []) (kindsIn (withEnd l)) (closed-kinds i o l f) tt (log-fine i a (withEnd l) (closed-proper i a o l f k p))
 
-standing-tidy : (g : Cohort) (h : Standing) → T (standingFits (writesInit g) h) → SetsFit g h → T (properLog (writesInit g) (awaitsCommit g) h)
-    → T (tidy 0 (writesInit g) (awaitsCommit g) (stableAt (writesInit g) h) (unforcedAt h))
+standing-tidy : (g : Cohort) (h : Standing) → T (standingFits (writesInit g) h) → SetsFit g h → T (properLog (writesInit g) (owes g (outOf h)) h)
+    → T (tidy 0 (writesInit g) (owes g (outOf h)) (stableAt (writesInit g) h) (unforcedAt h))
 standing-tidy g (never u) f e p = tt
-standing-tidy g (initial b) f e p = initial-tidy (writesInit g) (awaitsCommit g) b f
-standing-tidy g (collecting w b) f e p = collecting-tidy (writesInit g) (awaitsCommit g) b
-standing-tidy g (decided o (waiting w) l) f e p = log-tidy (writesInit g) (awaitsCommit g) l p
-standing-tidy g (decided o (resting true) l) f e p = closing-tidy (writesInit g) (awaitsCommit g) o l f (may-close g o l e) p
-standing-tidy g (decided o (resting false) l) f e p = log-tidy (writesInit g) (awaitsCommit g) l p
-standing-tidy g (decided o down l) f e p = log-tidy (writesInit g) (awaitsCommit g) l p
+standing-tidy g (initial b) f e p = initial-tidy (writesInit g) (owes g 0) b f
+standing-tidy g (collecting w out b) f e p = collecting-tidy (writesInit g) (owes g out) b
+standing-tidy g (decided o out (waiting w) l) f e p = log-tidy (writesInit g) (owes g out) l p
+standing-tidy g (decided o out (resting true) l) f e p = closing-tidy (writesInit g) (owes g out) o l f (may-close g o out l e) p
+standing-tidy g (decided o out (resting false) l) f e p = log-tidy (writesInit g) (owes g out) l p
+standing-tidy g (decided o out down l) f e p = log-tidy (writesInit g) (owes g out) l p
+
+-- somebody remains where there is a record 2
+has-either : (k : ℕ) (ks js : List ℕ) → T (has k (ks ++ js)) → T (has k ks) ⊎ T (has k js)
+unfolding has any
+has-either k [] js t = inr t
+has-either k (j ∷ ks) js t = or-either (eqb j k) (any (λ i. eqb i k) (ks ++ js)) (λ u. inl (or-left (eqb j k) _ u)) (λ u. ⊎-elim (λ x. inl (or-right (eqb j k) _ x)) inr (has-either k ks js u)) t
+
+pub has-front : (k : ℕ) (ks js : List ℕ) → T (has k ks) → T (has k (ks ++ js))
+unfolding has any
+has-front k [] js t = absurd t
+has-front k (j ∷ ks) js t = or-either (eqb j k) (any (λ i. eqb i k) ks) (or-left (eqb j k) _) (λ u. or-right (eqb j k) (any (λ i. eqb i k) (ks ++ js)) (has-front k ks js u)) t
+
+left-of : (g : Cohort) (o : Outcome) (out : ℕ) → SomeLeft g out o → T (sameOutcome o commit) → T (not (empty (remaining g out .members)))
+unfolding sameOutcome
+left-of g commit out x u = x
+left-of g abort out x u = absurd u
+
+standing-left : (g : Cohort) (h : Standing) → T (standingFits (writesInit g) h) → Remains g h → T (has 2 (stableAt (writesInit g) h ++ unforcedAt h))
+    → T (not (empty (remaining g (outOf h) .members)))
+unfolding has any endRecord
+standing-left g (never u) f x t = absurd t
+standing-left g (initial true) f x t = absurd t
+standing-left g (initial false) f x t = absurd t
+standing-left g (collecting w out true) f x t = x
+standing-left g (collecting w out false) f x t = absurd (none-yet (writesInit g) t)
+  where
+    none-yet : (i : Bool) → T (has 2 (kindsIn (initLog i) ++ [])) → ⊥
+    none-yet true t = unfold has any in t
+    none-yet false t = unfold has any in t
+standing-left g (decided o out (waiting w) l) f x t = left-of g o out x (commit-record (writesInit g) o l (⊎-elim (λ u. u) (λ u. absurd u) (has-either 2 (kindsIn l) [] t)) (waiting-down (writesInit g) o l w f))
+standing-left g (decided o out (resting false) l) f x t = left-of g o out x (commit-record (writesInit g) o l (⊎-elim (λ u. u) (λ u. absurd u) (has-either 2 (kindsIn l) [] t)) (resting-down (writesInit g) o l false f))
+standing-left g (decided o out (resting true) l) f x t = left-of g o out x (commit-record (writesInit g) o l (⊎-elim (λ u. u) (λ u. absurd (no-end o u)) (has-either 2 (kindsIn l) (endRecord o ∷ []) t)) (resting-down (writesInit g) o l true f))
+  where
+    no-end : (o : Outcome) → T (has 2 (endRecord o ∷ [])) → ⊥
+    no-end commit u = unfold has any endRecord in u
+    no-end abort u = unfold has any endRecord in u
+standing-left g (decided o out down l) f x t = left-of g o out x (commit-record (writesInit g) o l (⊎-elim (λ u. u) (λ u. absurd u) (has-either 2 (kindsIn l) [] t)) f)
 
 -- ---- a site that is down has no unforced record
 
@@ -116,10 +157,10 @@ status-halts (offShut o f) e = refl
 standing-halts : (h : Standing) → standingUp h ≡ false → unforcedAt h ≡ []
 standing-halts (never u) e = refl
 standing-halts (initial b) e = absurd (true≢false e)
-standing-halts (collecting w b) e = absurd (true≢false e)
-standing-halts (decided o (waiting w) l) e = refl
-standing-halts (decided o (resting b) l) e = absurd (true≢false e)
-standing-halts (decided o down l) e = refl
+standing-halts (collecting w out b) e = absurd (true≢false e)
+standing-halts (decided o out (waiting w) l) e = refl
+standing-halts (decided o out (resting b) l) e = absurd (true≢false e)
+standing-halts (decided o out down l) e = refl
 
 -- ---- the records of transaction t at site s
 
@@ -135,26 +176,22 @@ pub record Known (r : Run) (t s : ℕ) : Type 0 where
 
 -- the kinds of t's records at s: they are tidy, and there are none unless s knows t
 pub record Kinds (r : Run) (t s : ℕ) : Type 0 where
+  -- the set that was taken out, which record 2 leaves out
+  pub out : ℕ
   pub stable : List ℕ
   pub unforced : List ℕ
-  pub is-stable : recordsOf t (r .site s .stable) ≡ map (recordFor (cohortIn r t) t s) stable
-  pub is-unforced : recordsOf t (r .site s .unforced) ≡ map (recordFor (cohortIn r t) t s) unforced
-  pub tidies : T (tidy s (writesInit (cohortIn r t)) (awaitsCommit (cohortIn r t)) stable unforced)
+  pub is-stable : recordsOf t (r .site s .stable) ≡ map (recordFor (cohortIn r t) out t s) stable
+  pub is-unforced : recordsOf t (r .site s .unforced) ≡ map (recordFor (cohortIn r t) out t s) unforced
+  pub tidies : T (tidy s (writesInit (cohortIn r t)) (owes (cohortIn r t) out) stable unforced)
+  pub left : T (has 2 (stable ++ unforced)) → T (not (empty (remaining (cohortIn r t) out .members)))
   pub halts : r .site s .up ≡ false → unforced ≡ []
   pub known : (stable ++ unforced ≡ []) ⊎ Known r t s
 
 never-none : (i : Bool) (h : Standing) → isNever h ≡ true → stableAt i h ++ unforcedAt h ≡ []
 never-none i (never u) e = refl
 never-none i (initial b) e = absurd (false≢true e)
-never-none i (collecting w b) e = absurd (false≢true e)
-never-none i (decided o pace l) e = absurd (false≢true e)
-
-has-member : (m p : ℕ) → member p m ≡ true → empty m ≡ false
-has-member m p e = go (empty m) refl
-  where
-    go : (b : Bool) → empty m ≡ b → empty m ≡ false
-    go true f = absurd (empty-none m p (of-true f) (of-true e))
-    go false f = f
+never-none i (collecting w out b) e = absurd (false≢true e)
+never-none i (decided o out pace l) e = absurd (false≢true e)
 
 module _ (t : ℕ) (ms : List Moment) (r : Run) (h : Standing) (mid : Mid t h (view t ms r)) where
   known-as : (s : ℕ) → empty (cohortIn r t .members) ≡ false → takesPart (r .transaction t) s ≡ true → Known r t s
@@ -165,11 +202,13 @@ module _ (t : ℕ) (ms : List Moment) (r : Run) (h : Standing) (mid : Mid t h (v
   unfolding view siteView
   kinds-0 =
       record {
+        out = outOf h;
         stable = stableAt (writesInit (cohortIn r t)) h;
         unforced = unforcedAt h;
         is-stable = ap (λ (x : Site). x .stable) (mid .log);
         is-unforced = ap (λ (x : Site). x .unforced) (mid .log);
         tidies = standing-tidy (cohortIn r t) h (mid .sound .fit) (mid .sound .sets) (mid .sound .proper);
+        left = standing-left (cohortIn r t) h (mid .sound .fit) (mid .sound .remains);
         halts = λ d. standing-halts h (sym (ap (λ (x : Site). x .up) (mid .log)) ∙ d);
         known = go (empty (cohortIn r t .members)) refl;
       }
@@ -188,16 +227,18 @@ module _ (t : ℕ) (ms : List Moment) (r : Run) (h : Standing) (mid : Mid t h (v
       go : (b : Bool) → member (suc n) (cohortIn r t .members) ≡ b → Place b t n s (view t ms r) → Kinds r t (suc n)
       go true e x =
           record {
+            out = 0;
             stable = stableKinds s;
             unforced = unforcedKinds s;
             is-stable = ap (λ (y : Site). y .stable) (x .site);
             is-unforced = ap (λ (y : Site). y .unforced) (x .site);
-            tidies = status-tidy n (writesInit (cohortIn r t)) (awaitsCommit (cohortIn r t)) s;
+            tidies = status-tidy n (writesInit (cohortIn r t)) (owes (cohortIn r t) 0) s;
+            left = λ u. absurd (no-commit s u);
             halts = λ d. status-halts s (sym (ap (λ (y : Site). y .up) (x .site)) ∙ d);
             known = inr (known-as (suc n) (has-member (cohortIn r t .members) (suc n) e) (unfold takesPart in e));
           }
       go false e x =
-          record { stable = []; unforced = []; is-stable = x .stable; is-unforced = x .unforced; tidies = tt; halts = λ d. refl; known = inl refl }
+          record { out = 0; stable = []; unforced = []; is-stable = x .stable; is-unforced = x .unforced; tidies = tt; left = λ u. absurd (unfold has any in u); halts = λ d. refl; known = inl refl }
 
   pub kinds-at : (s : ℕ) → Kinds r t s
   kinds-at zero = kinds-0

@@ -6,7 +6,7 @@ use lib.ListN.{getD}
 use lib.Dec.{T}
 use Rattle.codec.specs.laws.Tests.{and-left, and-right}
 use Rattle.site.specs.Presumption.{Outcome, commit, abort, Presumption, presumedAbort, presumedCommit}
-use Rattle.site.specs.Step.{Message, prepare, voteYes, voteNo, tell, ack}
+use Rattle.site.specs.Step.{Message, prepare, voteYes, voteNo, readOnly, tell, ack}
 use Rattle.joint.proofs.safety.Tables.{Status, working, prepared, gone, half, lone, shut, off, offVoted, offShut, Stage, fresh, asking, done}
 
 -- ---- the n-th of tests that all hold
@@ -87,7 +87,7 @@ at-stage f t (asking w) = at-bool (λ w. f (asking w)) (look 1 (stages f) t) w
 at-stage f t (done o u) = at-bool (λ u. f (done o u)) (at-outcome (λ o. allBool (λ u. f (done o u))) (look 2 (stages f) t) o) u
 
 abbrev messageTests : (Message → Bool) → List Bool
-messageTests f = f prepare ∷ f voteYes ∷ f voteNo ∷ allOutcome (λ o. f (tell o)) ∷ allOutcome (λ o. f (ack o)) ∷ []
+messageTests f = f prepare ∷ f voteYes ∷ f voteNo ∷ f readOnly ∷ allOutcome (λ o. f (tell o)) ∷ allOutcome (λ o. f (ack o)) ∷ []
 
 abbrev pub allMessage : (Message → Bool) → Bool
 allMessage f = allOf (messageTests f)
@@ -96,5 +96,6 @@ pub at-message : (f : Message → Bool) → T (allMessage f) → (g : Message) �
 at-message f t prepare = look 0 (messageTests f) t
 at-message f t voteYes = look 1 (messageTests f) t
 at-message f t voteNo = look 2 (messageTests f) t
-at-message f t (tell o) = at-outcome (λ o. f (tell o)) (look 3 (messageTests f) t) o
-at-message f t (ack o) = at-outcome (λ o. f (ack o)) (look 4 (messageTests f) t) o
+at-message f t readOnly = look 3 (messageTests f) t
+at-message f t (tell o) = at-outcome (λ o. f (tell o)) (look 4 (messageTests f) t) o
+at-message f t (ack o) = at-outcome (λ o. f (ack o)) (look 5 (messageTests f) t) o

@@ -7,10 +7,11 @@ use mathlib.Core.List.{List, [], _∷_, _++_, map, append-nil, append-assoc}
 use lib.Dec.{eqb}
 use borrow.Author.Tests.{eq-eqb, ne-eqb, eqb-true, eqb-false}
 use Rattle.codec.specs.Lists.{select, any, every}
-use Rattle.codec.specs.Records.{LogRecord, ofTransaction}
+use Rattle.codec.specs.Records.{LogRecord, ofTransaction, membersIn, presumeCommitIn}
 use Rattle.site.specs.Presumption.{Outcome}
+use Rattle.site.specs.Cohort.{Cohort}
 use Rattle.site.specs.Step.{voteYes, messageKind, Effect, append, force, enter, send}
-use Rattle.joint.specs.State.{Run, Site, Transaction, Act, holds, atSite, atTransaction, appended, forced, stopped, withCoordinator, withParticipant, withSent, withEntered, forgotten, down, perform, performAll}
+use Rattle.joint.specs.State.{Run, Site, Transaction, Act, holds, recordedCohort, atSite, atTransaction, appended, forced, stopped, withCoordinator, withParticipant, withSent, withEntered, forgotten, down, perform, performAll}
 use Rattle.joint.specs.Run.{isForce}
 use Rattle.joint.specs.Safety.{Moment, moments, enters, sends, isEntry, isEntryAt, isVote}
 use Rattle.joint.proofs.base.Lists.{select-append, among, select-take, any-append}
@@ -51,6 +52,23 @@ holds-select t k (x ∷ xs) = go (ofTransaction t x) refl (holds-select t k xs)
 
     go : (b : Bool) → ofTransaction t x ≡ b → any f own ≡ any f xs → any f (cond b (x ∷ own) own) ≡ (b && eqb (x .kind) k || any f xs)
     go true e h = unfold any in rw (e, h)
+    go false e h = h
+
+-- and so is the cohort that a record tells
+pub recorded-select : (t k : ℕ) (log : List LogRecord) → recordedCohort t k (select (ofTransaction t) log) ≡ recordedCohort t k log
+unfolding recordedCohort select
+recorded-select t k [] = refl
+recorded-select t k (x ∷ xs) = go (ofTransaction t x) refl (recorded-select t k xs)
+  where
+    own : List LogRecord
+    own = select (ofTransaction t) xs
+
+    told : Cohort
+    told = record { members = membersIn x; presumeCommit = presumeCommitIn x }
+
+    go : (b : Bool) → ofTransaction t x ≡ b → recordedCohort t k own ≡ recordedCohort t k xs
+        → recordedCohort t k (cond b (x ∷ own) own) ≡ cond (b && eqb (x .kind) k) told (recordedCohort t k xs)
+    go true e h = unfold recordedCohort in (rw (e, h))
     go false e h = h
 
 -- ---- one act

@@ -57,15 +57,15 @@ Forces es = Each (λ e. T (isForce e)) es
 all-forces : (es : List Effect) → Forces (select isForce es)
 all-forces es = each-chosen (λ e. T (isForce e)) isForce (λ e k. k) es
 
-module _ (t s : ℕ) where
+module _ (t : ℕ) (Out : ℕ → Type 0) (s : ℕ) where
   -- no effect: what follows, or a crash
-  pub bare-turns : {f : View → View} {v w : View} → Turns t v (f v) → Carried t s [] f v w → Turns t v w
+  pub bare-turns : {f : View → View} {v w : View} → Turns t Out v (f v) → Carried t s [] f v w → Turns t Out v w
   unfolding viewEffects
   bare-turns h whole = h
   bare-turns h (cutAfter zero n) = turn (crashes s n)
   bare-turns h (cutAfter (suc m) n) = turn (crashes s n)
 
-  forces-then : (es : List Effect) → Forces es → (v x : View) → Turns t (viewEffects s t es v) x → Turns t v x
+  forces-then : (es : List Effect) → Forces es → (v x : View) → Turns t Out (viewEffects s t es v) x → Turns t Out v x
   unfolding viewEffects viewPerform isForce
   forces-then [] h v x k = k
   forces-then (append j fs ∷ es) h v x k = absurd (h .0)
@@ -74,28 +74,28 @@ module _ (t s : ℕ) where
   forces-then (send m p ∷ es) h v x k = absurd (h .0)
 
   -- what another transaction's row leaves
-  pub other-turns : {v w : View} (es : List Effect) → Carried t s (select isForce es) (λ x. x) v w → Turns t v w
+  pub other-turns : {v w : View} (es : List Effect) → Carried t s (select isForce es) (λ x. x) v w → Turns t Out v w
   other-turns {v} es whole = forces-then (select isForce es) (all-forces es) v _ still
   other-turns {v} es (cutAfter m n) = forces-then (take m (select isForce es)) (each-take _ m (select isForce es) (all-forces es)) v _ (turn (crashes s n))
 
 -- ---- a plan carried out
 
--- in the view of t the plan p, carried out from r, is what view/Turn allows; after: what settles there
-pub record Shown (t : ℕ) (r : Run) (p : Plan) : Type 0 where
+-- in the view of t the plan p, carried out from r, is what view/Turn allows; after: what settles there; Out: whom the event takes out
+pub record Shown (t : ℕ) (Out : ℕ → Type 0) (r : Run) (p : Plan) : Type 0 where
   pub after : View → View
   pub settles : (ms : List Moment) (x : Run) → view t ms (p .settle x) ≡ after (view t ms x)
-  pub turns : (ms : List Moment) (w : View) → Carried t (p .site) (seenEffects t (p .acts)) after (view t ms r) w → Turns t (view t ms r) w
+  pub turns : (ms : List Moment) (w : View) → Carried t (p .site) (seenEffects t (p .acts)) after (view t ms r) w → Turns t Out (view t ms r) w
 
-module _ (bytes : List ℕ) (t : ℕ) (ms : List Moment) (r : Run) (p : Plan) (h : Shown t r p) where
+module _ (bytes : List ℕ) (t : ℕ) (Out : ℕ → Type 0) (ms : List Moment) (r : Run) (p : Plan) (h : Shown t Out r p) where
   -- the view that a result leaves
   abbrev Left : Result → View
   Left x = view t (ms ++ moments bytes r (x .site) (x .acts) r) (x .run)
 
-  pub whole-turns : Turns t (view t ms r) (Left (carry r p none))
+  pub whole-turns : Turns t Out (view t ms r) (Left (carry r p none))
   unfolding carry
   whole-turns = h .turns ms _ (rw (h .settles, acts-view bytes r t (p .site) (p .acts) ms r) whole)
 
-  pub cut-turns : (n k : ℕ) → Turns t (view t ms r) (Left (cutShort true r p n k))
+  pub cut-turns : (n k : ℕ) → Turns t Out (view t ms r) (Left (cutShort true r p n k))
   unfolding cutShort partly
   cut-turns n k =
       h .turns ms _

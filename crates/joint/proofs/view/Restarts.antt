@@ -1,6 +1,6 @@
 -- A restart of a site in the view of one transaction: its own row is seen, if it is opened.
 use Prim.Native.Nat.{ℕ, zero, suc, _<_}
-use mathlib.Core.Path.{_≡_, refl, sym, ap, _∙_, fun-ext}
+use mathlib.Core.Path.{_≡_, refl, sym, ap, ap₂, _∙_, fun-ext}
 use mathlib.Core.Logic.{_≢_}
 use mathlib.Core.Bool.{Bool, true, false, cond, true≢false}
 use mathlib.Core.List.{List, [], _∷_, _++_, append-nil}
@@ -8,10 +8,10 @@ use lib.Dec.{eqb}
 use borrow.Author.Tests.{eqb-true, eqb-false}
 use Rattle.codec.specs.Lists.{select}
 use Rattle.site.specs.Step.{Effect, append, force, enter, send, Row}
-use Rattle.site.specs.Cohort.{presumptionOf}
-use Rattle.site.specs.Coordinator.{CoordinatorPhase, coordinatorRestart}
+use Rattle.site.specs.Cohort.{Cohort, presumptionOf}
+use Rattle.site.specs.Coordinator.{Coordinator, coordinatorRestart}
 use Rattle.site.specs.Participant.{ParticipantPhase, participantRestart}
-use Rattle.joint.specs.State.{Run, opened, holds, started, withCoordinator, withParticipant}
+use Rattle.joint.specs.State.{Run, opened, holds, recordedCohort, started, withCoordinator, withParticipant}
 use Rattle.joint.specs.Plan.{rowPlan, transactions, restarting, joined, restartAll}
 use Rattle.joint.specs.Run.{isForce}
 use Rattle.joint.specs.Safety.{Moment}
@@ -19,7 +19,7 @@ use Rattle.joint.proofs.base.Lists.{Each}
 use Rattle.joint.proofs.base.Plans.{Logless, coordinator-logless, participant-logless}
 use Rattle.joint.proofs.view.View.{View, siteView, view, not-opened, is-opened, site-up, viewAt, viewSettle}
 use Rattle.joint.proofs.view.Turn.{viewStart, starts, resumes, returns, turn}
-use Rattle.joint.proofs.view.Acts.{holds-select, effectsOf, seenEffects}
+use Rattle.joint.proofs.view.Acts.{holds-select, recorded-select, effectsOf, seenEffects}
 use Rattle.joint.proofs.view.Carries.{seen-append, seen-own, seen-other, bare-turns, Shown}
 use Rattle.joint.proofs.view.Once.{absent, once, absent-head, select-absent, once-select, once-transaction}
 use Rattle.joint.proofs.view.Settles.{coordinator-bare, participant-bare, settle-own, settle-other, start-view}
@@ -94,25 +94,29 @@ module _ (t : ℕ) (r : Run) where
 
 -- ---- the turn
 
-module _ (t : ℕ) (r : Run) where
+module _ (t : ℕ) (Out : ℕ → Type 0) (r : Run) where
   -- t is not opened: none of the rows is its own
-  absent-shown : (s : ℕ) (ts : List ℕ) → opened r t ≡ false → absent t ts ≡ true → Shown t r (restartAll r s ts)
+  absent-shown : (s : ℕ) (ts : List ℕ) → opened r t ≡ false → absent t ts ≡ true → Shown t Out r (restartAll r s ts)
   absent-shown s ts e h =
       record {
         after = viewAt s started;
         settles = absent-settles t r s ts h;
-        turns = λ ms w c. bare-turns t s (turn (starts s (not-opened t ms r e))) (rw (restart-site t r s ts, absent-seen t r s ts h) at c);
+        turns = λ ms w c. bare-turns t Out s (turn (starts s (not-opened t ms r e))) (rw (restart-site t r s ts, absent-seen t r s ts h) at c);
       }
 
   held : (s : ℕ) (ms : List Moment) → _≡_ {A = ℕ → Bool} (λ k. holds t k (view t ms r .site s .stable)) (λ k. holds t k (r .site s .stable))
   unfolding view siteView
   held s ms = fun-ext (λ k. holds-select t k (r .site s .stable))
 
+  tells : (ms : List Moment) → _≡_ {A = ℕ → Cohort} (λ k. recordedCohort t k (view t ms r .site 0 .stable)) (λ k. recordedCohort t k (r .site 0 .stable))
+  unfolding view siteView
+  tells ms = fun-ext (λ k. recorded-select t k (r .site 0 .stable))
+
   -- t is opened: one row is its own
-  once-shown : (s : ℕ) (ts : List ℕ) → r .site s .up ≡ false → opened r t ≡ true → once t ts ≡ true → Shown t r (restartAll r s ts)
+  once-shown : (s : ℕ) (ts : List ℕ) → r .site s .up ≡ false → opened r t ≡ true → once t ts ≡ true → Shown t Out r (restartAll r s ts)
   unfolding restarting rowPlan viewStart view
   once-shown zero ts d e h =
-      let row : Row CoordinatorPhase = coordinatorRestart (r .transaction t .cohort) (λ k. holds t k (r .site 0 .stable)) in
+      let row : Row Coordinator = coordinatorRestart (λ k. holds t k (r .site 0 .stable)) (λ k. recordedCohort t k (r .site 0 .stable)) in
       record {
         after = viewStart 0 (withCoordinator 0 (row .phase));
         settles = once-settles t r 0 (viewSettle (withCoordinator 0 (row .phase))) (settle-own t _ (coordinator-bare (row .phase))) ts h;
@@ -120,7 +124,7 @@ module _ (t : ℕ) (r : Run) where
             λ ms w c.
             turn
             (resumes {row = row} (is-opened t ms r e) (site-up t ms r 0 ∙ d)
-            (ap (coordinatorRestart (r .transaction t .cohort)) (held 0 ms))
+            (ap₂ coordinatorRestart (held 0 ms) (tells ms))
             (rw (restart-site t r 0 ts, once-seen t r 0 ts h, seen-own t (row .effects)) at c));
       }
   once-shown (suc n) ts d e h =
@@ -138,9 +142,9 @@ module _ (t : ℕ) (r : Run) where
             (rw (restart-site t r (suc n) ts, once-seen t r (suc n) ts h, seen-own t (row .effects)) at c));
       }
 
-  pub restart-shown : (s : ℕ) → r .site s .up ≡ false → (opened r t ≡ true → t < 8) → Shown t r (restartAll r s (select (opened r) transactions))
+  pub restart-shown : (s : ℕ) → r .site s .up ≡ false → (opened r t ≡ true → t < 8) → Shown t Out r (restartAll r s (select (opened r) transactions))
   restart-shown s d h = go (opened r t) refl
     where
-      go : (b : Bool) → opened r t ≡ b → Shown t r (restartAll r s (select (opened r) transactions))
+      go : (b : Bool) → opened r t ≡ b → Shown t Out r (restartAll r s (select (opened r) transactions))
       go true e = once-shown s _ d e (once-select t (opened r) e transactions (once-transaction t (h e)))
       go false e = absent-shown s _ e (select-absent t (opened r) e transactions)

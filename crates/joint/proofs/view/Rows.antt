@@ -14,7 +14,7 @@ use Rattle.joint.specs.Plan.{settling, rowPlan, step}
 use Rattle.joint.specs.Safety.{Moment}
 use Rattle.joint.proofs.base.Plans.{All, all-planned, all-step}
 use Rattle.joint.proofs.view.View.{View, view, is-opened, site-up, viewSettle}
-use Rattle.joint.proofs.view.Turn.{Given, Own, coordinates, participates, Turns, turn}
+use Rattle.joint.proofs.view.Turn.{Given, Takes, Own, coordinates, participates, Turns, turn}
 use Rattle.joint.proofs.view.Acts.{effectsOf, seenEffects}
 use Rattle.joint.proofs.view.Carries.{seen-own, seen-other, bare-turns, other-turns, Shown}
 use Rattle.joint.proofs.view.Settles.{coordinator-bare, participant-bare, settle-own, settle-other}
@@ -27,50 +27,51 @@ own-or-other t P own other u = go (eqb u t) refl
     go true e = subst P (sym (eqb-true u t e)) own
     go false e = other u (eqb-false u t e)
 
-module _ (t : ℕ) (r : Run) where
+module _ (t : ℕ) (Out : ℕ → Type 0) (r : Run) where
   -- ---- an event without effects
 
   pub bare-shown : (s : ℕ) (settle : Run → Run) (f : View → View)
       → ((ms : List Moment) (x : Run) → view t ms (settle x) ≡ f (view t ms x))
-      → ((ms : List Moment) → Turns t (view t ms r) (f (view t ms r))) → Shown t r (settling s settle)
+      → ((ms : List Moment) → Turns t Out (view t ms r) (f (view t ms r))) → Shown t Out r (settling s settle)
   unfolding seenEffects effectsOf select
   bare-shown s settle f settles turns =
       record {
         after = f;
         settles = settles;
-        turns = λ ms w c. bare-turns t s {f = f} (turns ms) c;
+        turns = λ ms w c. bare-turns t Out s {f = f} (turns ms) c;
       }
 
   -- ---- a row of another transaction
 
-  pub step-other : (s u : ℕ) (i : Input) → u ≢ t → All (Shown t r) (step r u s i)
+  pub step-other : (s u : ℕ) (i : Input) → u ≢ t → All (Shown t Out r) (step r u s i)
   unfolding rowPlan
   step-other s u i h =
-      all-step (Shown t r) r u s i
+      all-step (Shown t Out r) r u s i
       (λ X g row.
       record {
         after = λ v. v;
         settles = settle-other t u (g (row .phase)) h;
-        turns = λ ms w c. other-turns t s (row .effects) (rw (seen-other t u h (row .effects)) at c);
+        turns = λ ms w c. other-turns t Out s (row .effects) (rw (seen-other t u h (row .effects)) at c);
       })
 
   -- ---- its own
 
-  module _ (i : Input) (ready : opened r t ≡ true) (given : (ms : List Moment) → Given (view t ms r) i) where
-    pub step-own : (s : ℕ) → takesPart (r .transaction t) s ≡ true → r .site s .up ≡ true → ((n : ℕ) → s ≡ suc n → Own (suc n) i) → All (Shown t r) (step r t s i)
+  module _ (i : Input) (ready : opened r t ≡ true) (given : (ms : List Moment) → Given (view t ms r) i)
+      (takes : (ms : List Moment) → Takes Out (view t ms r) i) where
+    pub step-own : (s : ℕ) → takesPart (r .transaction t) s ≡ true → r .site s .up ≡ true → ((n : ℕ) → s ≡ suc n → Own (suc n) i) → All (Shown t Out r) (step r t s i)
     unfolding step takesPart rowPlan view
     step-own zero m up own =
-        all-planned (Shown t r) 0 t (withCoordinator 0) _
+        all-planned (Shown t Out r) 0 t (withCoordinator 0) _
         (λ row e.
         record {
           after = viewSettle (withCoordinator 0 (row .phase));
           settles = settle-own t _ (coordinator-bare (row .phase));
           turns =
               λ ms w c.
-              turn (coordinates {row = row} i (is-opened t ms r ready) (site-up t ms r 0 ∙ up) (given ms) e (rw (seen-own t (row .effects)) at c));
+              turn (coordinates {row = row} i (is-opened t ms r ready) (site-up t ms r 0 ∙ up) (given ms) (takes ms) e (rw (seen-own t (row .effects)) at c));
         })
     step-own (suc n) m up own =
-        all-planned (Shown t r) (suc n) t (withParticipant (suc n)) _
+        all-planned (Shown t Out r) (suc n) t (withParticipant (suc n)) _
         (λ row e.
         record {
           after = viewSettle (withParticipant (suc n) (row .phase));

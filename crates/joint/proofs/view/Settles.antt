@@ -10,9 +10,9 @@ use borrow.Author.Tests.{ne-eqb, eqb-true}
 use Rattle.codec.specs.Lists.{select, any}
 use Rattle.codec.specs.Records.{LogRecord, ofTransaction}
 use Rattle.site.specs.Cohort.{Cohort}
-use Rattle.site.specs.Coordinator.{CoordinatorPhase}
+use Rattle.site.specs.Coordinator.{Coordinator}
 use Rattle.site.specs.Participant.{ParticipantPhase}
-use Rattle.joint.specs.State.{Run, Site, Transaction, atSite, atTransaction, started, withCoordinator, withParticipant}
+use Rattle.joint.specs.State.{Run, Site, Transaction, atSite, atTransaction, started, withCoordinator, withParticipant, withMarked}
 use Rattle.joint.specs.Plan.{openedAs, dropOldest, trimmed, remembers, forgottenUnless, discard}
 use Rattle.joint.specs.Safety.{Moment}
 use Rattle.joint.proofs.base.Lists.{select-append}
@@ -26,13 +26,17 @@ use Rattle.joint.proofs.view.Turn.{trimmedView, isNil, noRecord, viewFo
 abbrev pub Bare : (Transaction → Transaction) → Type 0
 Bare g = (x : Transaction) → withoutEntries (g x) ≡ g (withoutEntries x)
 
-pub coordinator-bare : (c : CoordinatorPhase) → Bare (withCoordinator 0 c)
+pub coordinator-bare : (c : Coordinator) → Bare (withCoordinator 0 c)
 unfolding withCoordinator
 coordinator-bare c x = refl
 
 pub participant-bare : (p : ℕ) (c : ParticipantPhase) → Bare (withParticipant p c)
 unfolding withParticipant
 participant-bare p c x = refl
+
+pub marked-bare : (p : ℕ) → Bare (withMarked p)
+unfolding withMarked
+marked-bare p x = refl
 
 pub opened-bare : (g : Cohort) → Bare (openedAs g)
 unfolding openedAs

@@ -8,12 +8,13 @@ use lib.ListN.{take, drop}
 use lib.Dec.{T, eqb}
 use Rattle.codec.specs.Sets.{member, empty, part}
 use Rattle.codec.specs.Records.{LogRecord}
-use Rattle.site.specs.Step.{messageKind, Input, begin, timer, received, Effect, Row}
+use Rattle.site.specs.Step.{prepare, voteYes, voteNo, readOnly, tell, ack, messageKind, Input, begin, timer, received, Effect, Row}
 use Rattle.site.specs.Cohort.{Cohort, presumptionOf}
-use Rattle.site.specs.Coordinator.{CoordinatorPhase, coordinatorStep, coordinatorRestart}
+use Rattle.site.specs.Coordinator.{Coordinator, coordinatorStep, coordinatorRestart}
 use Rattle.site.specs.Participant.{ParticipantPhase, participantStep, participantRestart}
-use Rattle.joint.specs.State.{Site, Transaction, holds, forced, started, withCoordinator, withParticipant}
-use Rattle.joint.specs.Plan.{openedAs, closes, newest}
+use Rattle.joint.specs.State.{Site, Transaction, holds, recordedCohort, forced, started, withCoordinator, withParticipant, withMarked}
+use Rattle.joint.specs.Plan.{openedAs, closed}
+use Rattle.joint.specs.Safety.{collects}
 use Rattle.joint.proofs.view.View.{View, viewAt, viewSettle, viewEffects, viewDown}
 
 -- effects of t at site s, all of them and then f, or the first m of them and then a power cut
@@ -26,6 +27,17 @@ abbrev pub Given : View → Input → Type 0
 Given v begin = Unit {0}
 Given v timer = Unit {0}
 Given v (received m p) = T (member p (v .transaction .cohort .members)) × T (v .transaction .sent p (messageKind m))
+
+-- a read-only vote that comes while votes are collected takes its sender out; `Out p`: the event takes p out
+abbrev pub Takes : (ℕ → Type 0) → View → Input → Type 0
+Takes Out v begin = Unit {0}
+Takes Out v timer = Unit {0}
+Takes Out v (received prepare p) = Unit {0}
+Takes Out v (received voteYes p) = Unit {0}
+Takes Out v (received voteNo p) = Unit {0}
+Takes Out v (received readOnly p) = T (collects (v .transaction .coordinator .phase)) → Out p
+Takes Out v (received (tell o) p) = Unit {0}
+Takes Out v (received (ack o) p) = Unit {0}
 
 -- it is of participant q itself
 abbrev pub Own : ℕ → Input → Type 0
@@ -68,35 +80,38 @@ viewDiscard s v =
 unfoldable pub viewStart : ℕ → (Transaction → Transaction) → View → View
 viewStart s g v = viewAt s started (viewSettle g v)
 
--- ---- the turns
+-- ---- the turns; `Out p`: the event takes p out
 
-pub data Turn (t : ℕ) (v : View) : View → Type 0 where
-  crashes : (s n : ℕ) → Turn t v (viewDown s n v)
+pub data Turn (t : ℕ) (Out : ℕ → Type 0) (v : View) : View → Type 0 where
+  crashes : (s n : ℕ) → Turn t Out v (viewDown s n v)
   -- members is a byte, PC a part of it, there is a member, and the coordinator and all members are up
   opens : (g : Cohort) → t < 8 → g .members < 256 → part (g .presumeCommit) (g .members) ≡ true → empty (g .members) ≡ false
       → empty (v .transaction .cohort .members) ≡ true
-      → Up v 0 → ((n : ℕ) → member (suc n) (g .members) ≡ true → Up v (suc n)) → Turn t v (viewSettle (openedAs g) v)
-  coordinates : {row : Row CoordinatorPhase} {w : View} (i : Input) → Opened v → Up v 0 → Given v i
+      → Up v 0 → ((n : ℕ) → member (suc n) (g .members) ≡ true → Up v (suc n)) → Turn t Out v (viewSettle (openedAs g) v)
+  coordinates : {row : Row Coordinator} {w : View} (i : Input) → Opened v → Up v 0 → Given v i → Takes Out v i
       → coordinatorStep (v .transaction .cohort) i (v .transaction .coordinator) ≡ some row
-      → Carried t 0 (row .effects) (viewSettle (withCoordinator 0 (row .phase))) v w → Turn t v w
+      → Carried t 0 (row .effects) (viewSettle (withCoordinator 0 (row .phase))) v w → Turn t Out v w
   participates : {row : Row ParticipantPhase} {w : View} (n : ℕ) (i : Input) → T (member (suc n) (v .transaction .cohort .members)) → Up v (suc n)
       → Given v i → Own (suc n) i
-      → participantStep (presumptionOf (v .transaction .cohort) (suc n)) (suc n) i (v .transaction .participant (suc n)) ≡ some row
-      → Carried t (suc n) (row .effects) (viewSettle (withParticipant (suc n) (row .phase))) v w → Turn t v w
-  -- of a transaction that is opened, whose newest stable record there closes it
-  discards : (s : ℕ) → Up v s → Opened v → newest closes (v .site s .stable) ≡ true → Turn t v (viewDiscard s v)
+      → participantStep (presumptionOf (v .transaction .cohort) (suc n)) (suc n) (v .transaction .marked (suc n)) i (v .transaction .participant (suc n)) ≡ some row
+      → Carried t (suc n) (row .effects) (viewSettle (withParticipant (suc n) (row .phase))) v w → Turn t Out v w
+  -- a member that works is marked as one that only looked
+  marks : (n : ℕ) → T (member (suc n) (v .transaction .cohort .members)) → v .transaction .participant (suc n) ≡ ParticipantPhase.working
+      → Turn t Out v (viewSettle (withMarked (suc n)) v)
+  -- of a transaction that is opened, whose stable records there close it
+  discards : (s : ℕ) → Up v s → Opened v → closed (v .site s .stable) ≡ true → Turn t Out v (viewDiscard s v)
   -- a site starts, where the transaction is not opened
-  starts : (s : ℕ) → empty (v .transaction .cohort .members) ≡ true → Turn t v (viewAt s started v)
+  starts : (s : ℕ) → empty (v .transaction .cohort .members) ≡ true → Turn t Out v (viewAt s started v)
   -- the coordinator's row of a restart, and a participant's
-  resumes : {row : Row CoordinatorPhase} {w : View} → Opened v → v .site 0 .up ≡ false
-      → coordinatorRestart (v .transaction .cohort) (λ k. holds t k (v .site 0 .stable)) ≡ row
-      → Carried t 0 (row .effects) (viewStart 0 (withCoordinator 0 (row .phase))) v w → Turn t v w
+  resumes : {row : Row Coordinator} {w : View} → Opened v → v .site 0 .up ≡ false
+      → coordinatorRestart (λ k. holds t k (v .site 0 .stable)) (λ k. recordedCohort t k (v .site 0 .stable)) ≡ row
+      → Carried t 0 (row .effects) (viewStart 0 (withCoordinator 0 (row .phase))) v w → Turn t Out v w
   returns : {row : Row ParticipantPhase} {w : View} (n : ℕ) → v .site (suc n) .up ≡ false
       → participantRestart (presumptionOf (v .transaction .cohort) (suc n)) (suc n) (λ k. holds t k (v .site (suc n) .stable)) ≡ row
-      → Carried t (suc n) (row .effects) (viewStart (suc n) (withParticipant (suc n) (row .phase))) v w → Turn t v w
+      → Carried t (suc n) (row .effects) (viewStart (suc n) (withParticipant (suc n) (row .phase))) v w → Turn t Out v w
 
 -- what one event does: nothing, or one of them; first the forces of its row, where that is another transaction's, or of a forcing
-pub data Turns (t : ℕ) : View → View → Type 0 where
-  still : {v : View} → Turns t v v
-  turn : {v w : View} → Turn t v w → Turns t v w
-  forces : {v w : View} (s : ℕ) → Turns t (viewAt s forced v) w → Turns t v w
+pub data Turns (t : ℕ) (Out : ℕ → Type 0) : View → View → Type 0 where
+  still : {v : View} → Turns t Out v v
+  turn : {v w : View} → Turn t Out v w → Turns t Out v w
+  forces : {v w : View} (s : ℕ) → Turns t Out (viewAt s forced v) w → Turns t Out v w

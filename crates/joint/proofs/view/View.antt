@@ -27,7 +27,14 @@ pub record View : Type 0 where
 -- a transaction without the entries that the run stores
 abbrev pub withoutEntries : Transaction → Transaction
 withoutEntries x =
-    record { cohort = x .cohort; coordinator = x .coordinator; participant = x .participant; sent = x .sent; entered = λ s o. false }
+    record {
+      cohort = x .cohort;
+      coordinator = x .coordinator;
+      participant = x .participant;
+      marked = x .marked;
+      sent = x .sent;
+      entered = λ s o. false;
+    }
 
 -- of transaction t in the run r, when the moments ms have happened
 unfoldable pub view : ℕ → List Moment → Run → View

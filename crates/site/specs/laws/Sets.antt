@@ -2,7 +2,7 @@
 use mathlib.Core.Path.{_≡_, refl, ap, ap₂, sym, _∙_}
 use mathlib.Core.Bool.{Bool, true, false, cond, not, _&&_, _||_}
 use mathlib.Core.List.{List, [], _∷_, _++_}
-use Prim.Native.Nat.{ℕ, zero, suc, _+_, _-_, _<_}
+use Prim.Native.Nat.{ℕ, zero, suc, _+_, _-_, _≤_, _<_}
 use native.Mathlib.Nat.{sub-zero, suc-sub-suc}
 use native.Mathlib.Omega.{arith}
 use lib.ListN.{length, take, getD, length-append}
@@ -15,6 +15,10 @@ use Rattle.codec.specs.laws.Lowest.{listed-those, lowest-part}
 use Rattle.site.specs.Presumption.{commit, abort, acks, presumedAbort, presumedCommit}
 use Rattle.site.specs.Cohort.{Cohort, presumptionOf, owing}
 use Rattle.site.specs.Coordinator.{inTurn, ordered}
+
+-- a participant's number
+abbrev pub Numbered : ℕ → Type 0
+Numbered p = (1 ≤ p) × (p ≤ 8)
 
 pub owing-commit : (g : Cohort) → owing g commit ≡ minus (g .members) (g .presumeCommit)
 unfolding owing minus presumptionOf acks

@@ -28,4 +28,6 @@ coordinator-restarts-spec =
     (λ c κs. eq-eqb _ _ (c .coordinator-restart8 .ensures))
     (λ c κs. tt)
     (λ c κs. eq-eqb _ _ (c .coordinator-restart9 .ensures))
+    (λ c κs. tt)
+    (λ c κs. eq-eqb _ _ (c .coordinator-restart10 .ensures))
     (λ c. search needs))

@@ -9,7 +9,7 @@ use Rattle.joint.specs.Plan.{mayDiscard}
 use Rattle.joint.specs.Answers.{siteFrom, transactionIn, answerIn}
 use Rattle.joint.specs.Inside.{changeIn}
 use Rattle.joint.proofs.engine.Arrays.{length-shown}
-use Rattle.joint.proofs.engine.Changes.{discardStruck, struck-by, may-discard, still-remembers, discard-refused, discard-unallowed, discard-drops}
+use Rattle.joint.proofs.engine.Changes.{siteStruck, struck-by, may-discard, still-remembers, discard-refused, discard-unallowed, discard-drops}
 use borrow.Author.Needs.{needs}
 use Rattle.joint.proofs.changes.discard.Statement.{statement}
 use Rattle.joint.proofs.changes.discard.Tie as tie
@@ -63,7 +63,7 @@ start u = u .before .before .before .before .before .before
 passed : (u : tie.Else3) (w : plain.Run)
     → let a = start u .args in
     siteFrom (a .site) (a .records .of) ≡ w .site (a .e .site) → transactionIn (a .before) ≡ w .transaction (a .e .transaction)
-    → discardStruck w (a .e .transaction) (a .e .site) ≡ 0
+    → siteStruck w (a .e .transaction) (a .e .site) ≡ 0
 unfolding siteFrom
 passed u w here own =
     let d = u .before .before in

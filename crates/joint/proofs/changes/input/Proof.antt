@@ -19,7 +19,7 @@ returns c =
     let a = o .before .args in
     let e = a .e in
     input-refused w (o .before .pre) (cutFrom (e .cut) (e .keep)) 2
-    (struck-by w (e .transaction) (e .site) (e .participant) (λ x. leb (e .kind) 6 && not (x .sent (e .participant) (e .kind))) own (o .opened .ensures) refl refl ∙ rw (c .if1 .taken) refl)
+    (struck-by w (e .transaction) (e .site) (e .participant) (λ x. leb (e .kind) 7 && not (x .sent (e .participant) (e .kind))) own (o .opened .ensures) refl refl ∙ rw (c .if1 .taken) refl)
 
 returns-2 : tie.Need-returns-2
 unfolding changeIn answerIn
@@ -30,7 +30,7 @@ returns-2 c =
     let a = o .before .args in
     let e = a .e in
     input-refused w (o .before .pre) (cutFrom (e .cut) (e .keep)) 3
-    (struck-by w (e .transaction) (e .site) (e .participant) (λ x. leb (e .kind) 6 && not (x .sent (e .participant) (e .kind))) own (o .opened .ensures) (p .takes-part .ensures) refl ∙ rw (p .before .if1 .left, c .if2 .taken) refl)
+    (struck-by w (e .transaction) (e .site) (e .participant) (λ x. leb (e .kind) 7 && not (x .sent (e .participant) (e .kind))) own (o .opened .ensures) (p .takes-part .ensures) refl ∙ rw (p .before .if1 .left, c .if2 .taken) refl)
 
 returns-3 : tie.Need-returns-3
 unfolding changeIn answerIn
@@ -42,7 +42,7 @@ returns-3 c =
     let a = o .before .args in
     let e = a .e in
     input-refused w (o .before .pre) (cutFrom (e .cut) (e .keep)) 4
-    (struck-by w (e .transaction) (e .site) (e .participant) (λ x. leb (e .kind) 6 && not (x .sent (e .participant) (e .kind))) own (o .opened .ensures) (p .takes-part .ensures) (up-here (a .site) w (e .site) here)
+    (struck-by w (e .transaction) (e .site) (e .participant) (λ x. leb (e .kind) 7 && not (x .sent (e .participant) (e .kind))) own (o .opened .ensures) (p .takes-part .ensures) (up-here (a .site) w (e .site) here)
     ∙ rw (p .before .if1 .left, d .if2 .left, c .if3 .taken) refl)
 
 returns-4 : tie.Need-returns-4
@@ -57,7 +57,7 @@ returns-4 c =
     let a = o .before .args in
     let e = a .e in
     input-refused w (o .before .pre) (cutFrom (e .cut) (e .keep)) 6
-    (struck-by w (e .transaction) (e .site) (e .participant) (λ x. leb (e .kind) 6 && not (x .sent (e .participant) (e .kind))) own (o .opened .ensures) (p .takes-part .ensures) (up-here (a .site) w (e .site) here)
+    (struck-by w (e .transaction) (e .site) (e .participant) (λ x. leb (e .kind) 7 && not (x .sent (e .participant) (e .kind))) own (o .opened .ensures) (p .takes-part .ensures) (up-here (a .site) w (e .site) here)
     ∙ rw (p .before .if1 .left, d .if2 .left, u .if3 .left, sym (n .sent .ensures), c .if4 .taken) refl)
 
 step-requires : tie.Need-step-requires
@@ -87,7 +87,7 @@ passed i w here own =
     let o = p .before .before in
     let a = o .before .args in
     let e = a .e in
-    struck-by w (e .transaction) (e .site) (e .participant) (λ x. leb (e .kind) 6 && not (x .sent (e .participant) (e .kind))) own (o .opened .ensures) (p .takes-part .ensures) (up-here (a .site) w (e .site) here)
+    struck-by w (e .transaction) (e .site) (e .participant) (λ x. leb (e .kind) 7 && not (x .sent (e .participant) (e .kind))) own (o .opened .ensures) (p .takes-part .ensures) (up-here (a .site) w (e .site) here)
     ∙ rw (p .before .if1 .left, d .if2 .left, u .if3 .left, sym (n .sent .ensures), i .if4 .left) refl
 
 returns-5 : tie.Need-returns-5

@@ -3,7 +3,6 @@ use Rattle.joint.specs.Answers.{answerIn}
 use Rattle.joint.specs.Inside.{changeIn, thenIn}
 use Rattle.joint.proofs.engine.Changes.{one-down, open-before, open-down, open-opens}
 use Rattle.joint.specs.State.{opened}
-use Rattle.site.specs.declared.phases.CoordinatorPhase.the-variants as phases
 use Rattle.joint.specs.declared.rows.Then.the-variants as follows
 use borrow.Author.Needs.{needs}
 use Rattle.joint.proofs.changes.open.Statement.{statement}
@@ -37,7 +36,7 @@ returns-3 c =
     let a = o .before .args in
     let e = a .e in
     open-opens w (e .transaction) (e .members) (e .«presume_commit») (rw (sym own) (sym (o .opened .ensures) ∙ u .before .if1 .left))
-    (one-down (a .sites) w (e .members) ups _ _ (u .all-up .ensures) (c .if2 .left)) (follows.Opened (record { phase = phases.Open; members = e .members; «presume_commit» = e .«presume_commit» })) refl
+    (one-down (a .sites) w (e .members) ups _ _ (u .all-up .ensures) (c .if2 .left)) (follows.Opened (e .members) (e .«presume_commit»)) refl
 
 pub open-spec : {M : Type 1} → statement M
 open-spec = tie.close (tie.spec (λ c κs. search needs) returns (λ c κs. search needs) returns-2 returns-3)

@@ -15,15 +15,16 @@ returns c =
     rw (m .match .keys1, c .uncut .ensures, c .before .part .ensures)
     (simp (tests, byte (f .y), byte (f .z), byte (f .cut), byte (f .keep)))
 
-returns-9 : tie.Need-returns-9
+returns-10 : tie.Need-returns-10
 unfolding bytesInRange every
-returns-9 c = let code = c .before .args .code in rw (lt-leb code 7 (none-below 8 code (c .match .rest))) refl
+returns-10 c = let code = c .before .args .code in rw (lt-leb code 8 (none-below 9 code (c .match .rest))) refl
 
 pub in-range-spec : {M : Type 1} → statement M
 unfolding bytesInRange cutInRange ranges every any
 in-range-spec =
     tie.close
     (tie.spec
+    (λ c κs. search needs)
     (λ c κs. search needs)
     (λ c κs. search needs)
     (λ c κs. search needs)
@@ -40,4 +41,5 @@ in-range-spec =
     (λ c. rw (c .before .match .keys6, c .uncut3 .ensures) (simp (tests, byte (c .before .before .fits .cut), byte (c .before .before .fits .keep))))
     (λ c. rw (c .match .keys7) (simp (tests, byte (c .before .fits .cut), byte (c .before .fits .keep))))
     (λ c. rw (c .before .match .keys8, c .may-cut4 .ensures) (simp (tests, byte (c .before .before .fits .cut), byte (c .before .before .fits .keep))))
-    returns-9)
+    (λ c. rw (c .before .match .keys9, c .uncut4 .ensures) (simp (tests, byte (c .before .before .fits .cut), byte (c .before .before .fits .keep))))
+    returns-10)

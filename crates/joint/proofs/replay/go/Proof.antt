@@ -132,8 +132,8 @@ after-requires c κs = omega (arith, site-low (c .before .before .before .before
 settle-requires : tie.Need-settle-requires Inv-loop μ-loop
 settle-requires c κs = omega (arith, site-low (c .before .before .before .before .before .before .before .before .before .before .before .before .before .before))
 
-mul-t89 : tie.Need-mul-t89 Inv-loop μ-loop
-mul-t89 c = record { fits = omega (arith, transaction-low (c .before .before .before .before .before .before .before .before .before .before .before .before .before .before)) }
+mul-t90 : tie.Need-mul-t90 Inv-loop μ-loop
+mul-t90 c = record { fits = omega (arith, transaction-low (c .before .before .before .before .before .before .before .before .before .before .before .before .before .before)) }
 
 element-set-from-run : tie.Need-element-set-from-run Inv-loop μ-loop
 element-set-from-run c = omega (arith, transaction-low (c .before .before .before .before .before .before .before .before .before .before .before .before .before .before))
@@ -162,8 +162,8 @@ element-set-from-changed-3 c = omega (arith, site-low (c .before .before .before
 settle-requires-2 : tie.Need-settle-requires-2 Inv-loop μ-loop
 settle-requires-2 c κs = sym (c .before .writes .ensures) ∙ c .if2 .left
 
-mul-t103 : tie.Need-mul-t103 Inv-loop μ-loop
-mul-t103 c = record { fits = omega (arith, site-low (c .before .before .before .before .before .before .before .before .before .before .before .before .before .before .before .before .before .before)) }
+mul-t104 : tie.Need-mul-t104 Inv-loop μ-loop
+mul-t104 c = record { fits = omega (arith, site-low (c .before .before .before .before .before .before .before .before .before .before .before .before .before .before .before .before .before .before)) }
 
 element-set-from-run-2 : tie.Need-element-set-from-run-2 Inv-loop μ-loop
 element-set-from-run-2 c = omega (arith, site-low (c .before .before .before .before .before .before .before .before .before .before .before .before .before .before .before .before .before .before))
@@ -268,6 +268,8 @@ go-spec =
     (λ c. search needs)
     (λ c κs. tt)
     (λ c. search needs)
+    (λ c κs. tt)
+    (λ c. search needs)
     store-requires-3
     (λ c. search needs)
     loop-again-4
@@ -278,7 +280,7 @@ go-spec =
     after-requires
     (λ c. search needs)
     settle-requires
-    mul-t89
+    mul-t90
     element-set-from-run
     (λ c κs. tt)
     mul-records-3
@@ -290,7 +292,7 @@ go-spec =
     mul-changed-3
     element-set-from-changed-3
     settle-requires-2
-    mul-t103
+    mul-t104
     element-set-from-run-2
     (λ c κs. tt)
     forget-all-requires

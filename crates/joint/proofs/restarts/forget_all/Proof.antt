@@ -1,5 +1,5 @@
 use Prim.Native.Nat.{ℕ, zero, suc, _-_, _≤_}
-use mathlib.Core.Path.{_≡_, refl, sym, ap, _∙_}
+use mathlib.Core.Path.{_≡_, sym, ap, _∙_}
 use lib.ListN.{length}
 use native.Mathlib.Omega.{arith}
 use borrow.Author.Needs.{needs}
@@ -31,8 +31,8 @@ none-forgotten s = go s
     same s = sym (update-own s (x .participant)) ∙ ap (λ (c : ParticipantPhase). update s (λ _. c) (x .participant)) (unknown s)
 
     go : (s : ℕ) → x ≡ forgotten s x
-    go zero = λ i. record { cohort = x .cohort; coordinator = x .coordinator; participant = same 0 i; sent = x .sent; entered = x .entered }
-    go (suc n) = λ i. record { cohort = x .cohort; coordinator = x .coordinator; participant = same (suc n) i; sent = x .sent; entered = x .entered }
+    go zero = λ i. record { cohort = x .cohort; coordinator = x .coordinator; participant = same 0 i; marked = x .marked; sent = x .sent; entered = x .entered }
+    go (suc n) = λ i. record { cohort = x .cohort; coordinator = x .coordinator; participant = same (suc n) i; marked = x .marked; sent = x .sent; entered = x .entered }
 
 abbrev Inv-loop : tie.InvT-loop
 Inv-loop site transactions₀ i₀ transactions i = Passed transactionIn (forgotten site) noTransaction transactions₀ transactions i × (i ≤ 8)

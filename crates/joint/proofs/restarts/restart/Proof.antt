@@ -35,10 +35,8 @@ module _ (d : tie.After-resume-all) where
   resumption : (x : plain.Run) → siteFrom (start .args .site) records ≡ x .site (start .args .e .site) → transactionsIn (start .args .transactions) ≡ x .transaction
       → resumedIn (d .resume-all .result) ≡ resumed x (start .args .e .site) (start .args .e .cut)
   resumption x e f =
-      d .resume-all .ensures x f
-      (λ t k ht hk.
-      d .before .kinds .ensures t k ht hk
-      ∙ ap (holds t k) (ap (λ (n : ℕ). take n (map recordIn records)) (d .before .before .stable-count .ensures) ∙ stable-taken (start .args .site) records size ∙ ap (λ (a : plain.Site). a .stable) e))
+      let stable = ap (λ (n : ℕ). take n (map recordIn records)) (d .before .before .stable-count .ensures) ∙ stable-taken (start .args .site) records size ∙ ap (λ (a : plain.Site). a .stable) e in
+      d .resume-all .ensures x f (λ t k ht hk. d .before .kinds .ensures t k ht hk ∙ ap (holds t k) stable) stable
 
 returns-2 : tie.Need-returns-2
 unfolding restartedIn answerIn resumedIn siteFrom

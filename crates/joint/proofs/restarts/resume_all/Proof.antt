@@ -1,10 +1,12 @@
 use Prim.Native.Nat.{ℕ, _-_, _<_}
 use mathlib.Core.Path.{_≡_, sym, ap, _∙_}
 use mathlib.Core.Bool.{Bool, not}
-use lib.ListN.{getD}
+use mathlib.Core.List.{map}
+use lib.ListN.{take, getD}
 use native.Mathlib.Omega.{arith}
 use borrow.Author.Needs.{needs}
 use Rattle.codec.specs.Sets.{empty}
+use Rattle.codec.specs.Answers.{recordIn}
 use Rattle.site.specs.Answers.{effectsIn}
 use Rattle.joint.specs.State as plain
 use Rattle.joint.specs.Answers.{transactionIn, transactionsIn, noTransaction}
@@ -18,13 +20,14 @@ use Rattle.joint.proofs.restarts.resume_all.Statement.{statement}
 use Rattle.joint.proofs.restarts.resume_all.Tie as tie
 
 abbrev Inv-loop : tie.InvT-loop
-Inv-loop site cut kinds transactions₀ left₀ sends₀ i₀ transactions left sends i = Resuming site cut kinds transactions₀ transactions left sends i
+Inv-loop records count site cut kinds transactions₀ left₀ sends₀ i₀ transactions left sends i =
+    Resuming site cut kinds (take count (map recordIn (records .of))) transactions₀ transactions left sends i
 
 abbrev μ-loop : tie.MeasureT-loop
-μ-loop site cut kinds transactions₀ left₀ sends₀ i₀ transactions left sends i = 8 - i
+μ-loop records count site cut kinds transactions₀ left₀ sends₀ i₀ transactions left sends i = 8 - i
 
 loop-holds : tie.Need-loop-holds Inv-loop μ-loop
-loop-holds c = resuming-starts _ _ _ _ (search length-shown)
+loop-holds c = resuming-starts _ _ _ _ _ (search length-shown)
 
 -- transaction i is read, and whether it is opened
 module _ (o : tie.After-opened Inv-loop μ-loop) where
@@ -55,9 +58,9 @@ loop-again c =
     let o = t .before in
     let a = l o .before .before .args in
     let hs = effectsIn (h .cut .result) in
-    resuming-row (a .site) (a .cut) (a .kinds .of) (a .transactions) _ (l o .loop .left) (l o .loop .sends) (l o .loop .i) (l o .loop .inv) (below o) (is-opened o _ (t .if1 .taken))
+    resuming-row (a .site) (a .cut) (a .kinds .of) _ (a .transactions) _ (l o .loop .left) (l o .loop .sends) (l o .loop .i) (l o .loop .inv) (below o) (is-opened o _ (t .if1 .taken))
     (r .restart .result) hs (v .settle .result) (c .before .less .result) (c .sends .result)
-    (λ x u e. r .restart .ensures x u (read o _ ∙ e))
+    (λ x e. r .restart .ensures x (read o _ ∙ e))
     (h .cut .ensures)
     (v .settle .ensures ∙ ap (thenTransaction (a .site) (r .restart .result .then)) (v .before .after .ensures ∙ ap (transactionAfter (a .site) hs) (read o _)))
     (c .before .less .ensures ∙ ap (λ (k : ℕ). l o .loop .left - k) (n .count .ensures))
@@ -67,13 +70,13 @@ loop-again c =
 loop-again-2 : tie.Need-loop-again-2 Inv-loop μ-loop
 loop-again-2 c =
     let o = c .before in
-    resuming-passed _ _ _ _ _ (l o .loop .left) (l o .loop .sends) (l o .loop .i) (l o .loop .inv) (below o) (is-opened o _ (c .if1 .left))
+    resuming-passed _ _ _ _ _ _ (l o .loop .left) (l o .loop .sends) (l o .loop .i) (l o .loop .inv) (below o) (is-opened o _ (c .if1 .left))
 
 returns : tie.Need-returns Inv-loop μ-loop
 unfolding resumedIn
 returns c =
     let w = c .before .loop in
-    resuming-ends _ _ _ _ (w .transactions) (w .left) (w .sends) (w .i) (w .inv) (c .loop-test .left)
+    resuming-ends _ _ _ _ _ (w .transactions) (w .left) (w .sends) (w .i) (w .inv) (c .loop-test .left)
 
 pub resume-all-spec : {M : Type 1} → statement M
 resume-all-spec =
@@ -86,6 +89,7 @@ resume-all-spec =
     (λ c. search needs)
     (λ c. search needs)
     (λ c κs. tt)
+    (λ c. search needs)
     (λ c. search needs)
     (λ c. search needs)
     (λ c κs. search needs)

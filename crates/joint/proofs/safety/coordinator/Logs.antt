@@ -8,7 +8,7 @@ use lib.Dec.{T}
 use Rattle.codec.specs.Lists.{any, same}
 use Rattle.codec.specs.laws.Tests.{true-of, alike, alike-eq, same-list}
 use Rattle.site.specs.Presumption.{Outcome, commit, abort, sameOutcome}
-use Rattle.site.specs.Cohort.{Cohort}
+use Rattle.site.specs.Cohort.{Cohort, remaining}
 use Rattle.site.specs.Coordinator.{endRecord}
 use Rattle.joint.proofs.base.Booleans.{_⇒_, mp, or-left, or-right}
 use Rattle.joint.proofs.safety.Tables.{has}
@@ -16,16 +16,16 @@ use Rattle.joint.proofs.safety.Finite.{allOf, nth, look, allBool, at-bo
 use Rattle.joint.proofs.safety.Invariant.{Log, l0, l1, l12, l2, l123, l23, l3, l14, l4, kindsIn, Class, nothing, live, ended, classOf, resumed, Pace, waiting, resting, down, decided, logFits, properKinds, awaitsCommit, SetsFit, initLog}
 
 -- with the end record
-abbrev pub closed : Log → Log
-closed l0 = l0
-closed l1 = l14
-closed l12 = l123
-closed l2 = l23
-closed l123 = l123
-closed l23 = l23
-closed l3 = l3
-closed l14 = l14
-closed l4 = l4
+abbrev pub withEnd : Log → Log
+withEnd l0 = l0
+withEnd l1 = l14
+withEnd l12 = l123
+withEnd l2 = l23
+withEnd l123 = l123
+withEnd l23 = l23
+withEnd l3 = l3
+withEnd l14 = l14
+withEnd l4 = l4
 
 -- without the oldest record
 abbrev pub older : Log → Log
@@ -43,6 +43,11 @@ older l4 = l0
 abbrev pub commitLog : Bool → Log
 commitLog true = l12
 commitLog false = l2
+
+-- the record from which an outcome is resumed: Commit, Init
+abbrev pub tellingKind : Outcome → ℕ
+tellingKind commit = 2
+tellingKind abort = 1
 
 -- no record ends it
 abbrev pub unended : Class → Bool
@@ -73,8 +78,8 @@ laws w a i o l =
     (logFits i o (waiting w) (classOf l) ⇒ logFits i o down (classOf l))
     ∷ ((logFits i o (resting true) (classOf l) || logFits i o (resting false) (classOf l)) ⇒ logFits i o down (classOf l))
     -- 2, 3: the end record becomes stable
-    ∷ (logFits i o (resting true) (classOf l) ⇒ logFits i o (resting false) (classOf (closed l)))
-    ∷ (logFits i o (resting true) (classOf l) ⇒ same (kindsIn (closed l)) (kindsIn l ++ (endRecord o ∷ [])))
+    ∷ (logFits i o (resting true) (classOf l) ⇒ logFits i o (resting false) (classOf (withEnd l)))
+    ∷ (logFits i o (resting true) (classOf l) ⇒ same (kindsIn (withEnd l)) (kindsIn l ++ (endRecord o ∷ [])))
     -- 4, 5: a discard
     ∷ (logFits i o (resting false) (classOf l) ⇒ logFits i o (resting false) (classOf (older l)))
     ∷ same (kindsIn (older l)) (drop 1 (kindsIn l))
@@ -92,11 +97,13 @@ laws w a i o l =
     ∷ (logFits i o down (classOf l) ⇒ alike (has 2 (kindsIn l) && not (has 3 (kindsIn l))) (sameOutcome o commit && resumed (classOf l)))
     ∷ (logFits i o down (classOf l) ⇒ alike (has 1 (kindsIn l) && not (has 2 (kindsIn l)) && not (has 4 (kindsIn l))) (sameOutcome o abort && resumed (classOf l)))
     -- 14: record 2 stays; 15, 16: records 1 and 3 stand where they may
-    ∷ (has 2 (kindsIn l) ⇒ has 2 (kindsIn (closed l)))
-    ∷ (logFits i o (resting true) (classOf l) ⇒ (sameOutcome o abort || a) ⇒ properKinds i a (kindsIn l) ⇒ properKinds i a (kindsIn (closed l)))
+    ∷ (has 2 (kindsIn l) ⇒ has 2 (kindsIn (withEnd l)))
+    ∷ (logFits i o (resting true) (classOf l) ⇒ (sameOutcome o abort || a) ⇒ properKinds i a (kindsIn l) ⇒ properKinds i a (kindsIn (withEnd l)))
     ∷ (properKinds i a (kindsIn l) ⇒ properKinds i a (kindsIn (older l)))
     -- 17: what is waited for, or whose end is unforced, has no stable end record
     ∷ ((logFits i o (waiting w) (classOf l) || logFits i o (resting true) (classOf l)) ⇒ unended (classOf l))
+    -- 18: the record from which it is resumed
+    ∷ (resumed (classOf l) ⇒ logFits i o down (classOf l) ⇒ has (tellingKind o) (kindsIn l))
     ∷ []
 
 law-tests : (w : ℕ) → T (allBool (λ a. allOf (logs (λ l. allOutcome (λ o. allBool (λ i. allOf (laws w a i o l)))))))
@@ -131,13 +138,13 @@ module _ (i : Bool) (o : Outcome) (l : Log) where
       mp (logFits i o (resting true) (classOf l) || logFits i o (resting false) (classOf l)) (logFits i o down (classOf l)) (law 1 0 i o l)
       (or-right (logFits i o (resting true) (classOf l)) (logFits i o (resting false) (classOf l)) f)
 
-  pub closed-fits : Fits (resting true) → T (logFits i o (resting false) (classOf (closed l)))
-  closed-fits = mp (logFits i o (resting true) (classOf l)) (logFits i o (resting false) (classOf (closed l))) (law 2 0 i o l)
+  pub closed-fits : Fits (resting true) → T (logFits i o (resting false) (classOf (withEnd l)))
+  closed-fits = mp (logFits i o (resting true) (classOf l)) (logFits i o (resting false) (classOf (withEnd l))) (law 2 0 i o l)
 
-  pub closed-kinds : Fits (resting true) → kindsIn (closed l) ≡ kindsIn l ++ (endRecord o ∷ [])
+  pub closed-kinds : Fits (resting true) → kindsIn (withEnd l) ≡ kindsIn l ++ (endRecord o ∷ [])
   closed-kinds f =
       same-list _ _
-      (true-of _ (mp (logFits i o (resting true) (classOf l)) (same (kindsIn (closed l)) (kindsIn l ++ (endRecord o ∷ []))) (law 3 0 i o l) f))
+      (true-of _ (mp (logFits i o (resting true) (classOf l)) (same (kindsIn (withEnd l)) (kindsIn l ++ (endRecord o ∷ []))) (law 3 0 i o l) f))
 
   pub older-fits : Fits (resting false) → T (logFits i o (resting false) (classOf (older l)))
   older-fits = mp (logFits i o (resting false) (classOf l)) (logFits i o (resting false) (classOf (older l))) (law 4 0 i o l)
@@ -189,16 +196,21 @@ module _ (i : Bool) (o : Outcome) (l : Log) where
       mp (logFits i o (waiting 0) (classOf l) || logFits i o (resting true) (classOf l)) (unended (classOf l)) (law 17 0 i o l)
       (or-right (logFits i o (waiting 0) (classOf l)) (logFits i o (resting true) (classOf l)) f)
 
-pub closed-has : (l : Log) → T (has 2 (kindsIn l)) → T (has 2 (kindsIn (closed l)))
-closed-has l = mp (has 2 (kindsIn l)) (has 2 (kindsIn (closed l))) (law 14 0 true commit l)
+  pub resumed-record : T (resumed (classOf l)) → Fits down → T (has (tellingKind o) (kindsIn l))
+  resumed-record r f =
+      mp (logFits i o down (classOf l)) (has (tellingKind o) (kindsIn l))
+      (mp (resumed (classOf l)) (logFits i o down (classOf l) ⇒ has (tellingKind o) (kindsIn l)) (law 18 0 i o l) r) f
+
+pub closed-has : (l : Log) → T (has 2 (kindsIn l)) → T (has 2 (kindsIn (withEnd l)))
+closed-has l = mp (has 2 (kindsIn l)) (has 2 (kindsIn (withEnd l))) (law 14 0 true commit l)
 
 module _ (i a : Bool) where
   pub closed-proper : (o : Outcome) (l : Log) → T (logFits i o (resting true) (classOf l)) → T (sameOutcome o abort || a)
-      → T (properKinds i a (kindsIn l)) → T (properKinds i a (kindsIn (closed l)))
+      → T (properKinds i a (kindsIn l)) → T (properKinds i a (kindsIn (withEnd l)))
   closed-proper o l f u p =
-      mp (properKinds i a (kindsIn l)) (properKinds i a (kindsIn (closed l)))
-      (mp (sameOutcome o abort || a) (properKinds i a (kindsIn l) ⇒ properKinds i a (kindsIn (closed l)))
-      (mp (logFits i o (resting true) (classOf l)) ((sameOutcome o abort || a) ⇒ properKinds i a (kindsIn l) ⇒ properKinds i a (kindsIn (closed l))) (law-of 15 0 a i o l) f) u) p
+      mp (properKinds i a (kindsIn l)) (properKinds i a (kindsIn (withEnd l)))
+      (mp (sameOutcome o abort || a) (properKinds i a (kindsIn l) ⇒ properKinds i a (kindsIn (withEnd l)))
+      (mp (logFits i o (resting true) (classOf l)) ((sameOutcome o abort || a) ⇒ properKinds i a (kindsIn l) ⇒ properKinds i a (kindsIn (withEnd l))) (law-of 15 0 a i o l) f) u) p
 
   pub older-proper : (l : Log) → T (properKinds i a (kindsIn l)) → T (properKinds i a (kindsIn (older l)))
   older-proper l = mp (properKinds i a (kindsIn l)) (properKinds i a (kindsIn (older l))) (law-of 16 0 a i commit l)
@@ -272,7 +284,7 @@ module _ (i : Bool) where
   first-proper a = mp i (properKinds i a (1 ∷ [])) (beginning 11 0 a)
 
 -- a record 3 stands unforced where acks were owed
-pub may-close : (g : Cohort) (o : Outcome) (l : Log) → SetsFit g (decided o (resting true) l) → T (sameOutcome o abort || awaitsCommit g)
+pub may-close : (g : Cohort) (o : Outcome) (out : ℕ) (l : Log) → SetsFit g (decided o out (resting true) l) → T (sameOutcome o abort || awaitsCommit (remaining g out))
 unfolding sameOutcome
-may-close g commit l s = s
-may-close g abort l s = tt
+may-close g commit out l s = s
+may-close g abort out l s = tt

@@ -10,13 +10,13 @@ use Rattle.codec.specs.Sets.{participants, member, listed}
 use Rattle.site.specs.Presumption.{Outcome}
 use Rattle.site.specs.Cohort.{Cohort, presumptionOf, writesInit}
 use Rattle.site.specs.Step.{Message, voteYes, Effect, append, force, enter, send}
-use Rattle.site.specs.Coordinator.{CoordinatorPhase, inTurn, ordered}
+use Rattle.site.specs.Coordinator.{Coordinator, inTurn, ordered}
 use Rattle.joint.specs.State.{Site, appended, forced, withCoordinator, withSent, forgotten, withParticipant}
 use Rattle.joint.proofs.view.View.{View, viewAt, viewSettle, viewPerform, viewEffects, viewDown}
 use Rattle.joint.proofs.view.Turn.{Carried, whole, cutAfter}
 use Rattle.joint.proofs.safety.Tables.{maySend}
 use Rattle.joint.proofs.safety.Sets.{no-zero}
-use Rattle.joint.proofs.safety.Invariant.{Standing, stageOf, hasDecided, phaseAt, between, sentIn, Mid, cohortOf}
+use Rattle.joint.proofs.safety.Invariant.{Standing, stageOf, hasDecided, between, sentIn, Mid, PhaseAs, cohortOf}
 use Rattle.joint.proofs.safety.coordinator.Steps.{From, Shift, shift-keeps, standsAs, stay, stand, settle-mid, enter-mid, send-mid}
 use Rattle.joint.proofs.safety.coordinator.Crashes.{Next, crash-next}
 use Rattle.joint.proofs.base.Lists.{Each, each-append, each-chosen, each-kept}
@@ -63,7 +63,7 @@ module _ (t : ℕ) (h0 : Standing) where
       let y = crash-next t v h (x .mid) n in
       record { standing = y .standing; inv = y .inv; from = λ z f. y .from z (x .from z f) }
 
-  pub row-next : {v w : View} (es : List Effect) (h′ : Standing) (c : CoordinatorPhase) → Runs v es h′ → c ≡ phaseAt h′ → T (between h′)
+  pub row-next : {v w : View} (es : List Effect) (h′ : Standing) (c : Coordinator) → Runs v es h′ → PhaseAs h′ c → T (between h′)
       → Carried t 0 es (viewSettle (withCoordinator 0 c)) v w → Next t h0 w
   unfolding viewSettle withCoordinator
   row-next {v} es h′ c x e b whole =

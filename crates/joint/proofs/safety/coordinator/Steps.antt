@@ -7,17 +7,18 @@ use lib.Dec.{T, eqb}
 use native.Mathlib.Omega.{arith}
 use borrow.Author.Tests.{ne-eqb, eqb-true}
 use Rattle.codec.specs.Sets.{member, empty}
+use Rattle.codec.specs.laws.Members.{none-in}
 use Rattle.site.specs.Presumption.{Outcome, commit, sameOutcome, abort}
-use Rattle.site.specs.Cohort.{presumptionOf, owing, writesInit}
-use Rattle.site.specs.Step.{Message, voteYes, voteNo, messageKind, enter, send}
-use Rattle.site.specs.Coordinator.{CoordinatorPhase}
+use Rattle.site.specs.Cohort.{remaining, presumptionOf, owing, writesInit}
+use Rattle.site.specs.Step.{Message, voteYes, voteNo, readOnly, messageKind, enter, send}
+use Rattle.site.specs.Coordinator.{Coordinator}
 use Rattle.joint.specs.State.{Site, update, withCoordinator, withParticipant, withSent, forgotten}
-use Rattle.joint.proofs.base.Booleans.{or-left, or-either, both-ways}
+use Rattle.joint.proofs.base.Booleans.{or-left, or-right, or-either}
 use Rattle.joint.proofs.base.Updates.{update-other}
 use Rattle.joint.proofs.view.View.{View, viewAt, viewSettle, viewPerform}
-use Rattle.joint.proofs.safety.Tables.{Status, has, Stage, Fine, passes, ackSent, maySend}
+use Rattle.joint.proofs.safety.Tables.{Status, has, Stage, isCounted, Fine, passes, ackSent, maySend}
 use Rattle.joint.proofs.safety.coordinator.Passes.{pass-fine, send-fine}
-use Rattle.joint.proofs.safety.Invariant.{Standing, never, stageOf, hasDecided, standingFits, properLog, awaitsCommit, SetsFit, standingUp, stableAt, unforcedAt, isNever, siteWith, sentIn, Stranger, Place, Edge, Sound, Mid, cohortOf, Log, kindsIn, Pace, decided, waiting, resting}
+use Rattle.joint.proofs.safety.Invariant.{Standing, never, outOf, stageOf, hasDecided, standingFits, properLog, awaitsCommit, SetsFit, Remains, standingUp, stableAt, unforcedAt, isNever, siteWith, sentIn, Place, Edge, Votes, Sound, Mid, cohortOf, Log, kindsIn, Pace, decided, waiting, resting}
 use Rattle.joint.proofs.safety.Outcomes.{same-outcome}
 use Rattle.joint.proofs.safety.Sets.{belongs, not-empty}
 
@@ -25,33 +26,40 @@ use Rattle.joint.proofs.safety.Sets.{belongs, not-empty}
 
 -- member suc n allows the change of stage, by what it has sent
 abbrev pub PassesAt : View → Stage → Stage → ℕ → Type 0
-PassesAt v m m′ n = T (passes (presumptionOf (cohortOf v) (suc n)) (sentIn v (suc n) voteYes) (sentIn v (suc n) voteNo) (ackSent (sentIn v (suc n)) m) m m′)
+PassesAt v m m′ n =
+    T
+    (passes (presumptionOf (cohortOf v) (suc n)) (sentIn v (suc n) voteYes) (sentIn v (suc n) voteNo) (ackSent (sentIn v (suc n)) m) (sentIn v (suc n) readOnly) m m′)
 
 -- from the standing h0 to h: what is decided stays decided, and a commit that is new has its record 2 stable
 pub record From (i : Bool) (h0 h : Standing) : Type 0 where
   pub keeps : (o : Outcome) → T (hasDecided h0 o) → T (hasDecided h o)
   pub new : T (hasDecided h commit) → T (hasDecided h0 commit) ⊎ T (has 2 (stableAt i h))
+  -- and nobody more is taken out
+  pub outs : (n : ℕ) → T (member (suc n) (outOf h)) → T (member (suc n) (outOf h0))
 
 pub from-self : (i : Bool) (h : Standing) → From i h h
-from-self i h = record { keeps = λ o k. k; new = inl }
+from-self i h = record { keeps = λ o k. k; new = inl; outs = λ n k. k }
 
 -- the outcome stays
-pub from-same : (i : Bool) (o : Outcome) (p q : Pace) (l l′ : Log) (h0 : Standing) → (T (has 2 (kindsIn l)) → T (has 2 (kindsIn l′)))
-    → From i h0 (decided o p l) → From i h0 (decided o q l′)
-from-same i o p q l l′ h0 grows f = record { keeps = f .keeps; new = λ c. ⊎-elim inl (λ k. inr (grows k)) (f .new c) }
+pub from-same : (i : Bool) (o : Outcome) (out : ℕ) (p q : Pace) (l l′ : Log) (h0 : Standing) → (T (has 2 (kindsIn l)) → T (has 2 (kindsIn l′)))
+    → From i h0 (decided o out p l) → From i h0 (decided o out q l′)
+from-same i o out p q l l′ h0 grows f = record { keeps = f .keeps; new = λ c. ⊎-elim inl (λ k. inr (grows k)) (f .new c); outs = f .outs }
 
 -- nothing was decided
 pub from-none : {i : Bool} {h h′ : Standing} (h0 : Standing) → ((o : Outcome) → T (hasDecided h o) → ⊥)
-    → (T (hasDecided h′ commit) → T (has 2 (stableAt i h′)))
+    → (T (hasDecided h′ commit) → T (has 2 (stableAt i h′))) → ((n : ℕ) → T (member (suc n) (outOf h′)) → T (member (suc n) (outOf h)))
     → From i h0 h → From i h0 h′
-from-none h0 none new f = record { keeps = λ o k. absurd (none o (f .keeps o k)); new = λ c. inr (new c) }
+from-none h0 undecided new outs f =
+    record { keeps = λ o k. absurd (undecided o (f .keeps o k)); new = λ c. inr (new c); outs = λ n k. f .outs n (outs n k) }
 
 -- a change of the standing that the members allow
 pub record Move (v : View) (h h′ : Standing) : Type 0 where
   pub never : isNever h′ ≡ isNever h
   pub fit : T (standingFits (writesInit (cohortOf v)) h′)
-  pub proper : T (properLog (writesInit (cohortOf v)) (awaitsCommit (cohortOf v)) h′)
+  pub proper : T (properLog (writesInit (cohortOf v)) (awaitsCommit (remaining (cohortOf v) (outOf h′))) h′)
   pub sets : SetsFit (cohortOf v) h′
+  pub remains : Remains (cohortOf v) h′
+  pub votes : Votes v h′
   pub passing : (n : ℕ) → T (member (suc n) (cohortOf v .members)) → PassesAt v (stageOf h (suc n)) (stageOf h′ (suc n)) n
 
 -- one within a row, behind which a stable record 2 still stands
@@ -67,13 +75,27 @@ shift-keeps {h} x = x .from h (from-self _ h) .keeps
 
 -- the coordinator's site as its standing says
 abbrev pub standsAs : ℕ → View → Standing → Site
-standsAs t v h = siteWith (cohortOf v) t 0 (standingUp h) (stableAt (writesInit (cohortOf v)) h) (unforcedAt h)
+standsAs t v h = siteWith (cohortOf v) (outOf h) t 0 (standingUp h) (stableAt (writesInit (cohortOf v)) h) (unforcedAt h)
 
 -- someone owes an ack of what is waited for
-pub still-owed : {t : ℕ} {v : View} (o : Outcome) (w : ℕ) (l : Log) → Mid t (decided o (waiting w) l) v → T (not (empty w))
-    → SetsFit (cohortOf v) (decided o (resting true) l)
-still-owed {v} commit w l mid k = not-empty w (owing (cohortOf v) commit) (mid .sound .sets .0) k (λ n m. mid .sound .sets .1 (suc n) m)
-still-owed abort w l mid k = tt
+pub still-owed : {t : ℕ} {v : View} (o : Outcome) (out w : ℕ) (l : Log) → Mid t (decided o out (waiting w) l) v → T (not (empty w))
+    → SetsFit (cohortOf v) (decided o out (resting true) l)
+still-owed {v} commit out w l mid k = not-empty w (owing (remaining (cohortOf v) out) commit) (mid .sound .sets .0) k (λ n m. mid .sound .sets .1 (suc n) m)
+still-owed abort out w l mid k = tt
+
+-- what was heard stays, with the standing decided as it was
+pub same-votes : {t : ℕ} {v : View} {o : Outcome} {out : ℕ} {p : Pace} {l : Log} (q : Pace) (l′ : Log) → Mid t (decided o out p l) v → Votes v (decided o out q l′)
+same-votes q l′ mid = record { looked = mid .votes .looked; said = mid .votes .said }
+
+-- an abort asks for no vote
+pub abort-votes : {t : ℕ} {v : View} {h : Standing} (p : Pace) (l : Log) → Mid t h v → Votes v (decided abort (outOf h) p l)
+unfolding sameOutcome
+abort-votes p l mid = record { looked = mid .votes .looked; said = λ n m k. absurd k }
+
+-- nobody is taken out, and no vote is counted
+pub no-votes : {v : View} {h : Standing} → outOf h ≡ 0 → ((n : ℕ) → T (member (suc n) (cohortOf v .members)) → T (isCounted (stageOf h (suc n))) → ⊥) → Votes v h
+no-votes e f =
+    record { looked = λ n k. absurd (subst T (ap (member (suc n)) e ∙ none-in (suc n)) k); said = λ n m k. absurd (f n m k) }
 
 -- ---- the participants' sites, which the coordinator does not touch
 
@@ -99,7 +121,7 @@ module _ (t n : ℕ) (s : Status) (v : View) where
         entered = x .entered;
       }
 
-  place-settled : (b : Bool) (c : CoordinatorPhase) → Place b t n s v → Place b t n s (viewSettle (withCoordinator 0 c) v)
+  place-settled : (b : Bool) (c : Coordinator) → Place b t n s v → Place b t n s (viewSettle (withCoordinator 0 c) v)
   unfolding viewSettle withCoordinator
   place-settled true c x = record { site = x .site; phase = x .phase }
   place-settled false c x = record { stable = x .stable; unforced = x .unforced; sent = x .sent; entered = x .entered }
@@ -125,6 +147,7 @@ module _ (t n : ℕ) (s : Status) (v : View) where
         entries = λ d u. x .entries d (not-own n (v .entered (suc n) d) (sameOutcome d o) u);
         counted = x .counted;
         honest = x .honest;
+        looked = x .looked;
       }
 
 -- ---- standings
@@ -140,6 +163,7 @@ module _ {t : ℕ} {v : View} {h : Standing} (mid : Mid t h v) where
         fit = x .fit;
         proper = x .proper;
         sets = x .sets;
+        remains = x .remains;
       }
 
   -- without an effect
@@ -149,6 +173,7 @@ module _ {t : ℕ} {v : View} {h : Standing} (mid : Mid t h v) where
         sound = sound-as x;
         log = mid .log ∙ e;
         entries = λ o u. keeps o (mid .entries o u);
+        votes = x .votes;
         status = mid .status;
         stands = mid .stands;
         fine = λ n b. pass-fine (mid .fine n b) (stageOf h′ (suc n)) (x .passing n b);
@@ -162,19 +187,21 @@ module _ {t : ℕ} {v : View} {h : Standing} (mid : Mid t h v) where
         sound = sound-as x;
         log = ap k (mid .log) ∙ e;
         entries = λ o u. keeps o (mid .entries o u);
+        votes = record { looked = x .votes .looked; said = x .votes .said };
         status = mid .status;
         stands = λ n. place-beside t n (mid .status n) v (belongs (cohortOf v) n) k (mid .stands n);
         fine = λ n b. pass-fine (mid .fine n b) (stageOf h′ (suc n)) (x .passing n b);
       }
 
   -- with a change of the coordinator's phase
-  pub settle-mid : (c : CoordinatorPhase) → Mid t h (viewSettle (withCoordinator 0 c) v)
+  pub settle-mid : (c : Coordinator) → Mid t h (viewSettle (withCoordinator 0 c) v)
   unfolding viewSettle withCoordinator
   settle-mid c =
       record {
         sound = mid .sound;
         log = mid .log;
         entries = mid .entries;
+        votes = record { looked = mid .votes .looked; said = mid .votes .said };
         status = mid .status;
         stands = λ n. place-settled t n (mid .status n) v (belongs (cohortOf v) n) c (mid .stands n);
         fine = mid .fine;
@@ -187,6 +214,7 @@ module _ {t : ℕ} {v : View} {h : Standing} (mid : Mid t h v) where
         sound = mid .sound;
         log = mid .log;
         entries = mid .entries;
+        votes = record { looked = mid .votes .looked; said = mid .votes .said };
         status = mid .status;
         stands = λ n. place-forgotten t n (mid .status n) v (belongs (cohortOf v) n) (mid .stands n);
         fine = mid .fine;
@@ -201,6 +229,7 @@ module _ {t : ℕ} {v : View} {h : Standing} (mid : Mid t h v) where
         sound = mid .sound;
         log = mid .log;
         entries = λ r u. or-either (v .entered 0 r) (sameOutcome r o) (mid .entries r) (λ k. subst (λ (z : Outcome). T (hasDecided h z)) (sym (same-outcome r o k)) d) u;
+        votes = record { looked = mid .votes .looked; said = mid .votes .said };
         status = mid .status;
         stands = λ n. place-entered t n (mid .status n) v (belongs (cohortOf v) n) o (mid .stands n);
         fine = λ n b. edge-entered t n (mid .status n) v (stageOf h (suc n)) o (mid .fine n b);
@@ -215,7 +244,7 @@ module _ {t : ℕ} {v : View} {h : Standing} (mid : Mid t h v) where
 
     abbrev Sent : ℕ → Bool → Status → Type 0
     Sent k b s =
-        Fine (presumptionOf (cohortOf v) (suc k)) (stageOf h (suc k)) s (λ j. (b && eqb (messageKind j) (messageKind g)) || sentIn v (suc k) j)
+        Fine (presumptionOf (cohortOf v) (suc k)) (v .transaction .marked (suc k)) (stageOf h (suc k)) s (λ j. (b && eqb (messageKind j) (messageKind g)) || sentIn v (suc k) j)
         (v .entered (suc k)) (v .voted (suc k))
 
     fine-sent : (k : ℕ) (b : Bool) → toMember k ≡ b → (s : Status) → Edge (stageOf h (suc k)) k s v → Sent k b s
@@ -237,6 +266,7 @@ module _ {t : ℕ} {v : View} {h : Standing} (mid : Mid t h v) where
           entries = f .entries;
           counted = f .counted;
           honest = λ u. or-left (v .voted (suc k)) _ (f .honest u);
+          looked = f .looked;
         }
 
     not-member : (k : ℕ) → belongs (cohortOf v) k ≡ false → toMember k ≡ false
@@ -258,6 +288,11 @@ module _ {t : ℕ} {v : View} {h : Standing} (mid : Mid t h v) where
           entered = x .entered;
         }
 
+    -- what was sent stays sent
+    more : (k : ℕ) (j : Message) → T (sentIn v (suc k) j) → T (sentIn (viewPerform 0 t (send g (suc n)) v) (suc k) j)
+    unfolding viewPerform withSent
+    more k j u = or-right (toMember k && eqb (messageKind j) (messageKind g)) (sentIn v (suc k) j) u
+
     pub send-mid : Mid t h (viewPerform 0 t (send g (suc n)) v)
     unfolding viewPerform withSent
     send-mid =
@@ -265,6 +300,11 @@ module _ {t : ℕ} {v : View} {h : Standing} (mid : Mid t h v) where
           sound = mid .sound;
           log = mid .log;
           entries = mid .entries;
+          votes =
+              record {
+                looked = λ k u. more k readOnly (mid .votes .looked k u);
+                said = λ k m u. ⊎-elim inl (λ y. inr (more k voteYes y)) (mid .votes .said k m u);
+              };
           status = mid .status;
           stands = λ k. place-sent k (mid .status k) (belongs (cohortOf v) k) refl (mid .stands k);
           fine = λ k b. edge-sent k (mid .status k) (mid .fine k b);

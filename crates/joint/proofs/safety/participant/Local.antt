@@ -5,7 +5,7 @@ use mathlib.Core.Logic.{_≢_}
 use mathlib.Core.Bool.{Bool, true, false, not, _&&_, _||_, and-true, or-false, or-assoc, or-comm}
 use mathlib.Core.List.{List, [], _∷_, _++_, map, map-append}
 use lib.ListN.{take, drop}
-use lib.Dec.{eqb, eqb·suc-zero}
+use lib.Dec.{T, eqb, eqb·suc-zero}
 use borrow.Author.Tests.{eq-eqb, ne-eqb}
 use Rattle.codec.specs.Records.{LogRecord}
 use Rattle.site.specs.Presumption.{Outcome, sameOutcome}
@@ -14,6 +14,7 @@ use Rattle.site.specs.Step.{Message, voteYes, messageKind, Effect, append, forc
 use Rattle.site.specs.Participant.{ParticipantPhase}
 use Rattle.joint.specs.State.{Site, holds, appended, forced, stopped, started, withSent, withParticipant, forgotten, withCoordinator}
 use Rattle.joint.specs.Safety.{sends}
+use Rattle.joint.proofs.base.Booleans.{or-right}
 use Rattle.joint.proofs.base.Updates.{update-same, update-other}
 use Rattle.joint.proofs.view.View.{View, viewAt, viewSettle, viewPerform, viewEffects, viewDown}
 use Rattle.joint.proofs.view.Turn.{viewStart, viewDiscard, viewForget, trimmedView, noRecord, isNil}
@@ -48,16 +49,25 @@ local s v =
 pub record Elsewhere (p : ℕ) (v w : View) : Type 0 where
   pub cohort : w .transaction .cohort ≡ v .transaction .cohort
   pub coordinator : w .transaction .coordinator ≡ v .transaction .coordinator
+  pub marked : w .transaction .marked ≡ v .transaction .marked
+  -- what was sent stays sent
+  pub sent : (s k : ℕ) → T (v .transaction .sent s k) → T (w .transaction .sent s k)
   pub rest : (s : ℕ) → s ≢ p → local s w ≡ local s v
 
 -- nothing changed
 pub elsewhere-none : {p : ℕ} {v : View} → Elsewhere p v v
-elsewhere-none = record { cohort = refl; coordinator = refl; rest = λ s h. refl }
+elsewhere-none = record { cohort = refl; coordinator = refl; marked = refl; sent = λ s k u. u; rest = λ s h. refl }
 
 -- one change at p after another
 elsewhere-then : {p : ℕ} {u v w : View} → Elsewhere p u v → Elsewhere p v w → Elsewhere p u w
 elsewhere-then a b =
-    record { cohort = b .cohort ∙ a .cohort; coordinator = b .coordinator ∙ a .coordinator; rest = λ s h. b .rest s h ∙ a .rest s h }
+    record {
+      cohort = b .cohort ∙ a .cohort;
+      coordinator = b .coordinator ∙ a .coordinator;
+      marked = b .marked ∙ a .marked;
+      sent = λ s k u. b .sent s k (a .sent s k u);
+      rest = λ s h. b .rest s h ∙ a .rest s h;
+    }
 
 -- field by field
 local-same : {x y : Local} → x .site ≡ y .site → x .participant ≡ y .participant → x .sent ≡ y .sent → x .entered ≡ y .entered → x .voted ≡ y .voted → x ≡ y
@@ -67,7 +77,7 @@ local-same a b c d e = λ i. record { site = a i; participant = b i; sent = c i;
 
 -- w is v after what took p to y; what y sent, entered and voted comes to what v tells of p
 pub record Reached (t p : ℕ) (v : View) (y : Part) (w : View) : Type 0 where
-  pub site : w .site p ≡ siteWith (v .transaction .cohort) t p (y .up) (y .stable) (y .unforced)
+  pub site : w .site p ≡ siteWith (v .transaction .cohort) 0 t p (y .up) (y .stable) (y .unforced)
   pub phase : w .transaction .participant p ≡ y .phase
   pub sent : (m : Message) → sentIn w p m ≡ (y .sent m || sentIn v p m)
   pub entered : (o : Outcome) → w .entered p o ≡ (y .entered o || v .entered p o)
@@ -80,11 +90,11 @@ or-last a b c = or-comm (a || b) c ∙ sym (or-assoc c a b)
 module _ (t p : ℕ) (v : View) where
   -- the site of p with records of these kinds
   abbrev here : Bool → List ℕ → List ℕ → Site
-  here u ks js = siteWith (v .transaction .cohort) t p u ks js
+  here u ks js = siteWith (v .transaction .cohort) 0 t p u ks js
 
   -- its record of kind k
   abbrev put : ℕ → LogRecord
-  put k = recordFor (v .transaction .cohort) t p k
+  put k = recordFor (v .transaction .cohort) 0 t p k
 
   -- the site changes
   reach-site : (f : Site → Site) (u : Bool) (ks js : List ℕ) {y : Part} {w : View}
@@ -99,7 +109,7 @@ module _ (t p : ℕ) (v : View) where
         entered = r .entered;
         voted = r .voted;
         elsewhere =
-            elsewhere-then (r .elsewhere) (record { cohort = refl; coordinator = refl; rest = λ s h. local-same (update-other p s f (w .site) h) refl refl refl refl });
+            elsewhere-then (r .elsewhere) (record { cohort = refl; coordinator = refl; marked = refl; sent = λ s k u. u; rest = λ s h. local-same (update-other p s f (w .site) h) refl refl refl refl });
       }
 
   -- the phase changes
@@ -113,13 +123,13 @@ module _ (t p : ℕ) (v : View) where
         entered = r .entered;
         voted = r .voted;
         elsewhere =
-            elsewhere-then (r .elsewhere) (record { cohort = refl; coordinator = refl; rest = λ s h. local-same refl (update-other p s (λ _. x) (w .transaction .participant) h) refl refl refl });
+            elsewhere-then (r .elsewhere) (record { cohort = refl; coordinator = refl; marked = refl; sent = λ s k u. u; rest = λ s h. local-same refl (update-other p s (λ _. x) (w .transaction .participant) h) refl refl refl });
       }
 
   -- ---- effects
 
   reach-append : (k : ℕ) {y : Part} {w : View} → Reached t p v y w
-      → Reached t p v (effect (append k (fieldsAt (v .transaction .cohort) p k)) y) (viewAt p (appended (put k)) w)
+      → Reached t p v (effect (append k (fieldsAt (v .transaction .cohort) 0 p k)) y) (viewAt p (appended (put k)) w)
   unfolding appended
   reach-append k {y} r =
       reach-site (appended (put k)) _ _ _
@@ -141,7 +151,7 @@ module _ (t p : ℕ) (v : View) where
         entered = λ d. rw (eq-eqb p p refl, r .entered d) (or-last (y .entered d) (v .entered p d) (sameOutcome d o));
         voted = r .voted;
         elsewhere =
-            elsewhere-then (r .elsewhere) (record { cohort = refl; coordinator = refl; rest = λ s h. local-same refl refl refl (fun-ext (entered-there s h)) refl });
+            elsewhere-then (r .elsewhere) (record { cohort = refl; coordinator = refl; marked = refl; sent = λ s k u. u; rest = λ s h. local-same refl refl refl (fun-ext (entered-there s h)) refl });
       }
     where
       entered-there : (s : ℕ) → s ≢ p → (d : Outcome) → (w .entered s d || (eqb p s && sameOutcome d o)) ≡ w .entered s d
@@ -157,14 +167,14 @@ module _ (t p : ℕ) (v : View) where
         entered = r .entered;
         voted = voted-here;
         elsewhere =
-            elsewhere-then (r .elsewhere) (record { cohort = refl; coordinator = refl; rest = λ s h. local-same refl refl (fun-ext (sent-there s h)) refl (voted-there s h) });
+            elsewhere-then (r .elsewhere) (record { cohort = refl; coordinator = refl; marked = refl; sent = λ s k u. or-right (eqb s p && eqb k (messageKind m)) (w .transaction .sent s k) u; rest = λ s h. local-same refl refl (fun-ext (sent-there s h)) refl (voted-there s h) });
       }
     where
       isYes : Bool
       isYes = eqb (messageKind voteYes) (messageKind m)
 
       voted-here : (w .voted p || (eqb p p && (isYes && eqb p p) && holds t 5 (w .site p .stable))) ≡ (((isYes && has 5 (y .stable)) || y .voted) || v .voted p)
-      voted-here = rw (eq-eqb p p refl, holds-at (v .transaction .cohort) t p (y .stable) (r .site) 5, r .voted, and-true isYes) (or-last (y .voted) (v .voted p) (isYes && has 5 (y .stable)))
+      voted-here = rw (eq-eqb p p refl, holds-at (v .transaction .cohort) 0 t p (y .stable) (r .site) 5, r .voted, and-true isYes) (or-last (y .voted) (v .voted p) (isYes && has 5 (y .stable)))
 
       sent-there : (s : ℕ) → s ≢ p → (j : ℕ) → ((eqb s p && eqb j (messageKind m)) || w .transaction .sent s j) ≡ w .transaction .sent s j
       sent-there s h j = rw (ne-eqb s p h) refl
@@ -174,7 +184,7 @@ module _ (t p : ℕ) (v : View) where
 
 -- the fields are those of the participant's records, and its messages bear its own number
 abbrev pub Proper : Cohort → ℕ → Effect → Type 0
-Proper g p (append k fs) = fs ≡ fieldsAt g p k
+Proper g p (append k fs) = fs ≡ fieldsAt g 0 p k
 Proper g p force = Unit {0}
 Proper g p (enter o) = Unit {0}
 Proper g p (send m q) = q ≡ p
@@ -206,7 +216,7 @@ module _ (t p : ℕ) (v : View) where
 module _ (t n : ℕ) (v : View) where
   -- the records of these kinds
   abbrev written : List ℕ → List LogRecord
-  written ks = map (recordFor (v .transaction .cohort) t (suc n)) ks
+  written ks = map (recordFor (v .transaction .cohort) 0 t (suc n)) ks
 
   pub reach-down : (k : ℕ) {y : Part} {w : View} → Reached t (suc n) v y w
       → Reached t (suc n) v (halted (take k (y .unforced)) y) (viewDown (suc n) k w)

@@ -1,29 +1,31 @@
 -- All that happens at a participant keeps the invariant.
 use Prim.Native.Nat.{ℕ, suc}
 use mathlib.Core.Path.{_≡_, refl, sym, ap, subst, _∙_, fun-ext}
-use mathlib.Core.Bool.{Bool, true, false, not, true≢false}
+use mathlib.Core.Bool.{Bool, true, false, not, _||_, true≢false}
 use mathlib.Core.List.{List, [], _∷_, map}
 use mathlib.Core.Option.{Option, none, some}
-use lib.Dec.{T}
+use native.Mathlib.Omega.{arith}
+use lib.Dec.{T, eqb}
+use borrow.Author.Tests.{eq-eqb, ne-eqb, eqb-true, eqb-false}
 use Rattle.codec.specs.Lists.{any}
 use Rattle.codec.specs.Records.{LogRecord}
 use Rattle.codec.specs.Sets.{member, empty}
 use Rattle.codec.specs.laws.Tests.{true-of, of-true}
 use Rattle.site.specs.Presumption.{Outcome, commit, abort, sameOutcome, Presumption, acks}
 use Rattle.site.specs.Cohort.{Cohort, presumptionOf}
-use Rattle.site.specs.Step.{prepare, voteYes, voteNo, tell, ack, Input, begin, timer, received, Effect, force, send, Row, given}
-use Rattle.site.specs.Participant.{ParticipantPhase, outcomeRecord, voting, promising, onPrepare, acking, finish, acknowledging, ackingIf, onTell, participantTimer, participantStep, restartWith, participantRestart}
-use Rattle.joint.specs.State.{Site, holds, forced, started, withParticipant}
-use Rattle.joint.specs.Plan.{closes, newest}
+use Rattle.site.specs.Step.{prepare, voteYes, voteNo, readOnly, tell, ack, Input, begin, timer, received, Effect, force, send, Row, given}
+use Rattle.site.specs.Participant.{ParticipantPhase, outcomeRecord, voting, promising, firstVote, onPrepare, acking, finish, acknowledging, ackingIf, onTell, participantTimer, participantStep, restartWith, participantRestart}
+use Rattle.joint.specs.State.{Site, holds, forced, started, withParticipant, withMarked}
+use Rattle.joint.specs.Plan.{newest, closed}
 use Rattle.joint.proofs.base.Booleans.{mp}
 use Rattle.joint.proofs.view.View.{View, viewAt, viewSettle, viewDown}
 use Rattle.joint.proofs.view.Turn.{Carried, Given, Own, Up, viewDiscard, viewStart}
-use Rattle.joint.proofs.safety.Tables.{Stage, isUp, stableKinds}
+use Rattle.joint.proofs.safety.Tables.{Status, working, prepared, gone, half, lone, shut, off, offVoted, offShut, phaseOf, Stage, isUp, stableKinds, trail, Fine}
 use Rattle.joint.proofs.safety.Sets.{empty-none, belongs}
 use Rattle.joint.proofs.base.Lists.{each-append, take-none}
-use Rattle.joint.proofs.safety.Invariant.{Standing, recordFor, stageOf, sentIn, Here, here, Inv}
+use Rattle.joint.proofs.safety.Invariant.{Standing, recordFor, stageOf, sentIn, Place, Here, here, Inv}
 use Rattle.joint.proofs.safety.Holds.{holds-at}
-use Rattle.joint.proofs.safety.participant.Rows.{ofStatus, settled, woken, dropped, heard, lands, rowTest, onRow, step-at, restart-at, force-at, crash-at, discard-at}
+use Rattle.joint.proofs.safety.participant.Rows.{ofStatus, settled, woken, dropped, heard, lands, rowTest, onRow, step-at, restart-at, force-at, crash-at, discard-at, mark-at}
 use Rattle.joint.proofs.safety.participant.Local.{Elsewhere, AllProper, reach-phase, reach-force, reach-down, reach-started, reach-woken, reach-dropped}
 use Rattle.joint.proofs.safety.participant.Places.{only-at, from-member, member-after, member-carried, from-stranger, stranger-after, stranger-carried}
 
@@ -48,22 +50,23 @@ module _ (g : Cohort) (p : ℕ) where
   unfolding acking
   acking-proper o = given-proper (acks c o) (send (ack o) p ∷ []) (refl, tt)
 
-  finish-proper : (o : Outcome) → AllProper g p (finish c p o .effects)
+  finish-proper : (forces : Bool) (o : Outcome) → AllProper g p (finish c p forces o .effects)
   unfolding finish outcomeRecord
-  finish-proper commit = (refl, each-append _ (given (acks c commit) (force ∷ [])) _ (given-proper _ _ (tt, tt)) (tt, acking-proper commit))
-  finish-proper abort = (refl, each-append _ (given (acks c abort) (force ∷ [])) _ (given-proper _ _ (tt, tt)) (tt, acking-proper abort))
+  finish-proper forces commit = (refl, each-append _ (given forces (force ∷ [])) _ (given-proper _ _ (tt, tt)) (tt, acking-proper commit))
+  finish-proper forces abort = (refl, each-append _ (given forces (force ∷ [])) _ (given-proper _ _ (tt, tt)) (tt, acking-proper abort))
 
   -- the effects of the row, if there is one, are proper
   abbrev WellFormed : Option (Row ParticipantPhase) → Type 0
   WellFormed = OnRow (λ r. AllProper g p (r .effects))
 
-  prepare-proper : (x : ParticipantPhase) → WellFormed (onPrepare c p x)
-  unfolding onPrepare promising voting
-  prepare-proper ParticipantPhase.working = (refl, (tt, (refl, tt)))
-  prepare-proper ParticipantPhase.prepared = (refl, tt)
-  prepare-proper (ParticipantPhase.decided commit) = tt
-  prepare-proper (ParticipantPhase.decided abort) = (refl, tt)
-  prepare-proper ParticipantPhase.unknown = (refl, tt)
+  prepare-proper : (k : Bool) (x : ParticipantPhase) → WellFormed (onPrepare c p k x)
+  unfolding onPrepare firstVote promising voting
+  prepare-proper true ParticipantPhase.working = (refl, tt)
+  prepare-proper false ParticipantPhase.working = (refl, (tt, (refl, tt)))
+  prepare-proper k ParticipantPhase.prepared = (refl, tt)
+  prepare-proper k (ParticipantPhase.decided commit) = tt
+  prepare-proper k (ParticipantPhase.decided abort) = (refl, tt)
+  prepare-proper k ParticipantPhase.unknown = (refl, tt)
 
   if-proper : (b : Bool) (o : Outcome) → WellFormed (ackingIf c p b o)
   unfolding ackingIf acknowledging
@@ -73,9 +76,9 @@ module _ (g : Cohort) (p : ℕ) where
   tell-proper : (o : Outcome) (x : ParticipantPhase) → WellFormed (onTell c p o x)
   unfolding onTell acknowledging
   tell-proper commit ParticipantPhase.working = tt
-  tell-proper abort ParticipantPhase.working = finish-proper abort
-  tell-proper commit ParticipantPhase.prepared = finish-proper commit
-  tell-proper abort ParticipantPhase.prepared = finish-proper abort
+  tell-proper abort ParticipantPhase.working = finish-proper (acks c abort) abort
+  tell-proper commit ParticipantPhase.prepared = finish-proper (acks c commit) commit
+  tell-proper abort ParticipantPhase.prepared = finish-proper (acks c abort) abort
   tell-proper commit (ParticipantPhase.decided d) = if-proper (sameOutcome commit d) commit
   tell-proper abort (ParticipantPhase.decided d) = if-proper (sameOutcome abort d) abort
   tell-proper commit ParticipantPhase.unknown = acking-proper commit
@@ -88,15 +91,16 @@ module _ (g : Cohort) (p : ℕ) where
   timer-proper (ParticipantPhase.decided o) = tt
   timer-proper ParticipantPhase.unknown = tt
 
-  step-proper : (i : Input) (x : ParticipantPhase) → WellFormed (participantStep c p i x)
+  step-proper : (k : Bool) (i : Input) (x : ParticipantPhase) → WellFormed (participantStep c p k i x)
   unfolding participantStep
-  step-proper begin x = tt
-  step-proper timer x = timer-proper x
-  step-proper (received prepare q) x = prepare-proper x
-  step-proper (received voteYes q) x = tt
-  step-proper (received voteNo q) x = tt
-  step-proper (received (tell o) q) x = tell-proper o x
-  step-proper (received (ack o) q) x = tt
+  step-proper k begin x = tt
+  step-proper k timer x = timer-proper x
+  step-proper k (received prepare q) x = prepare-proper k x
+  step-proper k (received voteYes q) x = tt
+  step-proper k (received voteNo q) x = tt
+  step-proper k (received readOnly q) x = tt
+  step-proper k (received (tell o) q) x = tell-proper o x
+  step-proper k (received (ack o) q) x = tt
 
   restart-proper : (a b d : Bool) → AllProper g p (restartWith c p a b d .effects)
   unfolding restartWith voting
@@ -116,33 +120,65 @@ module _ {t : ℕ} {m : Stage} {n : ℕ} {v : View} (x : Here true t m n v) wher
   abbrev presumption : Presumption
   presumption = presumptionOf (v .transaction .cohort) (suc n)
 
+  -- whether it is marked
+  abbrev mark : Bool
+  mark = v .transaction .marked (suc n)
+
   is-up : {b : Bool} → v .site (suc n) .up ≡ b → isUp (x .status) ≡ b
   is-up u = sym (ap (λ (z : Site). z .up) (x .stands .site)) ∙ u
 
-  discard-passed : Up v (suc n) → newest closes (v .site (suc n) .stable) ≡ true → T (lands presumption timer (x .status) (dropped (ofStatus (x .status))))
+  discard-passed : Up v (suc n) → closed (v .site (suc n) .stable) ≡ true → T (lands presumption mark timer (x .status) (dropped (ofStatus (x .status))))
   discard-passed u e =
-      mp (newest closes (map (recordFor (v .transaction .cohort) t (suc n)) (stableKinds (x .status)))) _
-      (mp (isUp (x .status)) _ (discard-at (v .transaction .cohort) t (suc n) presumption (x .status)) (of-true (is-up u)))
-      (of-true (sym (ap (λ (z : Site). newest closes (z .stable)) (x .stands .site)) ∙ e))
+      mp (closed (map (recordFor (v .transaction .cohort) 0 t (suc n)) (stableKinds (x .status)))) _
+      (mp (isUp (x .status)) _ (discard-at (v .transaction .cohort) t (suc n) presumption mark (x .status)) (of-true (is-up u)))
+      (of-true (sym (ap (λ (z : Site). closed (z .stable)) (x .stands .site)) ∙ e))
 
-  step-passed : {row : Row ParticipantPhase} (i : Input) → Up v (suc n) → participantStep presumption (suc n) i (v .transaction .participant (suc n)) ≡ some row
-      → T (rowTest presumption i (x .status) settled row)
+  step-passed : {row : Row ParticipantPhase} (i : Input) → Up v (suc n) → participantStep presumption (suc n) mark i (v .transaction .participant (suc n)) ≡ some row
+      → T (rowTest presumption mark i (x .status) settled row)
   step-passed i u e =
-      subst (λ (o : Option (Row ParticipantPhase)). T (onRow (rowTest presumption i (x .status) settled) o))
-      (ap (participantStep presumption (suc n) i) (sym (x .stands .phase)) ∙ e)
-      (mp (isUp (x .status)) _ (step-at presumption (suc n) (x .status) i) (of-true (is-up u)))
+      subst (λ (o : Option (Row ParticipantPhase)). T (onRow (rowTest presumption mark i (x .status) settled) o))
+      (ap (participantStep presumption (suc n) mark i) (sym (x .stands .phase)) ∙ e)
+      (mp (isUp (x .status)) _ (step-at presumption mark (suc n) (x .status) i) (of-true (is-up u)))
 
   restart-passed : {row : Row ParticipantPhase} → v .site (suc n) .up ≡ false
-      → participantRestart presumption (suc n) (λ k. holds t k (v .site (suc n) .stable)) ≡ row → T (rowTest presumption timer (x .status) woken row)
+      → participantRestart presumption (suc n) (λ k. holds t k (v .site (suc n) .stable)) ≡ row → T (rowTest presumption mark timer (x .status) woken row)
   restart-passed u e =
-      subst (λ (r : Row ParticipantPhase). T (rowTest presumption timer (x .status) woken r))
-      (ap (participantRestart presumption (suc n)) (sym (fun-ext (holds-at _ t (suc n) _ (x .stands .site)))) ∙ e)
-      (mp (not (isUp (x .status))) _ (restart-at presumption (suc n) (x .status)) (of-true (ap not (is-up u))))
+      subst (λ (r : Row ParticipantPhase). T (rowTest presumption mark timer (x .status) woken r))
+      (ap (participantRestart presumption (suc n)) (sym (fun-ext (holds-at _ 0 t (suc n) _ (x .stands .site)))) ∙ e)
+      (mp (not (isUp (x .status))) _ (restart-at presumption mark (suc n) (x .status)) (of-true (ap not (is-up u))))
 
 heard-given : (v : View) (p : ℕ) (i : Input) → Given v i → Own p i → T (heard i (sentIn v p))
 heard-given v p begin g o = tt
 heard-given v p timer g o = tt
 heard-given v p (received m q) g o = subst (λ (z : ℕ). T (sentIn v z m)) o (g .1)
+
+-- the one status that works
+working-status : (s : Status) → phaseOf s ≡ ParticipantPhase.working → s ≡ working
+working-status s e = go s (sym (ap isWorking e))
+  where
+    isWorking : ParticipantPhase → Bool
+    isWorking ParticipantPhase.working = true
+    isWorking ParticipantPhase.prepared = false
+    isWorking (ParticipantPhase.decided o) = false
+    isWorking ParticipantPhase.unknown = false
+
+    go : (s : Status) → true ≡ isWorking (phaseOf s) → s ≡ working
+    go working q = refl
+    go prepared q = absurd (true≢false q)
+    go gone q = absurd (true≢false q)
+    go (half o) q = absurd (true≢false q)
+    go lone q = absurd (true≢false q)
+    go (shut o f) q = absurd (true≢false q)
+    go off q = absurd (true≢false q)
+    go offVoted q = absurd (true≢false q)
+    go (offShut o f) q = absurd (true≢false q)
+
+eqb-suc : (j n : ℕ) → eqb (suc j) (suc n) ≡ eqb j n
+eqb-suc j n = go (eqb j n) refl
+  where
+    go : (b : Bool) → eqb j n ≡ b → eqb (suc j) (suc n) ≡ b
+    go true e = eq-eqb (suc j) (suc n) (ap suc (eqb-true j n e))
+    go false e = ne-eqb (suc j) (suc n) (λ q. eqb-false j n e (omega (arith, q)))
 
 -- ---- at a stranger nothing happens
 
@@ -150,8 +186,8 @@ none-restarts : (c : Presumption) (p t : ℕ) → participantRestart c p (λ k. 
 unfolding participantRestart restartWith holds any
 none-restarts c p t = refl
 
-none-closes : newest closes [] ≡ false
-unfolding newest
+none-closes : closed [] ≡ false
+unfolding closed newest
 none-closes = refl
 
 -- ---- the events
@@ -168,14 +204,14 @@ module _ (t : ℕ) (h : Standing) (v : View) (inv : Inv t h v) where
   force-kept n = either n go
     where
       go : (b : Bool) → Moves n (viewAt (suc n) forced v) b
-      go true e x = member-after timer x tt (force-at _ (x .status)) (reach-force t (suc n) v (from-member x))
+      go true e x = member-after timer x tt (force-at _ (v .transaction .marked (suc n)) (x .status)) (reach-force t (suc n) v (from-member x))
       go false e x = stranger-after refl x (reach-force t (suc n) v (from-stranger x))
 
   pub crash-kept : (n k : ℕ) → Inv t h (viewDown (suc n) k v)
   crash-kept n k = either n go
     where
       go : (b : Bool) → Moves n (viewDown (suc n) k v) b
-      go true e x = member-after timer x tt (crash-at _ (x .status) k) (reach-down t n v k (from-member x))
+      go true e x = member-after timer x tt (crash-at _ (v .transaction .marked (suc n)) (x .status) k) (reach-down t n v k (from-member x))
       go false e x = stranger-after (take-none k) x (reach-down t n v k (from-stranger x))
 
   pub start-kept : (n : ℕ) → empty (v .transaction .cohort .members) ≡ true → Inv t h (viewAt (suc n) started v)
@@ -187,23 +223,23 @@ module _ (t : ℕ) (h : Standing) (v : View) (inv : Inv t h v) where
 
   pub row-kept : {row : Row ParticipantPhase} {w : View} (n : ℕ) (i : Input) → T (member (suc n) (v .transaction .cohort .members)) → Up v (suc n) → Given v i
       → Own (suc n) i
-      → participantStep (presumptionOf (v .transaction .cohort) (suc n)) (suc n) i (v .transaction .participant (suc n)) ≡ some row
+      → participantStep (presumptionOf (v .transaction .cohort) (suc n)) (suc n) (v .transaction .marked (suc n)) i (v .transaction .participant (suc n)) ≡ some row
       → Carried t (suc n) (row .effects) (viewSettle (withParticipant (suc n) (row .phase))) v w → Inv t h w
   row-kept {row} {w} n i k u d o e c = either n go
     where
       go : (b : Bool) → Moves n w b
       go true q x =
           member-carried i x (heard-given v (suc n) i d o)
-          (subst (WellFormed (v .transaction .cohort) (suc n)) e (step-proper (v .transaction .cohort) (suc n) i (v .transaction .participant (suc n))))
+          (subst (WellFormed (v .transaction .cohort) (suc n)) e (step-proper (v .transaction .cohort) (suc n) (v .transaction .marked (suc n)) i (v .transaction .participant (suc n))))
           settled _ (λ y z r. reach-phase t (suc n) v (row .phase) r) (step-passed x i u e) c
       go false q x = absurd (true≢false (sym (true-of (belongs (v .transaction .cohort) n) k) ∙ q))
 
-  pub discard-kept : (n : ℕ) → Up v (suc n) → newest closes (v .site (suc n) .stable) ≡ true → Inv t h (viewDiscard (suc n) v)
+  pub discard-kept : (n : ℕ) → Up v (suc n) → closed (v .site (suc n) .stable) ≡ true → Inv t h (viewDiscard (suc n) v)
   discard-kept n u c = either n go
     where
       go : (b : Bool) → Moves n (viewDiscard (suc n) v) b
       go true e x = member-after timer x tt (discard-passed x u c) (reach-dropped t n v (from-member x))
-      go false e x = absurd (true≢false (sym c ∙ ap (newest closes) (x .stands .stable) ∙ none-closes))
+      go false e x = absurd (true≢false (sym c ∙ ap closed (x .stands .stable) ∙ none-closes))
 
   pub return-kept : {row : Row ParticipantPhase} {w : View} (n : ℕ) → v .site (suc n) .up ≡ false
       → participantRestart (presumptionOf (v .transaction .cohort) (suc n)) (suc n) (λ k. holds t k (v .site (suc n) .stable)) ≡ row
@@ -222,3 +258,56 @@ module _ (t : ℕ) (h : Standing) (v : View) (inv : Inv t h v) where
           (subst (λ (r : Row ParticipantPhase). AllProper (v .transaction .cohort) (suc n) (r .effects)) e (returned-proper (v .transaction .cohort) (suc n) _))
           woken _ (λ y z r. reach-woken t n v (row .phase) r) (restart-passed x u e) c
       go false q x = stranger-carried x (subst carried (sym e ∙ ap restarted (x .stands .stable) ∙ none-restarts _ (suc n) t) c)
+
+  -- ---- a mark: of one that works
+
+  marked-edge : (n : ℕ) → v .transaction .participant (suc n) ≡ ParticipantPhase.working → T (belongs (v .transaction .cohort) n) → (j : ℕ) (b : Bool) → eqb j n ≡ b
+      → T (belongs (v .transaction .cohort) j)
+      → Fine (presumptionOf (v .transaction .cohort) (suc j)) (b || v .transaction .marked (suc j)) (stageOf h (suc j)) (inv .mid .status j) (sentIn v (suc j)) (v .entered (suc j)) (v .voted (suc j))
+  marked-edge n e m j false q k = inv .mid .fine j k
+  marked-edge n e m j true q k =
+      let f = inv .mid .fine j k in
+      record {
+        shape = f .shape;
+        messages = f .messages;
+        entries = f .entries;
+        counted = f .counted;
+        honest = f .honest;
+        looked = works (inv .mid .status j) phase (sentIn v (suc j) voteYes) (sentIn v (suc j) readOnly) (f .looked);
+      }
+    where
+      phase : phaseOf (inv .mid .status j) ≡ ParticipantPhase.working
+      phase =
+          sym (member-phase (belongs (v .transaction .cohort) j) k (inv .mid .stands j))
+          ∙ ap (λ (i : ℕ). v .transaction .participant (suc i)) (eqb-true j n q) ∙ e
+        where
+          member-phase : (b : Bool) → T b → Place b t j (inv .mid .status j) v → v .transaction .participant (suc j) ≡ phaseOf (inv .mid .status j)
+          member-phase true u x = x .phase
+          member-phase false u x = absurd u
+
+      works : (s : Status) → phaseOf s ≡ ParticipantPhase.working → (y r : Bool) → T (trail s (v .transaction .marked (suc j)) y r) → T (trail s true y r)
+      works s e y r u =
+          subst (λ (z : Status). T (trail z true y r)) (sym (working-status s e)) (mark-at (v .transaction .marked (suc j)) y r (subst (λ (z : Status). T (trail z (v .transaction .marked (suc j)) y r)) (working-status s e) u))
+
+  pub mark-kept : (n : ℕ) → T (member (suc n) (v .transaction .cohort .members)) → v .transaction .participant (suc n) ≡ ParticipantPhase.working
+      → Inv t h (viewSettle (withMarked (suc n)) v)
+  unfolding viewSettle withMarked
+  mark-kept n m e =
+      record {
+        mid =
+            record {
+              sound = inv .mid .sound;
+              log = inv .mid .log;
+              entries = inv .mid .entries;
+              votes = record { looked = inv .mid .votes .looked; said = inv .mid .votes .said };
+              status = inv .mid .status;
+              stands = λ j. place-marked j (belongs (v .transaction .cohort) j) (inv .mid .stands j);
+              fine = λ j k. rw (eqb-suc j n) (marked-edge n e m j (eqb j n) refl k);
+            };
+        phase = inv .phase;
+        whole = inv .whole;
+      }
+    where
+      place-marked : (j : ℕ) (b : Bool) → Place b t j (inv .mid .status j) v → Place b t j (inv .mid .status j) (viewSettle (withMarked (suc n)) v)
+      place-marked j true x = unfold viewSettle withMarked in record { site = x .site; phase = x .phase }
+      place-marked j false x = unfold viewSettle withMarked in record { stable = x .stable; unforced = x .unforced; sent = x .sent; entered = x .entered }

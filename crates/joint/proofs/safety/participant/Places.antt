@@ -1,7 +1,7 @@
 -- From the tests to the invariant: a participant after something happened at it is a member as before, or a stranger, and all else stays.
 use Prim.Native.Nat.{ℕ, zero, suc}
 use mathlib.Core.Path.{_≡_, refl, sym, ap, subst, _∙_, fun-ext}
-use mathlib.Core.Logic.{_≢_}
+use mathlib.Core.Logic.{_≢_, inl, inr, ⊎-elim}
 use mathlib.Core.Bool.{Bool, true, false, _&&_, _||_}
 use mathlib.Core.List.{List, [], map}
 use native.Mathlib.Omega.{arith}
@@ -11,29 +11,29 @@ use borrow.Author.Tests.{eqb-true, eqb-false}
 use Rattle.codec.specs.laws.Tests.{and-left, and-right}
 use Rattle.site.specs.Presumption.{Outcome, Presumption}
 use Rattle.site.specs.Cohort.{Cohort, presumptionOf}
-use Rattle.site.specs.Step.{Message, prepare, voteYes, messageKind, Input, begin, timer, received, Row}
+use Rattle.site.specs.Step.{Message, prepare, voteYes, readOnly, messageKind, Input, begin, timer, received, Row}
 use Rattle.site.specs.Participant.{ParticipantPhase}
 use Rattle.joint.specs.State.{Site, withParticipant}
-use Rattle.joint.proofs.base.Booleans.{_⇒_, mp, or-right, or-both, or-map}
+use Rattle.joint.proofs.base.Booleans.{_⇒_, mp, to-⇒, or-right, or-both, or-map}
 use Rattle.joint.proofs.view.View.{View, viewEffects}
 use Rattle.joint.proofs.view.Turn.{Carried, whole, cutAfter, viewStart}
-use Rattle.joint.proofs.safety.Tables.{Status, isUp, stableKinds, unforcedKinds, Stage, fits, may, mayEnter, Fine}
+use Rattle.joint.proofs.safety.Tables.{Status, isUp, stableKinds, unforcedKinds, Stage, fits, may, mayEnter, trail, Fine}
 use Rattle.joint.proofs.safety.Finite.{allMessage, at-message, allOutcome, at-outcome}
 use Rattle.joint.proofs.safety.Sets.{belongs}
 use Rattle.joint.proofs.base.Lists.{each-take, take-none}
-use Rattle.joint.proofs.safety.Invariant.{Standing, stageOf, siteWith, sentIn, Place, Edge, Here, here, Inv}
+use Rattle.joint.proofs.safety.Invariant.{Standing, stageOf, siteWith, sentIn, Place, Edge, Here, here, PhaseAs, Inv}
 use Rattle.joint.proofs.safety.participant.Rows.{Part, still, ofStatus, heard, lands, rowTest, Landed, landed, row-whole, row-cut}
 use Rattle.joint.proofs.safety.participant.Local.{Local, local, Elsewhere, elsewhere-none, Reached, AllProper, reach-effects, reach-down, reach-woken}
 
 -- ---- what is elsewhere stays as it is
 
-module _ (t : ℕ) (v w : View) (g : w .transaction .cohort ≡ v .transaction .cohort) where
+module _ (t : ℕ) (v w : View) (g : w .transaction .cohort ≡ v .transaction .cohort) (marks : w .transaction .marked ≡ v .transaction .marked) where
   -- what the site tells is fine
-  abbrev FineAt : Presumption → Stage → Status → Local → Type 0
-  FineAt c m s x = Fine c m s (λ k. x .sent (messageKind k)) (x .entered) (x .voted)
+  abbrev FineAt : Presumption → Bool → Stage → Status → Local → Type 0
+  FineAt c k m s x = Fine c k m s (λ j. x .sent (messageKind j)) (x .entered) (x .voted)
 
   edge-same : (m : Stage) (j : ℕ) (s : Status) → local (suc j) w ≡ local (suc j) v → Edge m j s v → Edge m j s w
-  edge-same m j s e x = rw g (subst (FineAt (presumptionOf (v .transaction .cohort) (suc j)) m s) (sym e) x)
+  edge-same m j s e x = rw (g, marks) (subst (FineAt (presumptionOf (v .transaction .cohort) (suc j)) (v .transaction .marked (suc j)) m s) (sym e) x)
 
   place-same : (b : Bool) (j : ℕ) (s : Status) → local (suc j) w ≡ local (suc j) v → Place b t j s v → Place b t j s w
   place-same true j s e x =
@@ -60,11 +60,12 @@ module _ {t : ℕ} {h : Standing} {v w : View} (inv : Inv t h v) (n : ℕ) where
               sound = rw (e .cohort) (inv .mid .sound);
               log = rw (e .cohort) (ap (λ (l : Local). l .site) (e .rest 0 none) ∙ inv .mid .log);
               entries = λ o k. inv .mid .entries o (subst (λ (l : Local). T (l .entered o)) (e .rest 0 none) k);
+              votes = record { looked = λ j u. e .sent (suc j) (messageKind readOnly) (inv .mid .votes .looked j u); said = λ j m u. ⊎-elim inl (λ y. inr (e .sent (suc j) (messageKind voteYes) y)) (inv .mid .votes .said j (subst (λ (g : Cohort). T (belongs g j)) (e .cohort) m) u) };
               status = λ j. all j .status;
               stands = λ j. all j .stands;
               fine = λ j. all j .fine;
             };
-        phase = e .coordinator ∙ inv .phase;
+        phase = subst (PhaseAs h) (sym (e .coordinator)) (inv .phase);
         whole = inv .whole;
       }
     where
@@ -76,7 +77,7 @@ module _ {t : ℕ} {h : Standing} {v w : View} (inv : Inv t h v) (n : ℕ) where
 
       go : (j : ℕ) (b : Bool) → eqb j n ≡ b → Here (belongs (v .transaction .cohort) j) t (stageOf h (suc j)) j w
       go j true q = subst (λ (k : ℕ). Here (belongs (v .transaction .cohort) k) t (stageOf h (suc k)) k w) (sym (eqb-true j n q)) changed
-      go j false q = here-same t v w (e .cohort) (belongs (v .transaction .cohort) j) (stageOf h (suc j)) j (e .rest (suc j) (there j q)) (here (inv .mid) j)
+      go j false q = here-same t v w (e .cohort) (e .marked) (belongs (v .transaction .cohort) j) (stageOf h (suc j)) j (e .rest (suc j) (there j q)) (here (inv .mid) j)
 
       all : (j : ℕ) → Here (belongs (w .transaction .cohort) j) t (stageOf h (suc j)) j w
       all j = subst (λ (g : Cohort). Here (belongs g j) t (stageOf h (suc j)) j w) (sym (e .cohort)) (go j (eqb j n) refl)
@@ -89,23 +90,26 @@ heard-map timer f g k h = tt
 heard-map (received m q) f g k h = k m h
 
 -- what is fine stays so, with what is new
-module _ {c : Presumption} {m : Stage} {i : Input} {s : Status} {y : Part} {sent : Message → Bool} {entered : Outcome → Bool} {voted : Bool} where
-  fine-after : (l : Landed c i s y) → T (heard i sent) → Fine c m s sent entered voted
-      → Fine c m (l .status) (λ g. y .sent g || sent g) (λ o. y .entered o || entered o) (y .voted || voted)
+module _ {c : Presumption} {k : Bool} {m : Stage} {i : Input} {s : Status} {y : Part} {sent : Message → Bool} {entered : Outcome → Bool} {voted : Bool} where
+  fine-after : (l : Landed c k i s y) → T (heard i sent) → Fine c k m s sent entered voted
+      → Fine c k m (l .status) (λ g. y .sent g || sent g) (λ o. y .entered o || entered o) (y .voted || voted)
   fine-after l d f =
       record {
-        shape = subst (λ (b : Bool). T (fits c m z b)) (sym same) (and-left (fits c m z p) ms both);
+        shape = subst (λ (b : Bool). T (fits c m z b r′)) (sym same) (and-left (fits c m z p r′) ms both);
         messages =
-            λ g k. subst (λ (b : Bool). T (may m z b g)) (sym same)
+            λ g u. subst (λ (b : Bool). T (may m z b g)) (sym same)
             (mp (y .sent g || may m s p g) (may m z p g)
-            (at-message message (and-right (fits c m z p) ms both) g)
-            (or-map (y .sent g) (sent g) (may m s p g) (f .messages g) k));
+            (at-message message (and-right (fits c m z p r′) ms both) g)
+            (or-map (y .sent g) (sent g) (may m s p g) (f .messages g) u));
         entries =
-            λ o k. mp (y .entered o || mayEnter m s o) (mayEnter m z o)
-            (at-outcome enters (and-right (fits c m z p && ms) es good) o)
-            (or-map (y .entered o) (entered o) (mayEnter m s o) (f .entries o) k);
-        counted = λ k. or-right (y .sent voteYes) (sent voteYes) (f .counted k);
+            λ o u. mp (y .entered o || mayEnter m s r o) (mayEnter m z r′ o)
+            (at-outcome enters (and-right (fits c m z p r′ && ms) es good) o)
+            (or-map (y .entered o) (entered o) (mayEnter m s r o) (f .entries o) u);
+        counted =
+            λ u.
+            or-both (sent voteYes) r (y .sent voteYes || sent voteYes) r′ (or-right (y .sent voteYes) (sent voteYes)) (or-right (y .sent readOnly) r) (f .counted u);
         honest = or-both (y .sent voteYes) (sent voteYes) (y .voted) voted (l .honest) (f .honest);
+        looked = mp (trail s k (sent voteYes) r) (trail z k (y .sent voteYes || sent voteYes) r′) (l .looked (sent voteYes) r) (f .looked);
       }
     where
       z : Status
@@ -114,6 +118,12 @@ module _ {c : Presumption} {m : Stage} {i : Input} {s : Status} {y : Part} {sent
       p : Bool
       p = sent prepare
 
+      r : Bool
+      r = sent readOnly
+
+      r′ : Bool
+      r′ = y .sent readOnly || r
+
       same : (y .sent prepare || p) ≡ p
       same = ap (λ (b : Bool). b || p) (l .no-prepare)
 
@@ -121,7 +131,7 @@ module _ {c : Presumption} {m : Stage} {i : Input} {s : Status} {y : Part} {sent
       message g = (y .sent g || may m s p g) ⇒ may m z p g
 
       enters : Outcome → Bool
-      enters o = (y .entered o || mayEnter m s o) ⇒ mayEnter m z o
+      enters o = (y .entered o || mayEnter m s r o) ⇒ mayEnter m z r′ o
 
       ms : Bool
       ms = allMessage message
@@ -129,21 +139,22 @@ module _ {c : Presumption} {m : Stage} {i : Input} {s : Status} {y : Part} {sent
       es : Bool
       es = allOutcome enters
 
-      good : T (fits c m z p && ms && es)
+      good : T (fits c m z p r′ && ms && es)
       good =
-          mp (heard i (may m s p)) (fits c m z p && ms && es)
-          (mp (fits c m s p) (heard i (may m s p) ⇒ (fits c m z p && ms && es)) (l .kept m p) (f .shape))
-          (heard-map i sent (may m s p) (f .messages) d)
+          mp (r ⇒ may m s p readOnly) (fits c m z p r′ && ms && es)
+          (mp (heard i (may m s p)) ((r ⇒ may m s p readOnly) ⇒ (fits c m z p r′ && ms && es))
+          (mp (fits c m s p r) (heard i (may m s p) ⇒ (r ⇒ may m s p readOnly) ⇒ (fits c m z p r′ && ms && es)) (l .kept m p r) (f .shape))
+          (heard-map i sent (may m s p) (f .messages) d)) (to-⇒ r (may m s p readOnly) (f .messages readOnly))
 
-      both : T (fits c m z p && ms)
-      both = and-left (fits c m z p && ms) es good
+      both : T (fits c m z p r′ && ms)
+      both = and-left (fits c m z p r′ && ms) es good
 
-fine-same : {c : Presumption} {m : Stage} {s : Status} {sent sent′ : Message → Bool} {entered entered′ : Outcome → Bool} {voted voted′ : Bool}
+fine-same : {c : Presumption} {k : Bool} {m : Stage} {s : Status} {sent sent′ : Message → Bool} {entered entered′ : Outcome → Bool} {voted voted′ : Bool}
     → ((g : Message) → sent′ g ≡ sent g) → ((o : Outcome) → entered′ o ≡ entered o) → voted′ ≡ voted
-    → Fine c m s sent entered voted → Fine c m s sent′ entered′ voted′
-fine-same {c} {m} {s} {sent} {sent′} {entered} {entered′} {voted} {voted′} a b d x =
-    subst (λ (f : Message → Bool). Fine c m s f entered′ voted′) (sym (fun-ext a))
-    (subst (λ (f : Outcome → Bool). Fine c m s sent f voted′) (sym (fun-ext b)) (subst (Fine c m s sent entered) (sym d) x))
+    → Fine c k m s sent entered voted → Fine c k m s sent′ entered′ voted′
+fine-same {c} {k} {m} {s} {sent} {sent′} {entered} {entered′} {voted} {voted′} a b d x =
+    subst (λ (f : Message → Bool). Fine c k m s f entered′ voted′) (sym (fun-ext a))
+    (subst (λ (f : Outcome → Bool). Fine c k m s sent f voted′) (sym (fun-ext b)) (subst (Fine c k m s sent entered) (sym d) x))
 
 module _ {t : ℕ} {m : Stage} {n : ℕ} {v : View} where
   pub from-member : (x : Here true t m n v) → Reached t (suc n) v (ofStatus (x .status)) v
@@ -158,34 +169,34 @@ module _ {t : ℕ} {m : Stage} {n : ℕ} {v : View} where
       }
 
   pub member-after : {w : View} {y : Part} (i : Input) (x : Here true t m n v) → T (heard i (sentIn v (suc n)))
-      → T (lands (presumptionOf (v .transaction .cohort) (suc n)) i (x .status) y) → Reached t (suc n) v y w → Elsewhere (suc n) v w × Here true t m n w
+      → T (lands (presumptionOf (v .transaction .cohort) (suc n)) (v .transaction .marked (suc n)) i (x .status) y) → Reached t (suc n) v y w → Elsewhere (suc n) v w × Here true t m n w
   member-after {w} {y} i x d k r = (
     r .elsewhere,
     record {
       status = l .status;
       stands = record { site = rw (r .elsewhere .cohort) (r .site ∙ at-status); phase = r .phase ∙ l .reached .phase };
-      fine = λ k. rw (r .elsewhere .cohort) (fine-same (r .sent) (r .entered) (r .voted) (fine-after l d (x .fine tt)));
+      fine = λ k. rw (r .elsewhere .cohort, r .elsewhere .marked) (fine-same (r .sent) (r .entered) (r .voted) (fine-after l d (x .fine tt)));
     },
   )
     where
-      l : Landed (presumptionOf (v .transaction .cohort) (suc n)) i (x .status) y
-      l = landed _ i (x .status) y k
+      l : Landed (presumptionOf (v .transaction .cohort) (suc n)) (v .transaction .marked (suc n)) i (x .status) y
+      l = landed _ _ i (x .status) y k
 
-      at-status : siteWith (v .transaction .cohort) t (suc n) (y .up) (y .stable) (y .unforced)
-          ≡ siteWith (v .transaction .cohort) t (suc n) (isUp (l .status)) (stableKinds (l .status)) (unforcedKinds (l .status))
-      at-status = λ a. siteWith (v .transaction .cohort) t (suc n) (l .reached .up a) (l .reached .stable a) (l .reached .unforced a)
+      at-status : siteWith (v .transaction .cohort) 0 t (suc n) (y .up) (y .stable) (y .unforced)
+          ≡ siteWith (v .transaction .cohort) 0 t (suc n) (isUp (l .status)) (stableKinds (l .status)) (unforcedKinds (l .status))
+      at-status = λ a. siteWith (v .transaction .cohort) 0 t (suc n) (l .reached .up a) (l .reached .stable a) (l .reached .unforced a)
 
   -- a row of the member, whole or cut
   pub member-carried : {w : View} {row : Row ParticipantPhase} (i : Input) (x : Here true t m n v) → T (heard i (sentIn v (suc n)))
       → AllProper (v .transaction .cohort) (suc n) (row .effects)
       → (f : ParticipantPhase → Part → Part) (g : View → View)
       → ((y : Part) (u : View) → Reached t (suc n) v y u → Reached t (suc n) v (f (row .phase) y) (g u))
-      → T (rowTest (presumptionOf (v .transaction .cohort) (suc n)) i (x .status) f row)
+      → T (rowTest (presumptionOf (v .transaction .cohort) (suc n)) (v .transaction .marked (suc n)) i (x .status) f row)
       → Carried t (suc n) (row .effects) g v w → Elsewhere (suc n) v w × Here true t m n w
   member-carried {row} i x d h f g reach k whole =
-      member-after i x d (row-whole _ i (x .status) f row k) (reach _ _ (reach-effects t (suc n) v (row .effects) h (from-member x)))
+      member-after i x d (row-whole _ (v .transaction .marked (suc n)) i (x .status) f row k) (reach _ _ (reach-effects t (suc n) v (row .effects) h (from-member x)))
   member-carried {row} i x d h f g reach k (cutAfter a b) =
-      member-after i x d (row-cut _ i (x .status) f row k a b)
+      member-after i x d (row-cut _ (v .transaction .marked (suc n)) i (x .status) f row k a b)
       (reach-down t n v b (reach-effects t (suc n) v (take a (row .effects)) (each-take _ a (row .effects) h) (from-member x)))
 
 -- ---- no member

@@ -13,12 +13,12 @@ use Rattle.codec.specs.laws.Tests.{and-left, and-right, true-of, alike, alike-e
 use Rattle.site.specs.Open.{site-opens}
 use Rattle.site.specs.Presumption.{Outcome, commit, abort, sameOutcome, Presumption}
 use Rattle.site.specs.Cohort.{Cohort}
-use Rattle.site.specs.Step.{Message, prepare, voteYes, messageKind, Input, begin, timer, received, Effect, append, force, enter, send, Row}
+use Rattle.site.specs.Step.{Message, prepare, voteYes, readOnly, messageKind, Input, begin, timer, received, Effect, append, force, enter, send, Row}
 use Rattle.site.specs.Participant.{ParticipantPhase, participantStep, participantRestart}
 use Rattle.site.specs.Numbers.{participantPhase, participantFrom}
-use Rattle.joint.specs.Plan.{closes, newest}
+use Rattle.joint.specs.Plan.{closes, newest, closed}
 use Rattle.joint.proofs.base.Booleans.{_⇒_, mp}
-use Rattle.joint.proofs.safety.Tables.{Status, working, prepared, gone, half, lone, shut, off, offVoted, offShut, isUp, phaseOf, stableKinds, unforcedKinds, has, Stage, fits, may, mayEnter}
+use Rattle.joint.proofs.safety.Tables.{Status, working, prepared, gone, half, lone, shut, off, offVoted, offShut, isUp, phaseOf, stableKinds, unforcedKinds, has, Stage, fits, may, mayEnter, trail}
 use Rattle.joint.proofs.safety.Finite.{allBool, at-bool, allOutcome, allPresumption, at-presumption, allStatus, at-status, allStage, at-stage, allMessage, at-message}
 use Rattle.joint.proofs.safety.Invariant.{recordFor}
 use Rattle.joint.proofs.base.Lists.{any-found}
@@ -130,124 +130,153 @@ heard timer f = true
 heard (received m q) f = f m
 
 -- from status s, upon the input i, it came to y, which is status z: z fits, and what was allowed or is new is allowed
--- m: the coordinator's stage; p: a Prepare was sent
-abbrev pub keeps : Presumption → Input → Status → Part → Status → Stage → Bool → Bool
-keeps c i s y z m p =
-    fits c m s p
+-- m: the coordinator's stage; p: a Prepare was sent; r: a read-only vote was
+abbrev pub keeps : Presumption → Input → Status → Part → Status → Stage → Bool → Bool → Bool
+keeps c i s y z m p r =
+    fits c m s p r
     ⇒ heard i (may m s p)
-    ⇒ (fits c m z p
+    ⇒ (r ⇒ may m s p readOnly)
+    ⇒ (fits c m z p (y .sent readOnly || r)
     && allMessage (λ g. (y .sent g || may m s p g) ⇒ may m z p g)
-    && allOutcome (λ o. (y .entered o || mayEnter m s o) ⇒ mayEnter m z o))
+    && allOutcome (λ o. (y .entered o || mayEnter m s r o) ⇒ mayEnter m z (y .sent readOnly || r) o))
+
+-- its votes go with its mark k: a, r: a Yes, a read-only vote was sent before
+abbrev pub trails : Bool → Status → Part → Status → Bool → Bool → Bool
+trails k s y z a r = trail s k a r ⇒ trail z k (y .sent voteYes || a) (y .sent readOnly || r)
+
+abbrev keepsAll : Presumption → Bool → Input → Status → Part → Status → Bool
+keepsAll c k i s y z =
+    allStage (λ m. allBool (λ p. allBool (keeps c i s y z m p))) && allBool (λ a. allBool (trails k s y z a))
 
 -- y is a status that keeps the tables at every stage; it sent no Prepare, and a Yes only from a stable record
-abbrev pub lands : Presumption → Input → Status → Part → Bool
-lands c i s y =
+abbrev pub lands : Presumption → Bool → Input → Status → Part → Bool
+lands c k i s y =
     not (y .sent prepare)
     && (y .sent voteYes ⇒ y .voted)
-    && any (λ z. isAs z y && allStage (λ m. allBool (λ p. keeps c i s y z m p))) allStatuses
+    && any (λ z. isAs z y && keepsAll c k i s y z) allStatuses
 
 -- the power is cut: any first part of what is unforced is kept
-abbrev cutTest : Presumption → Input → Status → Part → Bool
-cutTest c i s y = allFirst (λ ks. lands c i s (halted ks y)) (y .unforced)
+abbrev cutTest : Presumption → Bool → Input → Status → Part → Bool
+cutTest c k i s y = allFirst (λ ks. lands c k i s (halted ks y)) (y .unforced)
 
 -- a row's effects, all and then f, or some and then a cut
-abbrev pub rowTest : Presumption → Input → Status → (ParticipantPhase → Part → Part) → Row ParticipantPhase → Bool
-rowTest c i s f r =
-    lands c i s (f (r .phase) (effects (r .effects) (ofStatus s)))
-    && allFirst (λ es. cutTest c i s (effects es (ofStatus s))) (r .effects)
+abbrev pub rowTest : Presumption → Bool → Input → Status → (ParticipantPhase → Part → Part) → Row ParticipantPhase → Bool
+rowTest c k i s f r =
+    lands c k i s (f (r .phase) (effects (r .effects) (ofStatus s)))
+    && allFirst (λ es. cutTest c k i s (effects es (ofStatus s))) (r .effects)
 
-cut-at : (c : Presumption) (i : Input) (s : Status) (y : Part) → T (cutTest c i s y) → (b : ℕ) → T (lands c i s (halted (take b (y .unforced)) y))
-cut-at c i s y h b = at-first (λ ks. lands c i s (halted ks y)) (y .unforced) h b
+cut-at : (c : Presumption) (k : Bool) (i : Input) (s : Status) (y : Part) → T (cutTest c k i s y) → (b : ℕ) → T (lands c k i s (halted (take b (y .unforced)) y))
+cut-at c k i s y h b = at-first (λ ks. lands c k i s (halted ks y)) (y .unforced) h b
 
-module _ (c : Presumption) (i : Input) (s : Status) (f : ParticipantPhase → Part → Part) (r : Row ParticipantPhase) (h : T (rowTest c i s f r)) where
+module _ (c : Presumption) (k : Bool) (i : Input) (s : Status) (f : ParticipantPhase → Part → Part) (r : Row ParticipantPhase) (h : T (rowTest c k i s f r)) where
   abbrev after : ℕ → Part
   after a = effects (take a (r .effects)) (ofStatus s)
 
-  pub row-whole : T (lands c i s (f (r .phase) (effects (r .effects) (ofStatus s))))
-  row-whole = and-left (lands c i s (f (r .phase) (effects (r .effects) (ofStatus s)))) _ h
+  pub row-whole : T (lands c k i s (f (r .phase) (effects (r .effects) (ofStatus s))))
+  row-whole = and-left (lands c k i s (f (r .phase) (effects (r .effects) (ofStatus s)))) _ h
 
-  pub row-cut : (a b : ℕ) → T (lands c i s (halted (take b (after a .unforced)) (after a)))
+  pub row-cut : (a b : ℕ) → T (lands c k i s (halted (take b (after a .unforced)) (after a)))
   row-cut a b =
-      cut-at c i s (after a)
-      (at-first (λ es. cutTest c i s (effects es (ofStatus s))) (r .effects)
-      (and-right (lands c i s (f (r .phase) (effects (r .effects) (ofStatus s)))) _ h) a)
+      cut-at c k i s (after a)
+      (at-first (λ es. cutTest c k i s (effects es (ofStatus s))) (r .effects)
+      (and-right (lands c k i s (f (r .phase) (effects (r .effects) (ofStatus s)))) _ h) a)
       b
 
 abbrev pub onRow : (Row ParticipantPhase → Bool) → Option (Row ParticipantPhase) → Bool
 onRow f none = true
 onRow f (some r) = f r
 
+-- what holds of each presumption, mark and status
+abbrev allKinds : (Presumption → Bool → Status → Bool) → Bool
+allKinds f = allPresumption (λ c. allBool (λ k. allStatus (f c k)))
+
+at-kind : (f : Presumption → Bool → Status → Bool) → T (allKinds f) → (c : Presumption) (k : Bool) (s : Status) → T (f c k s)
+at-kind f t c k s = at-status (f c k) (at-bool (λ k. allStatus (f c k)) (at-presumption (λ c. allBool (λ k. allStatus (f c k))) t c) k) s
+
 -- the step of participant p
-abbrev stepTest : Presumption → ℕ → Status → Input → Bool
-stepTest c p s i = isUp s ⇒ onRow (rowTest c i s settled) (participantStep c p i (phaseOf s))
+abbrev stepTest : Presumption → Bool → ℕ → Status → Input → Bool
+stepTest c k p s i = isUp s ⇒ onRow (rowTest c k i s settled) (participantStep c p k i (phaseOf s))
 
-abbrev inputTests : Presumption → ℕ → ℕ → Status → Bool
-inputTests c p q s =
-    stepTest c p s begin && stepTest c p s timer && allMessage (λ m. stepTest c p s (received m q))
+abbrev inputTests : ℕ → ℕ → Presumption → Bool → Status → Bool
+inputTests p q c k s =
+    stepTest c k p s begin && stepTest c k p s timer && allMessage (λ m. stepTest c k p s (received m q))
 
-step-passes : (p q : ℕ) → T (allPresumption (λ c. allStatus (inputTests c p q)))
+step-passes : (p q : ℕ) → T (allKinds (inputTests p q))
 unfolding codec-opens site-opens has
 step-passes p q = tt
 
-pub step-at : (c : Presumption) (p : ℕ) (s : Status) (i : Input) → T (stepTest c p s i)
-step-at c p s i = pick i
+pub step-at : (c : Presumption) (k : Bool) (p : ℕ) (s : Status) (i : Input) → T (stepTest c k p s i)
+step-at c k p s i = pick i
   where
     alone : Bool
-    alone = stepTest c p s begin && stepTest c p s timer
+    alone = stepTest c k p s begin && stepTest c k p s timer
 
     messages : ℕ → Bool
-    messages q = allMessage (λ m. stepTest c p s (received m q))
+    messages q = allMessage (λ m. stepTest c k p s (received m q))
 
     at : (q : ℕ) → T (alone && messages q)
-    at q = at-status (inputTests c p q) (at-presumption (λ c. allStatus (inputTests c p q)) (step-passes p q) c) s
+    at q = at-kind (inputTests p q) (step-passes p q) c k s
 
-    pick : (i : Input) → T (stepTest c p s i)
-    pick begin = and-left (stepTest c p s begin) (stepTest c p s timer) (and-left alone (messages 0) (at 0))
-    pick timer = and-right (stepTest c p s begin) (stepTest c p s timer) (and-left alone (messages 0) (at 0))
-    pick (received m q) = at-message (λ m. stepTest c p s (received m q)) (and-right alone (messages q) (at q)) m
+    pick : (i : Input) → T (stepTest c k p s i)
+    pick begin = and-left (stepTest c k p s begin) (stepTest c k p s timer) (and-left alone (messages 0) (at 0))
+    pick timer = and-right (stepTest c k p s begin) (stepTest c k p s timer) (and-left alone (messages 0) (at 0))
+    pick (received m q) = at-message (λ m. stepTest c k p s (received m q)) (and-right alone (messages q) (at q)) m
 
 -- restart, by the kinds of stable records
-abbrev restartTest : ℕ → Presumption → Status → Bool
-restartTest p c s = not (isUp s) ⇒ rowTest c timer s woken (participantRestart c p (λ k. has k (stableKinds s)))
+abbrev restartTest : ℕ → Presumption → Bool → Status → Bool
+restartTest p c k s = not (isUp s) ⇒ rowTest c k timer s woken (participantRestart c p (λ j. has j (stableKinds s)))
 
-restart-passes : (p : ℕ) → T (allPresumption (λ c. allStatus (restartTest p c)))
+restart-passes : (p : ℕ) → T (allKinds (restartTest p))
 unfolding codec-opens site-opens has
 restart-passes p = tt
 
-pub restart-at : (c : Presumption) (p : ℕ) (s : Status) → T (restartTest p c s)
-restart-at c p s = at-status (restartTest p c) (at-presumption (λ c. allStatus (restartTest p c)) (restart-passes p) c) s
+pub restart-at : (c : Presumption) (k : Bool) (p : ℕ) (s : Status) → T (restartTest p c k s)
+restart-at c k p s = at-kind (restartTest p) (restart-passes p) c k s
 
 -- force, crash, discard
-abbrev forceTest : Presumption → Status → Bool
-forceTest c s = lands c timer s (effect force (ofStatus s))
+abbrev forceTest : Presumption → Bool → Status → Bool
+forceTest c k s = lands c k timer s (effect force (ofStatus s))
 
-force-passes : T (allPresumption (λ c. allStatus (forceTest c)))
+force-passes : T (allKinds forceTest)
 unfolding codec-opens site-opens has
 force-passes = tt
 
-pub force-at : (c : Presumption) (s : Status) → T (forceTest c s)
-force-at c s = at-status (forceTest c) (at-presumption (λ c. allStatus (forceTest c)) force-passes c) s
+pub force-at : (c : Presumption) (k : Bool) (s : Status) → T (forceTest c k s)
+force-at = at-kind forceTest force-passes
 
-abbrev crashTest : Presumption → Status → Bool
-crashTest c s = cutTest c timer s (ofStatus s)
+abbrev crashTest : Presumption → Bool → Status → Bool
+crashTest c k s = cutTest c k timer s (ofStatus s)
 
-crash-passes : T (allPresumption (λ c. allStatus (crashTest c)))
+crash-passes : T (allKinds crashTest)
 unfolding codec-opens site-opens has
 crash-passes = tt
 
-pub crash-at : (c : Presumption) (s : Status) (k : ℕ) → T (lands c timer s (halted (take k (unforcedKinds s)) (ofStatus s)))
-crash-at c s k = cut-at c timer s (ofStatus s) (at-status (crashTest c) (at-presumption (λ c. allStatus (crashTest c)) crash-passes c) s) k
+pub crash-at : (c : Presumption) (k : Bool) (s : Status) (n : ℕ) → T (lands c k timer s (halted (take n (unforcedKinds s)) (ofStatus s)))
+crash-at c k s n = cut-at c k timer s (ofStatus s) (at-kind crashTest crash-passes c k s) n
 
 module _ (g : Cohort) (t p : ℕ) where
-  abbrev discardTest : Presumption → Status → Bool
-  discardTest c s = isUp s ⇒ newest closes (map (recordFor g t p) (stableKinds s)) ⇒ lands c timer s (dropped (ofStatus s))
+  abbrev discardTest : Presumption → Bool → Status → Bool
+  discardTest c k s = isUp s ⇒ closed (map (recordFor g 0 t p) (stableKinds s)) ⇒ lands c k timer s (dropped (ofStatus s))
 
-  discard-passes : T (allPresumption (λ c. allStatus (discardTest c)))
-  unfolding codec-opens site-opens has newest closes
+  discard-passes : T (allKinds discardTest)
+  unfolding codec-opens site-opens has closed newest closes
   discard-passes = tt
 
-  pub discard-at : (c : Presumption) (s : Status) → T (discardTest c s)
-  discard-at c s = at-status (discardTest c) (at-presumption (λ c. allStatus (discardTest c)) discard-passes c) s
+  pub discard-at : (c : Presumption) (k : Bool) (s : Status) → T (discardTest c k s)
+  discard-at = at-kind discardTest discard-passes
+
+-- one that works is marked
+abbrev markTest : Bool → Bool → Bool → Bool
+markTest k y r = trail working k y r ⇒ trail working true y r
+
+mark-passes : T (allBool (λ k. allBool (λ y. allBool (markTest k y))))
+unfolding any has
+mark-passes = tt
+
+pub mark-at : (k y r : Bool) → T (trail working k y r) → T (trail working true y r)
+mark-at k y r =
+    mp (trail working k y r) (trail working true y r)
+    (at-bool (markTest k y) (at-bool (λ y. allBool (markTest k y)) (at-bool (λ k. allBool (λ y. allBool (markTest k y))) mark-passes k) y) r)
 
 -- ---- what a passed test says
 
@@ -294,28 +323,27 @@ is-as s y h =
     h1 = and-left (a && b) d h2
 
 -- the status that the participant comes to
-pub record Landed (c : Presumption) (i : Input) (s : Status) (y : Part) : Type 0 where
+pub record Landed (c : Presumption) (k : Bool) (i : Input) (s : Status) (y : Part) : Type 0 where
   pub status : Status
   pub reached : As status y
   pub no-prepare : y .sent prepare ≡ false
   pub honest : T (y .sent voteYes) → T (y .voted)
-  pub kept : (m : Stage) (p : Bool) → T (keeps c i s y status m p)
+  pub kept : (m : Stage) (p r : Bool) → T (keeps c i s y status m p r)
+  pub looked : (a r : Bool) → T (trails k s y status a r)
 
-pub landed : (c : Presumption) (i : Input) (s : Status) (y : Part) → T (lands c i s y) → Landed c i s y
-landed c i s y h =
+pub landed : (c : Presumption) (k : Bool) (i : Input) (s : Status) (y : Part) → T (lands c k i s y) → Landed c k i s y
+landed c k i s y h =
     record {
       status = z;
-      reached = is-as z y (and-left (isAs z y) (allStage (both z)) (there .1));
+      reached = is-as z y (and-left (isAs z y) (keepsAll c k i s y z) (there .1));
       no-prepare = not-true (y .sent prepare) (true-of _ (and-left (not (y .sent prepare)) honestly first));
       honest = mp (y .sent voteYes) (y .voted) (and-right (not (y .sent prepare)) honestly first);
-      kept = λ m p. at-bool (λ p. keeps c i s y z m p) (at-stage (both z) (and-right (isAs z y) (allStage (both z)) (there .1)) m) p;
+      kept = λ m p r. at-bool (keeps c i s y z m p) (at-bool (λ p. allBool (keeps c i s y z m p)) (at-stage stages (and-left (allStage stages) votes all) m) p) r;
+      looked = λ a r. at-bool (trails k s y z a) (at-bool (λ a. allBool (trails k s y z a)) (and-right (allStage stages) votes all) a) r;
     }
   where
-    both : Status → Stage → Bool
-    both z m = allBool (λ p. keeps c i s y z m p)
-
     comesTo : Status → Bool
-    comesTo z = isAs z y && allStage (both z)
+    comesTo z = isAs z y && keepsAll c k i s y z
 
     honestly : Bool
     honestly = y .sent voteYes ⇒ y .voted
@@ -330,3 +358,12 @@ landed c i s y h =
 
     z : Status
     z = there .0
+
+    stages : Stage → Bool
+    stages m = allBool (λ p. allBool (keeps c i s y z m p))
+
+    votes : Bool
+    votes = allBool (λ a. allBool (trails k s y z a))
+
+    all : T (keepsAll c k i s y z)
+    all = and-right (isAs z y) (keepsAll c k i s y z) (there .1)

@@ -4,18 +4,18 @@ use Rattle.site.specs.Answers.{effectsIn, closing, sending}
 use Rattle.site.specs.Numbers.{appending, entryOf}
 use Rattle.site.specs.Answers.{outcomeIn}
 use Rattle.site.specs.Step.{messages, given}
-use Rattle.site.specs.Coordinator.{acked}
+use Rattle.site.specs.Coordinator.{leaving, acked}
 use Rattle.site.specs.laws.Sets.{ordered-none}
 use Rattle.site.proofs.Rows.{end-appended}
 use Rattle.site.proofs.coordinator.acked.Statement.{statement}
 use Rattle.site.proofs.coordinator.acked.Tie as tie
 
 returns : tie.Need-returns
-unfolding acked empty effectsIn entryOf closing sending messages given
+unfolding leaving acked empty effectsIn entryOf closing sending messages given
 returns c = rw (c .end-record .ensures, c .before .if1 .taken, end-appended (outcomeIn (c .before .before .args .outcome)) 0 0, ordered-none 0)
 
 returns-2 : tie.Need-returns-2
-unfolding acked empty effectsIn appending entryOf closing sending messages given
+unfolding leaving acked empty effectsIn appending entryOf closing sending messages given
 returns-2 c = rw (c .awaiting .ensures, ne-eqb (c .before .before .args .waiting) 0 (c .before .if1 .left), ordered-none 0)
 
 pub acked-spec : {M : Type 1} → statement M

@@ -14,7 +14,7 @@ returns : tie.Need-returns
 unfolding packed refusal noValues isMember
 returns c =
     let s = c .before .before .before .before in
-    let a = argumentsIn (s .args .participant) (s .args .kind) 0 (s .args .participant) (s .args .presumption) (s .args .phase) 0 (s .args .members) (s .args .presume-commit) in
+    let a = argumentsIn (s .args .participant) (s .args .kind) 0 (s .args .participant) (s .args .presumption) (s .args .phase) 0 (s .args .members) (s .args .presume-commit) (s .args .mark) 0 in
     let e : not (isMember a) ≡ true =
     rw (sym (c .before .before .before .presumption .ensures), sym (c .before .number .ensures), sym (c .before .before .member .ensures))
     (c .if1 .taken) in
@@ -24,7 +24,7 @@ returns-2 : tie.Need-returns-2
 unfolding isMember
 returns-2 c =
     let s = c .before .before .before .before .before .before .before in
-    let a = argumentsIn (s .args .participant) (s .args .kind) 0 (s .args .participant) (s .args .presumption) (s .args .phase) 0 (s .args .members) (s .args .presume-commit) in
+    let a = argumentsIn (s .args .participant) (s .args .kind) 0 (s .args .participant) (s .args .presumption) (s .args .phase) 0 (s .args .members) (s .args .presume-commit) (s .args .mark) 0 in
     let f : not (isMember a) ≡ false =
     rw (
       sym (c .before .before .before .before .before .before .presumption .ensures),

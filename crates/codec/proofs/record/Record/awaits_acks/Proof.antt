@@ -1,22 +1,17 @@
-use mathlib.Core.Path.{_≡_, sym, _∙_}
-use mathlib.Core.Bool.{false, not, _||_, and-true}
-use Prim.Native.Nat.{ℕ, suc, _-_, _<_, _≤_}
+use mathlib.Core.Path.{_≡_, sym}
+use mathlib.Core.Bool.{false, not, _||_}
+use Prim.Native.Nat.{ℕ, _-_, _<_, _≤_}
 use native.Mathlib.Omega.{arith}
 use borrow.Author.Tests.{le-ltb, ne-eqb}
 use lib.Dec.{eqb, leb, ltb, eqb→eq, leb→le}
-use Rattle.codec.specs.Sets.{member, empty, minus}
+use Rattle.codec.specs.Sets.{empty, minus}
 use Rattle.codec.specs.Records.{lengths, lengthOf, membersIn, presumeCommitIn, awaitsAcks}
 use Rattle.codec.specs.Answers.{recordIn}
 use Rattle.codec.specs.declared.record.Record.{Record}
 use Rattle.codec.specs.laws.Tests.{below-at}
-use Rattle.codec.specs.laws.Masks.{those-alike, those-members}
-use Rattle.codec.specs.laws.Members.{none-in}
+use Rattle.codec.specs.laws.Remaining.{minus-none}
 use Rattle.codec.proofs.record.Record.awaits_acks.Statement.{statement}
 use Rattle.codec.proofs.record.Record.awaits_acks.Tie as tie
-
-minus-none : (m : ℕ) → m < 256 → minus m 0 ≡ m
-unfolding minus
-minus-none m h = those-alike _ (λ p. member p m) (λ i hi. rw (none-in (suc i)) (and-true (member (suc i) m))) ∙ those-members m h
 
 -- kinds 1 and 2 have two fields, 5 has one, the others have none
 two-fields : (k : ℕ) → 1 ≤ k → k < 3 → lengthOf k ≡ 4

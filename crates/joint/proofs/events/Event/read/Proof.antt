@@ -69,12 +69,16 @@ returns-9 c = let a = at-code (c .before) (c .match .keys7) in (rw (a .is) refl,
 
 returns-10 : tie.Need-returns-10
 unfolding ranges eventIn eventOf cutOf
-returns-10 c =
+returns-10 c = let a = at-code (c .before) (c .match .keys8) in (rw (a .is) refl, a .last-y)
+
+returns-11 : tie.Need-returns-11
+unfolding ranges eventIn stepIn eventOf any
+returns-11 c =
     let code = getD (bytesAt (c .before)) 0 0 in
-    let l : 7 ≤ code = none-below 7 code (c .match .rest) in
-    let u : code ≤ 7 = at-code (c .before) refl .known in
-    let a = at-code (c .before) {code = 7} (omega (arith, l, u)) in
-    (rw (a .is) refl, a .last-y)
+    let l : 8 ≤ code = none-below 8 code (c .match .rest) in
+    let u : code ≤ 8 = at-code (c .before) refl .known in
+    let a = at-code (c .before) {code = 8} (omega (arith, l, u)) in
+    (rw (a .is, a .uncut refl refl) refl, (a .last-x, a .last-y))
 
 pub read-spec : {M : Type 1} → statement M
 read-spec =
@@ -97,4 +101,5 @@ read-spec =
     returns-7
     returns-8
     returns-9
-    returns-10)
+    returns-10
+    returns-11)

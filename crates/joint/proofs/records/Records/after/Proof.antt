@@ -50,7 +50,7 @@ returns-3 : tie.Need-returns-3
 unfolding rowSite
 returns-3 c = λ fits.
     let s = c .before .before .before .before .before .args in
-    let keys : List ℕ = 0 ∷ 1 ∷ 2 ∷ 3 ∷ [] in
+    let keys : List ℕ = 0 ∷ 1 ∷ 2 ∷ 3 ∷ 6 ∷ [] in
     effected (c .before) .1 fits ∙ unchanged keys tt (s .row .then) (c .match .keys3) (undropped keys tt (s .row .then) (c .match .keys3)) (s .transaction) _
 
 pub after-spec : {M : Type 1} → statement M

@@ -3,20 +3,20 @@ use mathlib.Core.Path.{_≡_, refl, sym}
 use mathlib.Core.List.{map}
 use native.Mathlib.Omega.{arith}
 use borrow.Author.Needs.{needs}
-use lib.ListN.{length, take, getD}
+use lib.ListN.{length, take}
 use Rattle.codec.specs.Records.{ofTransaction}
-use Rattle.codec.specs.Answers.{recordIn, noRecord}
-use Rattle.joint.specs.Inside.{oldestAt}
+use Rattle.codec.specs.Answers.{recordIn}
+use Rattle.joint.specs.Inside.{oldestAt, sought}
 use Rattle.joint.proofs.engine.Arrays.{length-shown}
-use Rattle.joint.proofs.engine.Walks.{of-it, of-another, oldest-here, oldest-later}
+use Rattle.joint.proofs.engine.Walks.{oldest-here, oldest-later}
 use Rattle.joint.proofs.records.Records.oldest.Statement.{statement}
 use Rattle.joint.proofs.records.Records.oldest.Tie as tie
 
 abbrev Inv-loop : tie.InvT-loop
-Inv-loop transaction count records i₀ i = (i ≤ count) × ((length records ≡ 24) × (oldestAt (ofTransaction transaction) (take i (map recordIn records)) ≡ i))
+Inv-loop transaction kind count records i₀ i = (i ≤ count) × ((length records ≡ 24) × (oldestAt (sought transaction kind) (take i (map recordIn records)) ≡ i))
 
 abbrev μ-loop : tie.MeasureT-loop
-μ-loop transaction count records i₀ i = count - i
+μ-loop transaction kind count records i₀ i = count - i
 
 loop-holds : tie.Need-loop-holds Inv-loop μ-loop
 unfolding oldestAt
@@ -24,18 +24,18 @@ loop-holds c = let e : length (c .before .args .self .of) ≡ 24 = search length
     (omega arith, (e, refl))
 
 returns : tie.Need-returns Inv-loop μ-loop
-returns c = let w = c .before .before .before .before in
+unfolding sought ofTransaction recordIn
+returns c = let w = c .before .before .before .before .before in
     let s = w .before .before .args in
     let i = w .loop .i in
-    let x = getD (s .self .of) i noRecord in
-    sym (oldest-here (s .self .of) i (suc i) refl (omega arith) (ofTransaction (s .transaction)) (w .loop .inv .1 .1) (s .count) (omega arith) (of-it (s .transaction) x (c .if1 .taken)))
+    sym (oldest-here (s .self .of) i (suc i) refl (omega arith) (sought (s .transaction) (s .kind)) (w .loop .inv .1 .1) (s .count) (omega arith) (c .if1 .taken))
 
 loop-again : tie.Need-loop-again Inv-loop μ-loop
-loop-again c = let w = c .before .before .before .before in
+unfolding sought ofTransaction recordIn
+loop-again c = let w = c .before .before .before .before .before in
     let s = w .before .before .args in
     let i = w .loop .i in
-    let x = getD (s .self .of) i noRecord in
-    (omega arith, (w .loop .inv .1 .0, oldest-later (s .self .of) i (i + 1) (omega arith) (omega arith) (ofTransaction (s .transaction)) (w .loop .inv .1 .1) (of-another (s .transaction) x (c .if1 .left))))
+    (omega arith, (w .loop .inv .1 .0, oldest-later (s .self .of) i (i + 1) (omega arith) (omega arith) (sought (s .transaction) (s .kind)) (w .loop .inv .1 .1) (c .if1 .left)))
 
 returns-2 : tie.Need-returns-2 Inv-loop μ-loop
 returns-2 c = let e : c .before .loop .i ≡ c .before .before .before .args .count = omega arith in

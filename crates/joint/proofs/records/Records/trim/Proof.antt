@@ -11,6 +11,7 @@ use Rattle.joint.specs.Inside.{countOf, oldestAt}
 use Rattle.joint.proofs.engine.Arrays.{length-shown}
 use Rattle.joint.proofs.engine.Sites.{stable-taken, stable-counted}
 use Rattle.joint.proofs.engine.Trims.{Shifted, shift-starts, shift-records, trim-nothing, trim-stands}
+use Rattle.joint.proofs.engine.Walks.{any-kind}
 use Rattle.joint.proofs.records.Records.trim.Statement.{statement}
 use Rattle.joint.proofs.records.Records.trim.Tie as tie
 
@@ -27,7 +28,7 @@ found : (c : tie.After-oldest Inv-loop μ-loop)
 found c =
     let s = c .before .before .args in
     let e : length (s .self .of) ≡ 24 = search length-shown in
-    (e, c .oldest .ensures ∙ ap (oldestAt (ofTransaction (s .transaction))) (rw (c .before .stable-count .ensures) (stable-taken (s .site) (s .self .of) e)))
+    (e, rw (any-kind (s .transaction)) at (c .oldest .ensures) ∙ ap (oldestAt (ofTransaction (s .transaction))) (rw (c .before .stable-count .ensures) (stable-taken (s .site) (s .self .of) e)))
 
 returns : tie.Need-returns Inv-loop μ-loop
 returns c = let s = c .before .before .before .args in

@@ -75,9 +75,14 @@ module _ (c : tie.At-match3-came Inv-loop μ-loop) where
       let p = o .1 .given .1 in
       decided-as v p at-site in-transaction (o .5)
       (o .4 .ensures v (site-read before number _ _ (f .nine) (f .logs) low ∙ ap (runIn before .site) (at-site ∙ ap stepSite p)) (own _ (in-transaction ∙ ap stepTransaction p))))
+      (⊎-elim
       (λ o.
       let p = o .1 .given .1 in
-      decided-as v p at-site in-transaction (o .4) (o .3 .ensures v _ _ (here before f number low _ (at-site ∙ ap stepSite p)))))))
+      decided-as v p at-site in-transaction (o .4) (o .3 .ensures v _ _ (here before f number low _ (at-site ∙ ap stepSite p))))
+      (λ o.
+      let p = o .1 .given .1 in
+      decided-as v p at-site in-transaction (o .4)
+      (o .3 .ensures v (here before f number low _ (at-site ∙ ap stepSite p)) (own _ (in-transaction ∙ ap stepTransaction p))))))))
       (c .match3 .came)
 
 pub logged : (c : tie.After-after2 Inv-loop μ-loop) → length (c .after2 .result .records .of) ≡ 24

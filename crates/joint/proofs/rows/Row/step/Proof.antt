@@ -5,7 +5,7 @@ use Rattle.joint.proofs.rows.Row.step.Statement.{statement}
 use Rattle.joint.proofs.rows.Row.step.Tie as tie
 
 coordinator-step-requires : tie.Need-coordinator-step-requires
-unfolding MayReceive transactionIn
+unfolding MayReceive
 coordinator-step-requires c κs = rw (c .if1 .taken) at (c .before .pre)
 
 returns : tie.Need-returns

@@ -7,8 +7,8 @@ use borrow.Author.Needs.{needs}
 use Rattle.codec.specs.Sets.{member}
 use Rattle.codec.specs.laws.Members.{high-bits, none-in}
 use Rattle.site.specs.Presumption.{Outcome, commit, abort}
-use Rattle.site.specs.Answers.{coordinatorIn, participantIn, cohortIn, hasKind}
-use Rattle.joint.specs.State.{fresh}
+use Rattle.site.specs.Answers.{participantIn, hasKind}
+use Rattle.joint.specs.State.{unknownPart, fresh}
 use Rattle.joint.specs.Answers.{siteFrom, noSite, noRecords, enteredIn, noHeld, transactionIn, noTransaction, runIn}
 use Rattle.joint.specs.declared.sites.Site.{Site}
 use Rattle.joint.specs.declared.records.Records.{Records}
@@ -34,10 +34,11 @@ no-transaction : (t : ℕ) → transactionIn noTransaction ≡ fresh .transactio
 unfolding transactionIn fresh
 no-transaction t =
     λ i. record {
-      cohort = cohortIn (noTransaction .coordinator);
-      coordinator = coordinatorIn (noTransaction .coordinator .phase);
+      cohort = fresh .transaction t .cohort;
+      coordinator = unknownPart;
       participant = λ p. participantIn (all-default 9 p noHeld i .phase);
-      sent = λ p k. (ap (member p) (all-default 7 k 0) ∙ none-in p) i;
+      marked = λ p. no-kind p i;
+      sent = λ p k. (ap (member p) (all-default 8 k 0) ∙ none-in p) i;
       entered = λ s o. nothing-entered s o i;
     }
 

@@ -25,7 +25,7 @@ returns-2 c = λ rs t all.
     let s = f .before .before in
     let r = recordless (s .args .row) (s .pre) in
     f .force-if .ensures rs t all ∙ r .1 t (siteFrom (s .args .self) rs)
-    ∙ unchanged (0 ∷ 1 ∷ 2 ∷ 3 ∷ 4 ∷ []) tt (s .args .row .then) (c .match .keys2) (r .0) t _
+    ∙ unchanged (0 ∷ 1 ∷ 2 ∷ 3 ∷ 4 ∷ 6 ∷ []) tt (s .args .row .then) (c .match .keys2) (r .0) t _
 
 pub settle-spec : {M : Type 1} → statement M
 settle-spec =

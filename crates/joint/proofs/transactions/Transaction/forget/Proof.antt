@@ -1,7 +1,6 @@
-use mathlib.Core.Path.{_≡_, sym, ap, _∙_}
+use mathlib.Core.Path.{sym, ap, _∙_}
 use borrow.Author.Needs.{needs}
-use Rattle.site.specs.Coordinator.{CoordinatorPhase}
-use Rattle.joint.specs.State.{forgotten, withCoordinator}
+use Rattle.joint.specs.State.{unknownPart, forgotten, withCoordinator}
 use Rattle.joint.proofs.engine.Transactions.{forgotten-participant}
 use Rattle.joint.proofs.transactions.Transaction.forget.Statement.{statement}
 use Rattle.joint.proofs.transactions.Transaction.forget.Tie as tie
@@ -10,7 +9,7 @@ returns : tie.Need-returns
 unfolding forgotten
 returns c =
     rw (c .before .if1 .taken)
-    (c .with-coordinator .ensures ∙ ap (withCoordinator 0 CoordinatorPhase.unknown) (rw (c .before .if1 .taken) at (c .before .before .with-participant .ensures)))
+    (c .with-coordinator .ensures ∙ ap (withCoordinator 0 unknownPart) (rw (c .before .if1 .taken) at (c .before .before .with-participant .ensures)))
 
 returns-2 : tie.Need-returns-2
 returns-2 c =

@@ -17,8 +17,8 @@ returns : tie.Need-returns
 returns c =
     λ s owing.
     let a = c .before .before .before .args in
-    let n : length (a .t1 .sent) ≡ 7 = search needs in
-    let k : a .kind ≤ 6 = is-kind (a .to) (a .kind) (c .before .before .if1 .taken) in
+    let n : length (a .t1 .sent) ≡ 8 = search needs in
+    let k : a .kind ≤ 7 = is-kind (a .to) (a .kind) (c .before .before .if1 .taken) in
     sent-all (a .t1) (a .kind) owing (a .to) (c .with-all .result) k (omega arith) (omega arith) (c .with-all .ensures) s
 
 returns-2 : tie.Need-returns-2

@@ -12,7 +12,7 @@ returns : tie.Need-returns
 unfolding transactionIn
 returns c =
     let a = c .before .args in
-    let n : length (a .t1 .sent) ≡ 7 = search needs in
+    let n : length (a .t1 .sent) ≡ 8 = search needs in
     rw (getD-past (a .t1 .sent) (a .kind) 0 (omega arith)) (sym (none-in (a .participant)))
 
 returns-2 : tie.Need-returns-2

@@ -26,7 +26,11 @@ unfolding thenTransaction
 returns-5 c = rw (c .before .before .then4 .given .1, c .if1 .left) refl
 
 returns-6 : tie.Need-returns-6
-returns-6 c = kept-transaction _ (c .before .args .then) _ (c .match .keys5)
+unfolding thenTransaction
+returns-6 c = rw (c .before .enum-told .given .1) (c .with-marked .ensures)
+
+returns-7 : tie.Need-returns-7
+returns-7 c = kept-transaction _ (c .before .args .then) _ (c .match .keys6)
 
 pub settle-spec : {M : Type 1} → statement M
 settle-spec =
@@ -41,8 +45,11 @@ settle-spec =
     (λ c. search needs)
     (λ c κs. search needs)
     returns
+    (λ c. search needs)
+    (λ c κs. search needs)
     returns-2
     returns-3
     returns-4
     returns-5
-    returns-6)
+    returns-6
+    returns-7)

@@ -1,6 +1,6 @@
 use Rattle.site.specs.Presumption.{sameOutcome}
 use Rattle.site.specs.Step.{answered}
-use Rattle.site.specs.Coordinator.{onAck, ackedIf}
+use Rattle.site.specs.Coordinator.{leavingIf, onAck, ackedIf}
 use Rattle.site.proofs.NoRow.{no-commit-ack, no-abort-ack}
 use borrow.Author.Needs.{needs}
 use Rattle.site.proofs.coordinator.Coordinator.on_ack.Statement.{statement}
@@ -10,7 +10,7 @@ enum-told : tie.Need-enum-told
 enum-told c = search needs
 
 returns : tie.Need-returns
-unfolding answered onAck ackedIf sameOutcome
+unfolding answered leavingIf onAck ackedIf sameOutcome
 returns c =
     rw (
       c .acked .ensures,
@@ -20,7 +20,7 @@ returns c =
     )
 
 returns-2 : tie.Need-returns-2
-unfolding answered
+unfolding answered leavingIf
 returns-2 c =
     rw (
       c .before .enum-told .given .1,
@@ -28,7 +28,7 @@ returns-2 c =
     )
 
 returns-3 : tie.Need-returns-3
-unfolding answered onAck ackedIf sameOutcome
+unfolding answered leavingIf onAck ackedIf sameOutcome
 returns-3 c =
     rw (
       c .acked2 .ensures,
@@ -38,7 +38,7 @@ returns-3 c =
     )
 
 returns-4 : tie.Need-returns-4
-unfolding answered
+unfolding answered leavingIf
 returns-4 c =
     rw (
       c .before .enum-told2 .given .1,

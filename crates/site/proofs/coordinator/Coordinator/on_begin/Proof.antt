@@ -1,5 +1,5 @@
 use Rattle.site.specs.Step.{answered}
-use Rattle.site.specs.Coordinator.{onBegin}
+use Rattle.site.specs.Coordinator.{leavingIf, onBegin}
 use Rattle.site.specs.Answers.{cohortIn}
 use Rattle.site.proofs.NoRow.{no-begin}
 use borrow.Author.Needs.{needs}
@@ -10,11 +10,11 @@ enum-told : tie.Need-enum-told
 enum-told c = search needs
 
 returns : tie.Need-returns
-unfolding answered onBegin
+unfolding answered leavingIf onBegin
 returns c = rw (c .preparing .ensures, c .before .enum-told .given .1)
 
 returns-2 : tie.Need-returns-2
-unfolding answered
+unfolding answered leavingIf
 returns-2 c = rw (no-begin (cohortIn (c .before .args .self)) (c .before .args .self .phase) (c .match .keys2))
 
 pub on-begin-spec : {M : Type 1} → statement M

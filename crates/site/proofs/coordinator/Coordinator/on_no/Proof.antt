@@ -1,5 +1,7 @@
+use mathlib.Core.Path.{sym, _∙_}
+use Rattle.codec.specs.Lists.{onlyIf}
 use Rattle.site.specs.Step.{answered}
-use Rattle.site.specs.Coordinator.{onNo}
+use Rattle.site.specs.Coordinator.{onNo, leavingIf}
 use Rattle.site.specs.Answers.{cohortIn}
 use Rattle.site.proofs.NoRow.{no-no}
 use borrow.Author.Needs.{needs}
@@ -10,12 +12,40 @@ enum-told : tie.Need-enum-told
 enum-told c = search needs
 
 returns : tie.Need-returns
-unfolding answered onNo
-returns c = rw (c .aborting .ensures, c .before .without .ensures, c .before .before .enum-told .given .1)
+unfolding answered leavingIf onNo onlyIf
+returns c = rw (c .before .before .enum-told .given .1, sym (c .before .member .ensures) ∙ c .if1 .taken)
 
 returns-2 : tie.Need-returns-2
-unfolding answered
-returns-2 c = rw (no-no (cohortIn (c .before .args .self)) (c .before .args .participant) (c .before .args .self .phase) (c .match .keys2))
+unfolding answered leavingIf onNo onlyIf
+returns-2 c =
+    let r = c .before .before .before .remaining .ensures in
+    let d = c .before .before .before .before in
+    rw (
+      c .aborting .ensures,
+      c .before .writes-init .ensures,
+      c .before .before .without .ensures,
+      d .before .before .enum-told .given .1,
+      sym (d .before .member .ensures) ∙ d .if1 .left,
+      sym (r .0),
+      sym (r .1),
+    )
+
+returns-3 : tie.Need-returns-3
+unfolding answered leavingIf
+returns-3 c =
+    let s = c .before .args in
+    rw (no-no (cohortIn (s .self)) (s .self .«taken_out») (s .participant) (s .self .phase) (c .match .keys2))
 
 pub on-no-spec : {M : Type 1} → statement M
-on-no-spec = tie.close (tie.spec enum-told (λ c κs. tt) (λ c κs. tt) returns returns-2)
+on-no-spec =
+    tie.close
+    (tie.spec
+    enum-told
+    (λ c κs. tt)
+    returns
+    (λ c κs. tt)
+    (λ c κs. tt)
+    (λ c κs. tt)
+    (λ c κs. tt)
+    returns-2
+    returns-3)

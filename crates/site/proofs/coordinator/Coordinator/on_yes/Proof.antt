@@ -1,7 +1,9 @@
+use mathlib.Core.Path.{sym, _∙_}
 use native.Mathlib.Omega.{arith}
+use Rattle.codec.specs.Lists.{onlyIf}
 use Rattle.site.specs.Presumption.{commit, abort}
 use Rattle.site.specs.Step.{answered}
-use Rattle.site.specs.Coordinator.{telling, onYes}
+use Rattle.site.specs.Coordinator.{telling, onYes, leavingIf}
 use Rattle.site.specs.Answers.{cohortIn, outcomeIn}
 use Rattle.site.proofs.Sent.{member-numbered}
 use Rattle.site.proofs.Rows.{tell-one}
@@ -13,16 +15,22 @@ enum-told : tie.Need-enum-told
 enum-told c = search needs
 
 returns : tie.Need-returns
-unfolding answered onYes
-returns c = rw (c .enum-told .given .1)
+unfolding answered leavingIf onYes onlyIf
+returns c = rw (c .before .before .before .phase .given .1, sym (c .before .member .ensures) ∙ c .if1 .taken)
 
 returns-2 : tie.Need-returns-2
-unfolding answered onYes
-returns-2 c = rw (c .voted .ensures, c .before .without .ensures, c .before .before .before .phase .given .1)
+unfolding answered leavingIf onYes
+returns-2 c = rw (c .enum-told .given .1)
 
 returns-3 : tie.Need-returns-3
-unfolding answered onYes telling
+unfolding answered leavingIf onYes onlyIf
 returns-3 c =
+    let d = c .before .before in
+    rw (c .counting .ensures, c .before .without .ensures, d .before .before .before .phase .given .1, sym (d .before .member .ensures) ∙ d .if1 .left)
+
+returns-4 : tie.Need-returns-4
+unfolding answered leavingIf onYes telling
+returns-4 c =
     let s = c .before .before .before .before in
     let h = member-numbered (s .args .participant) (s .args .self .members) (omega arith) (s .pre) in
     rw (
@@ -32,9 +40,9 @@ returns-3 c =
       c .before .before .enum-told2 .given .1,
     )
 
-returns-4 : tie.Need-returns-4
-unfolding answered onYes telling
-returns-4 c =
+returns-5 : tie.Need-returns-5
+unfolding answered leavingIf onYes telling
+returns-5 c =
     let s = c .before .before .before .before in
     let h = member-numbered (s .args .participant) (s .args .self .members) (omega arith) (s .pre) in
     rw (
@@ -44,9 +52,9 @@ returns-4 c =
       c .before .before .enum-told3 .given .1,
     )
 
-returns-5 : tie.Need-returns-5
-unfolding answered onYes telling
-returns-5 c =
+returns-6 : tie.Need-returns-6
+unfolding answered leavingIf onYes telling
+returns-6 c =
     let s = c .before .before .before .before .before .before in
     let h = member-numbered (s .args .participant) (s .args .self .members) (omega arith) (s .pre) in
     let o = outcomeIn (c .before .before .silence .result) in
@@ -66,20 +74,22 @@ on-yes-spec =
     enum-told
     (λ c. search needs)
     (λ c κs. tt)
-    (λ c κs. tt)
-    (λ c. search needs)
-    (λ c κs. tt)
-    (λ c κs. tt)
-    (λ c. search needs)
-    (λ c κs. tt)
-    (λ c κs. tt)
-    (λ c. search needs)
-    (λ c κs. tt)
-    (λ c κs. tt)
-    (λ c κs. tt)
-    (λ c κs. tt)
     returns
+    (λ c κs. tt)
+    (λ c κs. tt)
+    (λ c. search needs)
+    (λ c κs. tt)
+    (λ c κs. tt)
+    (λ c. search needs)
+    (λ c κs. tt)
+    (λ c κs. tt)
+    (λ c. search needs)
+    (λ c κs. tt)
+    (λ c κs. tt)
+    (λ c κs. tt)
+    (λ c κs. tt)
     returns-2
     returns-3
     returns-4
-    returns-5)
+    returns-5
+    returns-6)

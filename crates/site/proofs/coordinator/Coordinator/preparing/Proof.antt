@@ -4,17 +4,17 @@ use Rattle.site.specs.Numbers.{appending, entryOf}
 use Rattle.codec.specs.Records.{lengths, lengthOf}
 use Rattle.site.specs.Step.{messages, given}
 use Rattle.site.specs.Cohort.{masksOf}
-use Rattle.site.specs.Coordinator.{preparing}
+use Rattle.site.specs.Coordinator.{leaving, preparing}
 use Rattle.site.proofs.Sent.{ordered-by-turn}
 use Rattle.site.proofs.coordinator.Coordinator.preparing.Statement.{statement}
 use Rattle.site.proofs.coordinator.Coordinator.preparing.Tie as tie
 
 returns : tie.Need-returns
-unfolding preparing masksOf effectsIn appending entryOf closing sending lengths lengthOf messages given
+unfolding leaving preparing masksOf effectsIn appending entryOf closing sending lengths lengthOf messages given
 returns c = rw (c .if1 .taken, sym (c .before .writes-init .ensures) ∙ c .if1 .taken, ordered-by-turn (c .before .before .args .self .members))
 
 returns-2 : tie.Need-returns-2
-unfolding preparing masksOf effectsIn appending entryOf closing sending lengths lengthOf messages given
+unfolding leaving preparing masksOf effectsIn appending entryOf closing sending lengths lengthOf messages given
 returns-2 c = rw (c .if1 .left, sym (c .before .writes-init .ensures) ∙ c .if1 .left, ordered-by-turn (c .before .before .args .self .members))
 
 pub preparing-spec : {M : Type 1} → statement M

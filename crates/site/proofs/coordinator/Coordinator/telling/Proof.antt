@@ -2,13 +2,13 @@ use Rattle.site.specs.Answers.{effectsIn, closing}
 use Rattle.site.specs.Numbers.{appending, entryOf}
 use Rattle.site.specs.Answers.{outcomeIn}
 use Rattle.site.specs.Step.{tell, given}
-use Rattle.site.specs.Coordinator.{tellAll, inOrder}
+use Rattle.site.specs.Coordinator.{leaving, tellAll, inOrder}
 use Rattle.site.proofs.Sent.{sending-kind}
 use Rattle.site.proofs.coordinator.Coordinator.telling.Statement.{statement}
 use Rattle.site.proofs.coordinator.Coordinator.telling.Tie as tie
 
 returns : tie.Need-returns
-unfolding effectsIn appending entryOf closing given tellAll inOrder
+unfolding leaving effectsIn appending entryOf closing given tellAll inOrder
 returns c = rw (c .before .message .ensures, c .owing .ensures, sending-kind (tell (outcomeIn (c .before .before .args .outcome))))
 
 pub telling-spec : {M : Type 1} → statement M

@@ -1,41 +1,31 @@
+use Prim.Native.Nat.{_<_}
+use mathlib.Core.Path.{_∙_}
 use mathlib.Core.Logic.{inl, inr, ⊎-elim}
 use native.Mathlib.Omega.{arith}
-use lib.Dec.{eqb, leb}
-use Rattle.site.proofs.Summed.{chosen, sent, summed}
+use Rattle.site.proofs.Summed.{summed, looked-last}
 use Rattle.site.proofs.effects.Effects.summary.Statement.{statement}
 use Rattle.site.proofs.effects.Effects.summary.Tie as tie
 
+-- the set is a byte
+byte : (d : tie.After-struct-known) → d .before .args .self .to < 256
+byte d = omega arith
+
 returns : tie.Need-returns
 returns c =
-    let e = c .before .before .before .before .before .args .self in
-    let a = c .before .before .before .before .if1 in
-    let f = c .before .before .before .if2 in
-    let n = c .before .before .if3 in
-    let m = c .before .if4 in
+    let d = c .before .before .before .before .before in
+    let j = d .before in
+    let s = j .before .before .before in
+    let e = s .before .args .self in
+    let l = looked-last e (j .if1 .alone) (⊎-elim (λ h. inl (h .0 .taken, h .1)) (λ h. inr (h .4)) (j .if1 .came)) in
     rw (
-      summed e (omega arith),
-      chosen (eqb (e .appended) 0) (e .last) (e .appended) (a .t14) (⊎-elim (λ h. inl (h .0 .taken, h .1)) (λ h. inr (h .0 .left, h .1)) (a .came)),
-      chosen (e .forced) 1 0 (f .t17) (⊎-elim (λ h. inl (h .0 .taken, h .1)) (λ h. inr (h .0 .left, h .1)) (f .came)),
-      chosen (leb (e .entered) 2) (e .entered) 0 (n .t20) (⊎-elim (λ h. inl (h .0 .taken, h .1)) (λ h. inr (h .0 .left, h .1)) (n .came)),
-      chosen (sent (e .message) (e .to)) (e .message) 0 (m .t23) (⊎-elim (λ h. inl (h .0 .taken, h .1)) (λ h. inr (h .0 .left, h .1)) (m .came)),
-      c .if5 .taken,
-    )
-
-returns-2 : tie.Need-returns-2
-returns-2 c =
-    let e = c .before .before .before .before .before .args .self in
-    let a = c .before .before .before .before .if1 in
-    let f = c .before .before .before .if2 in
-    let n = c .before .before .if3 in
-    let m = c .before .if4 in
-    rw (
-      summed e (omega arith),
-      chosen (eqb (e .appended) 0) (e .last) (e .appended) (a .t14) (⊎-elim (λ h. inl (h .0 .taken, h .1)) (λ h. inr (h .0 .left, h .1)) (a .came)),
-      chosen (e .forced) 1 0 (f .t17) (⊎-elim (λ h. inl (h .0 .taken, h .1)) (λ h. inr (h .0 .left, h .1)) (f .came)),
-      chosen (leb (e .entered) 2) (e .entered) 0 (n .t20) (⊎-elim (λ h. inl (h .0 .taken, h .1)) (λ h. inr (h .0 .left, h .1)) (n .came)),
-      chosen (sent (e .message) (e .to)) (e .message) 0 (m .t23) (⊎-elim (λ h. inl (h .0 .taken, h .1)) (λ h. inr (h .0 .left, h .1)) (m .came)),
-      c .if5 .left,
+      summed e (byte s),
+      d .pick .ensures ∙ l .0,
+      c .before .before .before .before .pick2 .ensures ∙ l .1,
+      c .before .before .before .one-if .ensures .0,
+      c .before .before .pick3 .ensures,
+      c .before .pick4 .ensures,
+      c .pick5 .ensures,
     )
 
 pub summary-spec : {M : Type 1} → statement M
-summary-spec = tie.close (tie.spec returns returns-2)
+summary-spec = tie.close (tie.spec (λ c κs. tt) (λ c κs. tt) (λ c κs. tt) (λ c κs. tt) (λ c κs. tt) (λ c κs. tt) returns)

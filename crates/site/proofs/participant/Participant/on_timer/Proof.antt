@@ -1,3 +1,4 @@
+use native.Mathlib.Omega.{arith}
 use Rattle.site.specs.Answers.{effectsIn, closing, sending}
 use Rattle.site.specs.Numbers.{appending, entryOf}
 use Rattle.site.specs.Step.{messages, given, answered}
@@ -17,7 +18,7 @@ unfolding answered participantTimer effectsIn appending entryOf closing sending 
 returns c = rw (c .enum-told .given .1, ordered-none 0)
 
 returns-2 : tie.Need-returns-2
-unfolding answered participantTimer
+unfolding answered participantTimer messages
 returns-2 c = rw (c .voting .ensures, c .before .enum-told2 .given .1)
 
 returns-3 : tie.Need-returns-3
@@ -26,4 +27,4 @@ returns-3 c = rw (no-own-timer (presumptionIn (c .before .args .self .presumptio
 
 pub on-timer-spec : {M : Type 1} → statement M
 on-timer-spec =
-    tie.close (tie.spec enum-told (λ c. search needs) (λ c κs. search needs) returns returns-2 returns-3)
+    tie.close (tie.spec enum-told (λ c. search needs) (λ c κs. (c .before .before .pre, omega arith)) returns returns-2 returns-3)

@@ -38,10 +38,11 @@ returns-3 c =
     )
 
 voting-requires : tie.Need-voting-requires
-voting-requires c κs = numbered (c .before .before .before .before .before .before .before .args .self .number) (c .before .before .before .before .before .before .if1 .left)
+voting-requires c κs =
+    (numbered (c .before .before .before .before .before .before .before .args .self .number) (c .before .before .before .before .before .before .if1 .left), omega arith)
 
 returns-4 : tie.Need-returns-4
-unfolding participantRestart restartWith
+unfolding participantRestart restartWith messages
 returns-4 c =
     let s = c .before .before .before .before .before .before .before .before in
     rw (

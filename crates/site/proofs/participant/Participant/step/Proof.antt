@@ -22,8 +22,8 @@ in-range d = numbered (d .before .args .self .number) (d .if1 .left)
 -- a kind k that is received, behind the test
 takes : (d : tie.Else1) (k : ℕ) → d .before .args .kind ≡ k → receives 1 k ≡ true
     → let s = d .before .args in
-    answered (participantStep (presumptionIn (s .self .presumption)) (s .self .number) (inputOf k (s .self .number)) (participantIn (s .self .phase)))
-    ≡ participantAnswer (presumptionIn (s .self .presumption)) (s .self .number) (s .kind) (participantIn (s .self .phase))
+    answered (participantStep (presumptionIn (s .self .presumption)) (s .self .number) (s .self .marked) (inputOf k (s .self .number)) (participantIn (s .self .phase)))
+    ≡ participantAnswer (presumptionIn (s .self .presumption)) (s .self .number) (s .self .marked) (s .kind) (participantIn (s .self .phase))
 takes d k =
     let s = d .before .args in
     participant-takes (s .self) (omega arith) (s .kind) k (d .if1 .left)
