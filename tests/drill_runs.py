@@ -76,7 +76,7 @@ def raw(text):
 def events(count, seed):
     """Events of which most are well formed, so that a long list gets far."""
     rng = random.Random(seed)
-    codes = [0, 1, 1, 2, 2, 2, 2, 2, 2, 3, 4, 5, 5, 6, 7, 7, 255]
+    codes = [0, 1, 1, 2, 2, 2, 2, 2, 2, 3, 4, 5, 5, 6, 7, 7, 8, 255]
     out = bytearray()
     for _ in range(count):
         code, x, y, z = rng.choice(codes), rng.randrange(8), 0, 0
@@ -84,11 +84,13 @@ def events(count, seed):
             y = rng.choice([1, 3, 7, 255])
             z = y & rng.randrange(256)
         elif code == 2:
-            y, z = rng.randrange(1, 4), rng.randrange(7)
+            y, z = rng.randrange(1, 4), rng.randrange(8)
         elif code in (3, 5):
             y = rng.randrange(4)
         elif code in (4, 6, 7):
             x, y = 0, rng.randrange(4)
+        elif code == 8:
+            y = rng.randrange(1, 4)
         cut = rng.randrange(4) if code in (1, 2, 3) and rng.random() < 0.05 else 255
         out += bytes([code, x, y, z, cut, 0])
     return bytes(out)

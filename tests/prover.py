@@ -11,6 +11,7 @@ CRATES = {
 # the types and constructors that the equations' support names
 TYPES = {
     "Image": ["Reading", "accepted", "refused", "Written"],
+    "Records": ["LogRecord"],
     "Presumption": ["Outcome", "commit", "abort"],
     "Coordinator": ["CoordinatorPhase", "initial", "collecting", "awaitingAcks"],
     "State": ["Run"],
@@ -125,11 +126,14 @@ def used(path, found):
     return found
 
 
-def proof_refused(proof, edit=None, out=OUT):
-    """What the prover refuses in a file of joint's proofs/ and in those that it uses, over the definitions and no program:
+def proof_refused(proofs, edit=None, out=OUT):
+    """What the prover refuses in files of joint's proofs/ and in those that they use, over the definitions and no program:
     (file and declaration, whether it is refused for itself and not for one that it uses), in the prover's order."""
     definitions(out, edit)
-    for path in used(f"crates/joint/proofs/{proof}", []):
+    found = []
+    for proof in proofs:
+        used(f"crates/joint/proofs/{proof}", found)
+    for path in found:
         if path.startswith("crates/joint/proofs/") or "/laws/" in path:
             put(out, path, source(path))
     proved, printed = check(out, list(CRATES))

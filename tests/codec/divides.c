@@ -12,6 +12,13 @@ static void put(uint8_t parts[3], unsigned transaction, unsigned participant, un
 
 void steps(uint16_t number, uint8_t parts[3]) {
   unsigned rest = number, transaction = 0, participant = 1;
+  if (448 <= rest) {
+    rest -= 448;
+    for (int i = 0; i < 7; i++)
+      if (8 <= rest) rest -= 8, transaction++;
+    put(parts, transaction, rest + 1, 7);
+    return;
+  }
   for (int i = 0; i < 7; i++)
     if (56 <= rest) rest -= 56, transaction++;
   for (int i = 0; i < 7; i++)
@@ -23,6 +30,9 @@ void steps(uint16_t number, uint8_t parts[3]) {
 void divides_by_constants(uint16_t number, uint8_t parts[3]) {
   put(parts, number / 56, number % 56 / 7 + 1, number % 7);
 }
+
+/* what 448 and above would be, for the compiler a shift */
+void divides_by_eight(uint16_t number, uint8_t parts[3]) { put(parts, (number - 448u) / 8, number % 8 + 1, 7); }
 
 void divides_by_a_variable(uint16_t number, unsigned step, uint8_t parts[3]) {
   put(parts, number / step, 1, number % step);

@@ -140,6 +140,27 @@ static void bad_records(void) {
   }
 }
 
+/* Init of boxes 1, 2 and 3, of which 1 presumes commit; a Commit of some of them; and CommitEnd. */
+static void remaining(const char *name, unsigned answer, unsigned index, uint8_t members, uint8_t presume_commit) {
+  struct log log = {0};
+  uint8_t image[LARGEST];
+  add(&log, (const uint8_t[]){DPR_RECORD_INIT, 4, 7, 1}, 4);
+  add(&log, (const uint8_t[]){DPR_RECORD_COMMIT, 4, members, presume_commit}, 4);
+  add(&log, (const uint8_t[]){DPR_RECORD_COMMIT_END, 4}, 2);
+  check(name, answer, index, image, image_of(&log, image));
+}
+
+static void some_taken_out(void) {
+  remaining("all remain", DPR_ACCEPTED, 3, 7, 1);
+  remaining("PrC and PrA remain", DPR_ACCEPTED, 3, 5, 1);
+  remaining("PrA remains", DPR_ACCEPTED, 3, 4, 0);
+  remaining("PrC remains, and needs no end", DPR_REFUSED_SEQUENCE, 2, 1, 1);
+  remaining("a box more", DPR_REFUSED_SEQUENCE, 1, 15, 1);
+  remaining("another presumption", DPR_REFUSED_SEQUENCE, 1, 5, 0);
+  remaining("another presumption", DPR_REFUSED_SEQUENCE, 1, 6, 2);
+  remaining("nobody remains", DPR_REFUSED_FIELD, 1, 0, 0);
+}
+
 static void largest(void) {
   struct log hub = {0}, box = {.site = 8};
   uint8_t image[LARGEST];
@@ -203,6 +224,7 @@ int main(void) {
     COPY("empty log at offset 1 of 8", DPR_ACCEPTED, 8, 1, 0x4C, site, 0);
   }
   bad_records();
+  some_taken_out();
   largest();
 
   message(DPR_ACCEPTED, 0, 0, 1, 0);
@@ -210,9 +232,12 @@ int main(void) {
   message(DPR_ACCEPTED, 7, 0, 2, 0);
   message(DPR_ACCEPTED, 56, 1, 1, 0);
   message(DPR_ACCEPTED, 56 * 5 + 7 * (3 - 1) + 4, 5, 3, 4);
-  message(DPR_ACCEPTED, DPR_MESSAGES - 1, 7, 8, 6);
+  message(DPR_ACCEPTED, 447, 7, 8, DPR_ABORT_ACK);
+  message(DPR_ACCEPTED, 0x01C0, 0, 1, DPR_READ_ONLY); /* 01's example of 26, before Job 3 */
+  message(DPR_ACCEPTED, 448 + 8 * 5 + (3 - 1), 5, 3, DPR_READ_ONLY);
+  message(DPR_ACCEPTED, DPR_MESSAGES - 1, 7, 8, DPR_READ_ONLY);
   message(DPR_REFUSED_MESSAGE, DPR_MESSAGES, 0xEE, 0xEE, 0xEE);
-  message(DPR_REFUSED_MESSAGE, 0x01C0, 0xEE, 0xEE, 0xEE);
+  message(DPR_REFUSED_MESSAGE, 0x0200, 0xEE, 0xEE, 0xEE);
   message(DPR_REFUSED_MESSAGE, 65535, 0xEE, 0xEE, 0xEE);
 
   printf("firmware in C: %u checks, ok\n", checks);

@@ -1,5 +1,5 @@
-/* dpr_drill as a C firmware calls it: K1 to K9 of document 01, the examples of its table of refusals, and buffers of every
- * length around the text's. The whole text and all the memory around is compared; the first difference ends the program. */
+/* dpr_drill as a C firmware calls it: K1 to K9 of document 01, boxes that only looked, the examples of 01's table of refusals,
+ * and buffers of every length around the text's. The whole text and all the memory around is compared; the first difference ends the program. */
 #include "dpr.h"
 
 #include <stdio.h>
@@ -57,6 +57,7 @@ static void drills(const char *name, const char *wanted, const uint8_t *events, 
 #define DISCARD(site) 5, 0, site, 0, NONE
 #define CRASH(site) 6, 0, site, 0, NONE
 #define RESTART(site) 7, 0, site, 0, NONE
+#define MARK(box) 8, 0, box, 0, NONE
 
 /* K1's first three events, all of it, and K2 */
 #define VOTED OPEN(0, 1, 1), BEGIN(0), DELIVER(1, DPR_PREPARE)
@@ -82,9 +83,25 @@ static void examples(void) {
   DRILL("K9", "1 0 0 0 0\n2 1 0 0 0\n3 1 0 0 0\nHANDOVER 7 ---------\n", OPEN(7, 0xFF, 0), OPEN(8, 1, 0), OPEN(6, 0, 0));
 }
 
-/* The examples of the table, in its order. */
+/* Boxes that only looked. */
+static void read_only(void) {
+  DRILL("one remains", "1 0 0 0 0\n2 0 0 0 0\n3 0 0 0 2\n4 0 0 0 1\n5 0 1 1 1\n6 0 0 0 0\n7 0 1 1 1\n8 0 1 1 1\n9 0 1 0 0\nHANDOVER 0 C-C------\n",
+        OPEN(0, 3, 0), MARK(1), BEGIN(0), DELIVER(1, DPR_PREPARE), DELIVER(2, DPR_PREPARE), DELIVER(1, DPR_READ_ONLY), DELIVER(2, DPR_YES),
+        DELIVER(2, DPR_COMMIT), DELIVER(2, DPR_COMMIT_ACK));
+  DRILL("the last vote", "1 0 0 0 0\n2 0 1 1 2\n3 0 0 0 0\n4 0 1 1 1\n5 0 0 0 0\n6 0 0 0 1\n7 0 1 1 1\n8 0 0 0 0\n9 0 0 0 0\nHANDOVER 0 C--------\n",
+        OPEN(0, 3, 1), BEGIN(0), MARK(2), DELIVER(1, DPR_PREPARE), DELIVER(1, DPR_YES), DELIVER(2, DPR_PREPARE), DELIVER(2, DPR_READ_ONLY),
+        CRASH(0), RESTART(0));
+  DRILL("nobody remains", "1 0 0 0 0\n2 0 1 1 1\n3 0 0 0 0\n4 0 0 0 1\n5 0 1 0 0\n" NOTHING, OPEN(0, 1, 1), BEGIN(0), MARK(1),
+        DELIVER(1, DPR_PREPARE), DELIVER(1, DPR_READ_ONLY));
+  DRILL("Prepare twice", "1 0 0 0 0\n2 0 0 0 1\n3 0 0 0 0\n4 0 0 0 1\n5 0 0 0 1\n6 0 0 0 0\nHANDOVER 0 A--------\n", OPEN(0, 1, 0), BEGIN(0),
+        MARK(1), DELIVER(1, DPR_PREPARE), DELIVER(1, DPR_PREPARE), DELIVER(1, DPR_NO));
+  DRILL("not Working", VOTED_TEXT "4 8 0 0 0\n" NOTHING, VOTED, MARK(1));
+}
+
+/* The examples of the table, in its order; 8 is a code since Job 3, and there box 0 is out of range. */
 static void refusals(void) {
   DRILL("1, code 8", "1 1 0 0 0\n", 8, 0, 0, 0, NONE);
+  DRILL("1, code 9", "1 1 0 0 0\n", 9, 0, 1, 0, NONE);
   DRILL("1, five bytes", "1 0 0 0 0\n2 1 0 0 0\n" NOTHING, OPEN(0, 1, 1), 1, 0, 0, 0, 0xFF);
   DRILL("2", "1 0 0 0 0\n2 2 0 0 0\n" NOTHING, OPEN(0, 1, 0), OPEN(0, 1, 0));
   DRILL("3", "1 3 0 0 0\n", BEGIN(0));
@@ -120,6 +137,7 @@ static void longest(void) {
 int main(void) {
   memset(untouched, FILL, sizeof untouched);
   examples();
+  read_only();
   refusals();
   longest();
   printf("firmware in C: %u checks, ok\n", checks);

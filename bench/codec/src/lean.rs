@@ -45,8 +45,8 @@ impl Record {
             (None, _) => true,
             (
                 Some(Init { members, presume_commit, .. }),
-                Commit { members: members_now, presume_commit: presume_commit_now, .. },
-            ) => members == members_now && presume_commit == presume_commit_now,
+                Commit { members: remaining, presume_commit: of_remaining, .. },
+            ) => remaining & !members == 0 && of_remaining == presume_commit & remaining,
             (Some(Init { .. }), AbortEnd { .. }) => true,
             (Some(Commit { members, presume_commit, .. }), CommitEnd { .. }) => members & !presume_commit != 0,
             (Some(Prepared { .. }), Committed { .. } | Aborted { .. }) => true,
@@ -164,12 +164,18 @@ fn step_down(number: u16, step: u16) -> (u8, u16) {
     (steps, rest)
 }
 
-/// Transaction, participant and kind of a message number, or 26.
+/// Transaction, participant and kind of a message number, or 26. From 448 on it is a read-only vote.
 pub fn message_parts(number: u16) -> Result<[u8; 3], u8> {
-    if number > 447 {
-        return Err(26);
+    match number {
+        0..448 => {
+            let (transaction, rest) = step_down(number, 56);
+            let (participants, kind) = step_down(rest, 7);
+            Ok([transaction, participants + 1, kind as u8])
+        }
+        448..512 => {
+            let (transaction, participants) = step_down(number - 448, 8);
+            Ok([transaction, participants as u8 + 1, 7])
+        }
+        _ => Err(26),
     }
-    let (transaction, rest) = step_down(number, 56);
-    let (participants, kind) = step_down(rest, 7);
-    Ok([transaction, participants + 1, kind as u8])
 }

@@ -171,8 +171,11 @@ fn measure_images(calls: usize) {
 
 fn measure_numbers() {
     for parts_of in [dpr_message_parts as MessageParts, lean_message_parts, reference_message_parts] {
-        for number in 0..448 {
-            let wanted = [(number / 56) as u8, (number % 56 / 7 + 1) as u8, (number % 7) as u8];
+        for number in 0..512 {
+            let wanted = match number {
+                0..448 => [(number / 56) as u8, (number % 56 / 7 + 1) as u8, (number % 7) as u8],
+                _ => [((number - 448) / 8) as u8, (number % 8 + 1) as u8, 7],
+            };
             assert_eq!(black_box(parted(parts_of, black_box(number))), (0, wanted));
         }
     }

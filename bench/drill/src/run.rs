@@ -27,8 +27,12 @@ pub struct Answer {
 pub struct Transaction {
     pub members: u8,
     presume_commit: u8,
+    /// Those that only read.
+    marked: u8,
+    /// The members of the Commit record: those that are told.
+    committing: u8,
     /// The participants whose message of each kind was sent.
-    sent: [u8; 7],
+    sent: [u8; 8],
     /// Sites that entered commit, and abort.
     pub committed: u16,
     pub aborted: u16,
@@ -75,8 +79,9 @@ pub struct Run {
     /// Bit s: site s is up.
     up: u16,
     pub transactions: [Transaction; 8],
-    /// The sets that the coordinator waits for.
+    /// The sets that the coordinator waits for, and those that it has taken out.
     waiting: [u8; 8],
+    taken_out: [u8; 8],
     sites: [Site; 9],
 }
 
@@ -96,15 +101,22 @@ fn lowest(mut set: u8, n: u32) -> u8 {
     all & !set
 }
 
-fn effects(Step(row): Step) -> u32 {
-    let [_, _, _, record, force, outcome, _, to] = row.to_le_bytes();
-    (record != 0) as u32 + force as u32 + (outcome != 0) as u32 + to.count_ones()
+/// The records, first and last, whether it forces, the outcome, the message, and to whom it goes.
+fn parts(Step(row): Step) -> (u8, u8, bool, u8, u8, u8) {
+    let [.., records, effects, message, to] = row.to_le_bytes();
+    (records & 15, records >> 4, effects & 1 != 0, effects >> 1, message, to)
+}
+
+fn effects(row: Step) -> u32 {
+    let (first, last, force, outcome, _, to) = parts(row);
+    (first != 0) as u32 + (last != 0) as u32 + force as u32 + (outcome != 0) as u32 + to.count_ones()
 }
 
 impl Run {
     pub fn fresh() -> Run {
         let site = Site { phases: [UNKNOWN; 8], stable: [0; 8], unforced: [(0, 0); 10], count: 0 };
-        Run { up: 0x1FF, transactions: [Transaction::default(); 8], waiting: [0; 8], sites: [site; 9] }
+        let transactions = [Transaction::default(); 8];
+        Run { up: 0x1FF, transactions, waiting: [0; 8], taken_out: [0; 8], sites: [site; 9] }
     }
 
     fn is_up(&self, site: u8) -> bool {
@@ -123,17 +135,28 @@ impl Run {
         Ok(t)
     }
 
+    /// The same, and the site is up.
+    fn member_up(&self, h: u8, site: u8) -> Result<&Transaction, u8> {
+        let t = self.member(h, site)?;
+        if self.is_up(site) {
+            Ok(t)
+        } else {
+            Err(5)
+        }
+    }
+
     /// One event: its answer with counts, or the number of a refusal.
     pub fn event(&mut self, &[code, x, y, z, cut, keep]: &[u8; EVENT]) -> Result<Answer, u8> {
         if match code {
             0 => x > 7 || y == 0 || z & !y != 0 || cut != NO_CUT || keep != 0,
             1 => x > 7 || y != 0 || z != 0 || cut == NO_CUT && keep != 0,
-            2 => x > 7 || y == 0 || y > 8 || z > ABORT_ACK || cut == NO_CUT && keep != 0,
+            2 => x > 7 || y == 0 || y > 8 || z > READ_ONLY || cut == NO_CUT && keep != 0,
             3 => x > 7 || y > 8 || z != 0 || cut == NO_CUT && keep != 0,
             4 => x != 0 || y > 8 || z != 0 || cut != NO_CUT || keep != 0,
             5 => x > 7 || y > 8 || z != 0 || cut != NO_CUT || keep != 0,
             6 => x != 0 || y > 8 || z != 0 || cut != NO_CUT,
             7 => x != 0 || y > 8 || z != 0 || cut == NO_CUT && keep != 0,
+            8 => x > 7 || y == 0 || y > 8 || z != 0 || cut != NO_CUT || keep != 0,
             _ => true,
         } {
             return Err(1);
@@ -141,22 +164,15 @@ impl Run {
         match code {
             0 => self.open(x, y, z),
             1 => {
-                let t = self.member(x, 0)?;
-                let (members, presume_commit) = (t.members, t.presume_commit);
-                if !self.is_up(0) {
-                    return Err(5);
-                }
+                self.member_up(x, 0)?;
                 if self.sites[0].phases[x as usize] != OPEN {
                     return Err(8);
                 }
-                self.step(0, x, coordinator(BEGIN, 0, OPEN, 0, members, presume_commit), cut, keep)
+                self.step(0, x, self.row(x, 0, BEGIN, 0), cut, keep)
             }
             2 => self.deliver(x, y, z, cut, keep),
             3 => {
-                self.member(x, y)?;
-                if !self.is_up(y) {
-                    return Err(5);
-                }
+                self.member_up(x, y)?;
                 let phase = self.sites[y as usize].phases[x as usize];
                 let none = if y == 0 { matches!(phase, OPEN | UNKNOWN) } else { phase > PREPARED };
                 if none {
@@ -184,7 +200,8 @@ impl Run {
                 self.down(y, keep);
                 Ok(Answer::default())
             }
-            _ => self.restart(y, cut, keep),
+            7 => self.restart(y, cut, keep),
+            _ => self.mark(x, y),
         }
     }
 
@@ -205,6 +222,15 @@ impl Run {
         Ok(Answer::default())
     }
 
+    fn mark(&mut self, h: u8, b: u8) -> Result<Answer, u8> {
+        self.member_up(h, b)?;
+        if self.sites[b as usize].phases[h as usize] != WORKING {
+            return Err(8);
+        }
+        self.transactions[h as usize].marked |= bit(b);
+        Ok(Answer::default())
+    }
+
     fn deliver(&mut self, h: u8, b: u8, kind: u8, cut: u8, keep: u8) -> Result<Answer, u8> {
         let t = self.member(h, b)?;
         let receiver = if matches!(kind, PREPARE | COMMIT | ABORT) { b } else { 0 };
@@ -218,14 +244,16 @@ impl Run {
         self.step(receiver, h, row, cut, keep)
     }
 
-    /// The row of a message or a timer; `named` is the participant's bit, 0 for the coordinator's timer.
+    /// The row of begin, a message or a timer; `named` is the participant's bit, 0 for begin and the coordinator's timer.
     fn row(&self, h: u8, site: u8, kind: u8, named: u8) -> Step {
         let t = &self.transactions[h as usize];
         let phase = self.sites[site as usize].phases[h as usize];
         if site == 0 {
-            coordinator(kind, named, phase, self.waiting[h as usize], t.members, t.presume_commit)
+            let (waiting, taken_out) = (self.waiting[h as usize], self.taken_out[h as usize]);
+            let Transaction { members, presume_commit, .. } = *t;
+            coordinator(kind, named, Standing { phase, waiting, members, presume_commit, taken_out })
         } else {
-            participant(kind, named, t.presume_commit & named != 0, phase)
+            participant(kind, named, t.presume_commit & named != 0, t.marked & named != 0, phase)
         }
     }
 
@@ -240,10 +268,9 @@ impl Run {
         if cut > all {
             return Err(9);
         }
-        let [_, _, _, record, force, ..] = row.0.to_le_bytes();
-        let place = if record == Record::AbortEnd as u8 { all } else { 1 };
-        let appended = record != 0 && cut >= place;
-        let forced = force != 0 && cut >= 2;
+        let (first, last, force, ..) = parts(row);
+        let appended = first != 0 && cut > 0 || last != 0 && cut == all;
+        let forced = force && cut >= 2;
         let unforced = if forced { 0 } else { self.sites[site as usize].count + appended as u8 };
         if keep > unforced {
             return Err(9);
@@ -254,29 +281,32 @@ impl Run {
     }
 
     fn enter_phase(&mut self, site: u8, h: u8, Step(row): Step) {
-        let [_, phase, waiting, ..] = row.to_le_bytes();
+        let [_, phase, waiting, taken_out, ..] = row.to_le_bytes();
         self.sites[site as usize].phases[h as usize] = phase;
         if site == 0 {
             self.waiting[h as usize] = waiting;
+            self.taken_out[h as usize] = taken_out;
         }
     }
 
     /// The first effects of a row. How many are left to happen.
-    fn perform(&mut self, site: u8, h: u8, Step(row): Step, mut left: u32, answer: &mut Answer) -> u32 {
-        let [_, _, _, record, force, outcome, message, to] = row.to_le_bytes();
+    fn perform(&mut self, site: u8, h: u8, row: Step, mut left: u32, answer: &mut Answer) -> u32 {
+        let (first, last, force, outcome, message, to) = parts(row);
         let log = &mut self.sites[site as usize];
-        let last = record == Record::AbortEnd as u8;
-        if record != 0 && !last && left > 0 {
-            log.append(h, 1 << record);
+        let t = &mut self.transactions[h as usize];
+        if first != 0 && left > 0 {
+            log.append(h, 1 << first);
+            if first == Record::Commit as u8 {
+                t.committing = to;
+            }
             answer.records += 1;
             left -= 1;
         }
-        if force != 0 && left > 0 {
+        if force && left > 0 {
             log.keep(log.count);
             answer.forces += 1;
             left -= 1;
         }
-        let t = &mut self.transactions[h as usize];
         if outcome != 0 && left > 0 {
             let entered = if outcome == Outcome::Commit as u8 { &mut t.committed } else { &mut t.aborted };
             *entered |= 1 << site;
@@ -291,8 +321,8 @@ impl Run {
             answer.sends += sends as u8;
             left -= sends;
         }
-        if last && left > 0 {
-            self.sites[site as usize].append(h, ABORT_END);
+        if last != 0 && left > 0 {
+            log.append(h, 1 << last);
             answer.records += 1;
             left -= 1;
         }
@@ -305,20 +335,17 @@ impl Run {
         log.keep(keep);
         log.phases = [UNKNOWN; 8];
         if site == 0 {
-            self.waiting = [0; 8];
+            (self.waiting, self.taken_out) = ([0; 8], [0; 8]);
         }
     }
 
     fn discard(&mut self, h: u8, site: u8) -> Result<Answer, u8> {
-        let t = *self.member(h, site)?;
-        if !self.is_up(site) {
-            return Err(5);
-        }
+        let t = *self.member_up(h, site)?;
         let log = &mut self.sites[site as usize];
         let stable = &mut log.stable[h as usize];
         let closed = match *stable {
             0..COMMIT_RECORD => false,
-            COMMIT_RECORD..COMMIT_END => t.members == t.presume_commit,
+            COMMIT_RECORD..COMMIT_END => t.committing & !t.presume_commit == 0,
             COMMIT_END..PREPARED_RECORD => true,
             newest => newest >= COMMITTED_RECORD,
         };
@@ -341,8 +368,8 @@ impl Run {
         if stable == 0 {
             unknown
         } else if has(COMMIT_RECORD) && !has(COMMIT_END) {
-            let acks = t.members & !t.presume_commit;
-            let told = if acks == 0 { 0 } else { t.members };
+            let acks = t.committing & !t.presume_commit;
+            let told = if acks == 0 { 0 } else { t.committing };
             Step::awaiting(COMMITTING, acks).enter(Outcome::Commit).send(COMMIT, told)
         } else if has(INIT) && !has(COMMIT_RECORD | ABORT_END) {
             Step::to_phase(ABORTING, t.presume_commit).enter(Outcome::Abort).send(ABORT, t.members)

@@ -23,6 +23,7 @@ mod rows;
 mod step;
 
 use arguments::{accepted, expected, random_accepted, Arguments};
+use numbers::ARGUMENTS;
 use random::Random;
 use std::hint::black_box;
 
@@ -38,6 +39,8 @@ extern "C" {
         waiting: u8,
         members: u8,
         presume_commit: u8,
+        mark: u8,
+        taken_out: u8,
     ) -> u64;
 }
 
@@ -53,20 +56,35 @@ extern "C" fn lean_site_step(
     waiting: u8,
     members: u8,
     presume_commit: u8,
+    mark: u8,
+    taken_out: u8,
 ) -> u64 {
-    lean::site_step(site, kind, transaction, participant, presumption, phase, waiting, members, presume_commit)
+    lean::site_step(
+        site,
+        kind,
+        transaction,
+        participant,
+        presumption,
+        phase,
+        waiting,
+        members,
+        presume_commit,
+        mark,
+        taken_out,
+    )
 }
 
-fn compare([a, b, c, d, e, f, g, h, i]: Arguments) {
-    let proved = unsafe { dpr_site_step(a, b, c, d, e, f, g, h, i) };
-    let plain = lean_site_step(a, b, c, d, e, f, g, h, i);
-    assert_eq!(proved, plain, "arguments {a} {b} {c} {d} {e} {f} {g} {h} {i}");
+fn compare(arguments: Arguments) {
+    let [a, b, c, d, e, f, g, h, i, j, k] = arguments;
+    let proved = unsafe { dpr_site_step(a, b, c, d, e, f, g, h, i, j, k) };
+    let plain = lean_site_step(a, b, c, d, e, f, g, h, i, j, k);
+    assert_eq!(proved, plain, "arguments {arguments:?}");
 }
 
 /// Calls of each row in the mix.
 const EACH: usize = 40;
 
-/// Every row of 01 equally often, and as often a call without a row.
+/// Every row equally often, and as often a call without a row.
 fn accepted_mix(random: &mut Random) -> Vec<Arguments> {
     let mut missing = [EACH; rows::COUNT + 1];
     let mut mix = vec![];
@@ -85,9 +103,9 @@ fn accepted_mix(random: &mut Random) -> Vec<Arguments> {
 fn refused_mix(random: &mut Random) -> Vec<Arguments> {
     let taken = accepted_mix(random);
     let mut mix = vec![];
-    while mix.len() < 9 * 6 * EACH {
+    while mix.len() < ARGUMENTS * 6 * EACH {
         let mut call = taken[random.below(taken.len())];
-        let i = mix.len() % 9;
+        let i = mix.len() % ARGUMENTS;
         call[i] = if random.once_in(2) { random.below(20) as u8 } else { random.byte() };
         if expected(call)[0] == 1 {
             mix.push(call);
@@ -106,14 +124,14 @@ fn mix(name: &str) -> Vec<Arguments> {
 
 fn check() {
     let mut compared = 0;
-    accepted(3, |call| {
+    accepted(|call| {
         compare(call);
         compared += 1;
     });
     let mut random = Random(7);
     for _ in 0..2_000_000 {
         let mut call = random_accepted(&mut random);
-        call[random.below(9)] = random.byte();
+        call[random.below(ARGUMENTS)] = random.byte();
         compare(call);
         compared += 1;
     }

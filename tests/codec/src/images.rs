@@ -6,11 +6,11 @@ use LogRecord::*;
 
 type Row = Vec<LogRecord>;
 
-/// The rows of records that one transaction may have at the coordinator.
-/// The masks have a member of each presumption.
-fn coordinator_rows(transaction: u8, members: u8, presume_commit: u8) -> Vec<Row> {
+/// The rows of records that one transaction may have at the coordinator; some members may be taken out before commit.
+/// Those that remain have a member of each presumption.
+fn coordinator_rows(transaction: u8, members: u8, presume_commit: u8, taken_out: u8) -> Vec<Row> {
     let init = Init { transaction, members, presume_commit };
-    let commit = Commit { transaction, members, presume_commit };
+    let commit = Commit { transaction, members: members & !taken_out, presume_commit: presume_commit & !taken_out };
     let commit_end = CommitEnd { transaction };
     let abort_end = AbortEnd { transaction };
     vec![
@@ -33,16 +33,21 @@ fn participant_rows(transaction: u8, presumption: u8) -> Vec<Row> {
     vec![vec![prepared], vec![prepared, committed], vec![prepared, aborted], vec![committed], vec![aborted]]
 }
 
-/// Members and PC with a member of each presumption, another pair for each transaction.
-fn masks(transaction: u8) -> (u8, u8) {
-    (0b11u8.rotate_left(transaction as u32), 1 << transaction)
+/// Members and PC with a member of each presumption, and one of either that is taken out; others for each transaction.
+fn masks(transaction: u8) -> (u8, u8, u8) {
+    let turn = |mask: u8| mask.rotate_left(transaction as u32);
+    match transaction % 3 {
+        0 => (turn(0b011), turn(0b001), 0),
+        1 => (turn(0b111), turn(0b001), turn(0b100)),
+        _ => (turn(0b111), turn(0b101), turn(0b100)),
+    }
 }
 
 /// The longest row of a transaction.
 fn longest(site: u8, transaction: u8) -> Row {
-    let (members, presume_commit) = masks(transaction);
+    let (members, presume_commit, taken_out) = masks(transaction);
     if site == 0 {
-        coordinator_rows(transaction, members, presume_commit).swap_remove(2)
+        coordinator_rows(transaction, members, presume_commit, taken_out).swap_remove(2)
     } else {
         participant_rows(transaction, transaction % 2).swap_remove(1 + transaction as usize / 2 % 2)
     }
@@ -77,9 +82,12 @@ fn random_log(random: &mut Random, site: u8) -> Row {
                 return None;
             }
             let mut rows = if site == 0 {
-                let presume_commit = 1 << random.below(8);
-                let members = random.byte() | presume_commit | presume_commit.rotate_left(1);
-                coordinator_rows(transaction, members, presume_commit)
+                // the first two remain
+                let (first, others) = (1 << random.below(8), random.byte());
+                let members = others | first | first.rotate_left(1);
+                let presume_commit = first | others & random.byte() & !first.rotate_left(1);
+                let taken_out = random.byte() & !first & !first.rotate_left(1);
+                coordinator_rows(transaction, members, presume_commit, taken_out)
             } else {
                 participant_rows(transaction, random.below(2) as u8)
             };
@@ -93,8 +101,8 @@ fn random_log(random: &mut Random, site: u8) -> Row {
 pub fn accepted(random: &mut Random) -> Vec<Vec<u8>> {
     let mut logs: Vec<(u8, Row)> = (0..9).map(|site| (site, vec![])).collect();
     for i in 0..8 {
-        let (members, presume_commit) = masks(i);
-        logs.push((0, coordinator_rows(i, members, presume_commit).swap_remove(i as usize)));
+        let (members, presume_commit, taken_out) = masks(i);
+        logs.push((0, coordinator_rows(i, members, presume_commit, taken_out).swap_remove(i as usize)));
     }
     for i in 0..5 {
         logs.push((1 + i, participant_rows(i, 0).swap_remove(i as usize)));
@@ -109,6 +117,11 @@ pub fn accepted(random: &mut Random) -> Vec<Vec<u8>> {
     logs.push((0, vec![init, commit]));
     logs.push((0, vec![init, AbortEnd { transaction: 6 }]));
     logs.push((0, vec![commit]));
+    // all of one presumption taken out
+    let init = Init { transaction: 5, members: 0xFF, presume_commit: 0x0F };
+    let of_pra = Commit { transaction: 5, members: 0xF0, presume_commit: 0 };
+    logs.push((0, vec![init, of_pra, CommitEnd { transaction: 5 }]));
+    logs.push((0, vec![init, Commit { transaction: 5, members: 0x0F, presume_commit: 0x0F }]));
     // the largest, and what trimming leaves of them
     for (site, trimmed) in [(0, [1, 2, 4, 7, 12, 17, 23]), (1, [1, 2, 3, 5, 8, 11, 15]), (8, [1, 3, 6, 9, 12, 13, 14])]
     {
@@ -225,7 +238,11 @@ fn random_record(random: &mut Random, site: u8, transactions: usize, faults: usi
     }
     let mut record = vec![kind as u8, random.below(transactions) as u8];
     match kind {
-        1 | 2 => record.extend([3, 1 + random.below(3) as u8]),
+        // a Commit names all of Init's members, or a part
+        1 | 2 => {
+            let members = if kind == 2 && random.once_in(2) { 1 + random.below(3) as u8 } else { 3 };
+            record.extend([members, (1 + random.below(3) as u8) & members]);
+        }
         5 => record.push(random.below(2) as u8),
         _ => {}
     }

@@ -9,98 +9,15 @@ mod codec;
 #[path = "../../fenced.rs"]
 mod fenced;
 mod images;
+mod known;
 mod library;
 mod random;
 
 use images::{accepted, bad_records, exact, random_image, records_of};
+use known::{examples, masks_of_two, vectors};
 use library::Trial;
 use random::Random;
 use std::collections::BTreeSet;
-
-const VECTORS: &str = include_str!("../../vectors/images.txt");
-
-fn bytes(words: &[&str], radix: u32) -> Vec<u8> {
-    words.iter().map(|word| u8::from_str_radix(word, radix).unwrap()).collect()
-}
-
-/// The lines of tests/vectors/images.txt, whose top says what they mean. A written log is given as its image.
-fn vectors(trial: &mut Trial, _: &mut Random) {
-    for line in VECTORS.lines().filter(|line| !line.starts_with('#')) {
-        let (left, right) = line.split_once(" =").unwrap();
-        let words: Vec<&str> = left.split(' ').collect();
-        let right: Vec<&str> = right.split_whitespace().collect();
-        let answer: u8 = if words[1] == "number" && right.len() == 3 { 0 } else { right[0].parse().unwrap_or(255) };
-        let before = trial.answers[answer as usize];
-        match words[1] {
-            "read" => {
-                let image = bytes(&words[2..], 16);
-                let reading = trial.check(&image);
-                assert_eq!(reading.answer(), (answer, right[1].parse().unwrap()), "vectors: the line '{line}'");
-                trial.copy(&image, &reading, image.len(), 0);
-            }
-            "write" => {
-                let numbers = bytes(&words[2..5], 10);
-                let records: Vec<Vec<u8>> =
-                    words[5..].iter().map(|r| bytes(&r.split(',').collect::<Vec<_>>(), 10)).collect();
-                let image = exact(numbers[0], &records);
-                let reading = trial.check(&image);
-                trial.copy(&image, &reading, numbers[1] as usize, numbers[2] as usize);
-            }
-            "number" => trial.message(words[2].parse().unwrap()),
-            "events" => continue,
-            word => panic!("vectors: '{word}' is not known"),
-        }
-        assert_eq!(trial.answers[answer as usize], before + 1, "vectors: not the answer of the line '{line}'");
-    }
-}
-
-/// K10, the same bytes with faults of more than one number, and logs of several records: answer and index by hand.
-fn examples(trial: &mut Trial, _: &mut Random) {
-    let k10 = bytes(&"44 50 52 4C 01 01 0A 00 03 00 05 00 01".split(' ').collect::<Vec<_>>(), 16);
-    let changed = |changes: &[(usize, u8)]| {
-        let mut image = k10.clone();
-        changes.iter().for_each(|&(i, value)| image[i] = value);
-        image
-    };
-    let log = |site: u8, records: &[&[u8]]| exact(site, &records.iter().map(|r| r.to_vec()).collect::<Vec<_>>());
-    let cases = [
-        ((0, 1), changed(&[])),
-        ((20, 0), changed(&[(3, 0), (4, 9), (6, 0), (10, 4), (11, 8), (12, 2)])),
-        ((21, 0), changed(&[(4, 9), (6, 0), (10, 4), (11, 8), (12, 2)])),
-        ((21, 0), changed(&[(5, 17), (12, 2)])),
-        ((22, 0), changed(&[(6, 0), (10, 4), (11, 8), (12, 2)])),
-        ((23, 0), changed(&[(10, 4), (11, 8), (12, 2)])),
-        ((27, 0), changed(&[(11, 8), (12, 2)])),
-        ((28, 0), changed(&[(12, 2)])),
-        // a record with faults of two numbers
-        ((23, 1), log(1, &[&[7, 7], &[6, 8, 0]])),
-        ((23, 1), log(1, &[&[5, 0, 0], &[5, 0, 2, 0]])),
-        ((23, 1), log(0, &[&[4, 0], &[4, 0, 0]])),
-        ((27, 1), log(0, &[&[4, 0], &[1, 8, 3, 0]])),
-        ((28, 1), log(1, &[&[5, 0, 0], &[5, 0, 2]])),
-        ((28, 1), log(0, &[&[1, 0, 3, 1], &[1, 0, 3, 0]])),
-        ((28, 1), log(0, &[&[1, 0, 3, 1], &[2, 0, 3, 5]])),
-        // the rules between two records
-        ((24, 1), log(0, &[&[1, 0, 3, 1], &[2, 0, 7, 1]])),
-        ((24, 1), log(0, &[&[1, 0, 3, 1], &[2, 0, 3, 0]])),
-        ((24, 2), log(0, &[&[1, 0, 3, 3], &[2, 0, 3, 3], &[3, 0]])),
-        ((24, 3), log(0, &[&[4, 0], &[3, 1], &[4, 2], &[3, 1]])),
-        // faults of two records: the first of them, of whatever number
-        ((24, 1), log(1, &[&[5, 0, 0], &[5, 0, 0], &[5, 0, 2]])),
-        ((24, 2), log(0, &[&[4, 0], &[3, 1], &[3, 1], &[9, 9]])),
-        ((28, 0), log(1, &[&[5, 0, 2], &[5, 1, 0], &[5, 1, 0]])),
-        ((28, 1), log(1, &[&[6, 0], &[5, 1, 2], &[6, 8]])),
-        ((28, 1), log(1, &[&[6, 0], &[5, 1, 2], &[4, 0]])),
-        ((27, 1), log(0, &[&[4, 0], &[4, 8], &[5, 0, 0]])),
-    ];
-    for (answer, image) in cases {
-        let reading = trial.check(&image);
-        assert_eq!(reading.answer(), answer, "the reference model on an example");
-        for (length, offset) in [(image.len(), 0), (200, 100), (5, 0), (0, 0), (13, 14), (13, usize::MAX)] {
-            trial.copy(&image, &reading, length, offset);
-        }
-    }
-}
 
 /// A buffer with room and one without, each at some offset. Gives number and index.
 fn two_buffers(trial: &mut Trial, random: &mut Random, image: &[u8]) -> (u8, usize) {
@@ -221,9 +138,11 @@ fn rows(trial: &mut Trial, random: &mut Random, site: u8, records: &[&[u8]], mos
 
 /// Short logs of two transactions, legal and not, with other masks for one of them, and records that no log may hold.
 fn sequences(trial: &mut Trial, random: &mut Random) {
-    let coordinator: [&[u8]; 14] = [
+    let coordinator: [&[u8]; 16] = [
         &[1, 0, 3, 1],
         &[2, 0, 3, 1],
+        &[2, 0, 2, 0],
+        &[2, 0, 1, 1],
         &[1, 0, 3, 3],
         &[2, 0, 3, 3],
         &[2, 0, 7, 1],
@@ -309,6 +228,7 @@ fn messages(trial: &mut Trial, _: &mut Random) {
     for number in (0..=65535).chain(0..=65535) {
         trial.message(number);
     }
+    assert_eq!((trial.answers[0], trial.answers[26]), (2 * 512, 2 * (65536 - 512)), "numbers accepted and refused");
 }
 
 /// Each answer that came, and how often.
@@ -318,7 +238,7 @@ fn counted(answers: &[usize; 256]) -> String {
 }
 
 fn main() {
-    let parts: [(&'static str, fn(&mut Trial, &mut Random)); 13] = [
+    let parts: [(&'static str, fn(&mut Trial, &mut Random)); 14] = [
         ("vectors", vectors),
         ("examples", examples),
         ("message numbers", messages),
@@ -328,6 +248,7 @@ fn main() {
         ("a bad record in each place", bad_places),
         ("borders of records", borders),
         ("images of one record", single_records),
+        ("masks of Init and Commit", masks_of_two),
         ("sequences of records", sequences),
         ("counts of records", counts),
         ("long images and far offsets", long_images),

@@ -3,11 +3,12 @@
 use reference::codec::*;
 use reference::joint::{Phase, Plan, Run, Transaction};
 use reference::log::Log;
+use reference::read_only::{met, NAMES, NEVER};
 use reference::step::{CoordinatorPhase, Effect};
 use std::collections::BTreeMap;
 
-/// Answers that an event of each code can get; the last are codes above 7, and events that are not six bytes.
-const ANSWERS: [&[usize]; 9] = [
+/// Answers that an event of each code can get; the last are codes above 8, and events that are not six bytes.
+const ANSWERS: [&[usize]; 10] = [
     &[0, 1, 2, 5],
     &[0, 1, 3, 5, 8, 9],
     &[0, 1, 3, 4, 5, 7, 9],
@@ -16,22 +17,24 @@ const ANSWERS: [&[usize]; 9] = [
     &[0, 1, 3, 4, 5, 8],
     &[0, 1, 5, 9],
     &[0, 1, 6, 9],
+    &[0, 1, 3, 4, 5, 8],
     &[1],
 ];
 
 /// Beside the kinds of messages.
-const BEGIN: u8 = 7;
-const TIMER: u8 = 8;
-const STIMULI: [&str; 9] = ["Prepare", "Yes", "No", "Commit", "Abort", "CommitAck", "AbortAck", "begin", "timer"];
+const BEGIN: u8 = 8;
+const TIMER: u8 = 9;
+const STIMULI: [&str; 10] =
+    ["Prepare", "Yes", "No", "Commit", "Abort", "CommitAck", "AbortAck", "read-only vote", "begin", "timer"];
 
 /// What steps can meet in each phase of the coordinator (false) and of a participant (true): stimuli of participants of
 /// both presumptions, stimuli of those that presume abort or of none, and stimuli of those that presume commit.
 const STEPS: [(bool, &str, &[u8], &[u8], &[u8]); 10] = [
     (false, "Open", &[], &[BEGIN], &[]),
-    (false, "Collecting", &[YES, NO], &[TIMER], &[]),
-    (false, "Committing", &[YES, NO], &[TIMER, COMMIT_ACK], &[]),
-    (false, "Aborting", &[YES, NO], &[TIMER], &[ABORT_ACK]),
-    (false, "Unknown", &[YES, NO], &[COMMIT_ACK], &[ABORT_ACK]),
+    (false, "Collecting", &[YES, NO, READ_ONLY], &[TIMER], &[]),
+    (false, "Committing", &[YES, NO, READ_ONLY], &[TIMER, COMMIT_ACK], &[]),
+    (false, "Aborting", &[YES, NO, READ_ONLY], &[TIMER], &[ABORT_ACK]),
+    (false, "Unknown", &[YES, NO, READ_ONLY], &[COMMIT_ACK], &[ABORT_ACK]),
     (true, "Working", &[PREPARE, ABORT, TIMER], &[], &[]),
     (true, "Prepared", &[PREPARE, COMMIT, ABORT, TIMER], &[], &[]),
     (true, "Committed", &[PREPARE, COMMIT], &[ABORT], &[]),
@@ -84,13 +87,15 @@ const OTHERS: [(&str, u64); 28] = [
 pub struct Coverage {
     pub lists: u64,
     pub events: u64,
-    answers: [[u64; 10]; 9],
+    answers: [[u64; 10]; 10],
     /// By participant, phase, stimulus, presumption, and where it is cut.
-    steps: [[[[[u64; 4]; 2]; 9]; 5]; 2],
-    longest: [[[[usize; 2]; 9]; 5]; 2],
+    steps: [[[[[u64; 4]; 2]; 10]; 5]; 2],
+    longest: [[[[usize; 2]; 10]; 5]; 2],
     /// By participant, kinds of records, and whether it is cut.
     restarts: BTreeMap<(bool, Vec<u8>, bool), u64>,
     discards: BTreeMap<Vec<u8>, u64>,
+    /// What Job 3 adds, by its name.
+    read_only: BTreeMap<&'static str, u64>,
     others: BTreeMap<&'static str, u64>,
     /// HANDOVER lines with each letter.
     letters: BTreeMap<u8, u64>,
@@ -125,7 +130,10 @@ impl Coverage {
     pub fn event(&mut self, run: &Run, event: &[u8]) {
         self.events += 1;
         let judged = run.judge(event);
-        let code = if event.len() == 6 { event[0].min(8) } else { 8 };
+        let code = if event.len() == 6 { event[0].min(9) } else { 9 };
+        for name in met(run, event, &judged) {
+            *self.read_only.entry(name).or_default() += 1;
+        }
         self.answers[code as usize][*judged.as_ref().err().unwrap_or(&0) as usize] += 1;
         match judged {
             Ok(plan) => self.accepted(run, event, &plan),
@@ -153,7 +161,7 @@ impl Coverage {
                     self.step(run, event, *site, effects, *cut);
                 }
             }
-            Plan::Force { .. } => {}
+            Plan::Force { .. } | Plan::Mark { .. } => {}
             Plan::Discard { transaction, site } => {
                 let records = run.logs[*site as usize].records.len();
                 self.other("discard of the coordinator with 24 records", *site == COORDINATOR && records == 24);
@@ -215,7 +223,7 @@ impl Coverage {
     fn step(&mut self, run: &Run, event: &[u8], site: u8, effects: &[(u8, Effect)], cut: Option<usize>) {
         let t: &Transaction = run.transactions[event[1] as usize].as_ref().unwrap();
         let (participant, phase) = match t.phase(site) {
-            Phase::Coordinator(phase) => (false, phase.number()),
+            Phase::Coordinator(state) => (false, state.phase.number()),
             Phase::Participant(phase) => (true, phase as u8),
         };
         let (stimulus, named) = match event[0] {
@@ -234,7 +242,7 @@ impl Coverage {
         self.steps[p][f][s][presumption as usize][place] += 1;
         let longest = &mut self.longest[p][f][s][presumption as usize];
         *longest = effects.len().max(*longest);
-        if stimulus == YES && t.coordinator == CoordinatorPhase::Unknown && cut != Some(0) {
+        if stimulus == YES && t.coordinator.phase == CoordinatorPhase::Unknown && cut != Some(0) {
             let in_doubt = kinds(&run.logs[named as usize], t.names.transaction) == [5];
             self.other("in doubt, the coordinator Unknown: Commit", in_doubt && presumption == 1);
             self.other("in doubt, the coordinator Unknown: Abort", in_doubt && presumption == 0);
@@ -290,6 +298,12 @@ impl Coverage {
         for records in DISCARDS {
             least(*self.discards.get(records).unwrap_or(&0), 50, format!("discard with records {records:?}"));
         }
+        for name in NAMES {
+            least(*self.read_only.get(name).unwrap_or(&0), 100, name.to_string());
+        }
+        for name in NEVER {
+            assert_eq!(self.read_only.get(name), None, "{name} cannot be");
+        }
         for (what, asked) in OTHERS {
             least(*self.others.get(what).unwrap_or(&0), asked, what.to_string());
         }
@@ -304,10 +318,12 @@ impl Coverage {
         let answers: Vec<String> =
             (0..10).map(|a| format!("{a}: {}", self.answers.iter().map(|of| of[a]).sum::<u64>())).collect();
         println!("answers {}", answers.join(", "));
-        let codes: Vec<String> = (0..8).map(|code| format!("{code}: {}", self.answers[code][0])).collect();
+        let codes: Vec<String> = (0..9).map(|code| format!("{code}: {}", self.answers[code][0])).collect();
         println!("accepted by code {}", codes.join(", "));
         let (cut, uncut): (Vec<_>, Vec<_>) = self.restarts.iter().partition(|((.., cut), _)| *cut);
         let sum = |of: Vec<(_, &u64)>| of.into_iter().map(|(_, met)| met).sum::<u64>();
         println!("transactions restarted {}, and in a cut restart {}", sum(uncut), sum(cut));
+        let added = NAMES.map(|name| format!("{name} {}", self.read_only.get(name).unwrap_or(&0)));
+        println!("of Job 3: {}", added.join("; "));
     }
 }

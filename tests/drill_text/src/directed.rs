@@ -3,7 +3,7 @@
 use crate::lists::member;
 use reference::codec::{bit, each, has, Mask, SITES};
 use reference::joint::NO_CUT;
-use reference::random::{random_mask, Event, Rng};
+use reference::random::{random_mask, some_of, Event, Rng};
 
 /// A coordinator with all that it can have to do at a restart: eight transactions of eight members, each aborting or
 /// committing. Its restarts are cut after every number of effects, and once above them.
@@ -109,9 +109,9 @@ pub fn full_logs(rng: &mut Rng, commits: usize) -> Vec<u8> {
             way
         })
         .collect();
-    let mut list = vec![];
-    while ways.iter().any(|way| !way.is_empty()) {
-        list.extend(ways[rng.below(8)].pop());
+    let mut list = side_by_side(rng, &mut ways);
+    if rng.percent(20) {
+        list.extend([[4, 0, 0, 0, NO_CUT, 0], [6, 0, 0, 0, NO_CUT, 0], [7, 0, 0, 0, NO_CUT, 0]]);
     }
     for _ in 0..300 {
         let site = if rng.percent(40) { 0 } else { member(rng, members) };
@@ -119,11 +119,103 @@ pub fn full_logs(rng: &mut Rng, commits: usize) -> Vec<u8> {
             0 => [4, 0, site, 0, NO_CUT, 0],
             1 => [6, 0, site, 0, NO_CUT, rng.below(3) as u8],
             2 | 3 => [7, 0, site, 0, NO_CUT, 0],
-            4 => [2, rng.below(8) as u8, member(rng, members), rng.below(7) as u8, NO_CUT, 0],
+            4 => [2, rng.below(8) as u8, member(rng, members), rng.below(8) as u8, NO_CUT, 0],
             _ => [5, rng.below(8) as u8, site, 0, NO_CUT, 0],
         });
     }
     list.concat()
+}
+
+/// Takes events from the ends of eight ways in any order.
+fn side_by_side(rng: &mut Rng, ways: &mut [Vec<Event>]) -> Vec<Event> {
+    let mut list = vec![];
+    while ways.iter().any(|way| !way.is_empty()) {
+        list.extend(ways[rng.below(8)].pop());
+    }
+    list
+}
+
+fn shuffle(rng: &mut Rng, events: &mut [Event]) {
+    for i in (1..events.len()).rev() {
+        events.swap(i, rng.below(i + 1));
+    }
+}
+
+/// Members that only read, in transactions one after another or side by side; then what is left to be said and trimmed.
+pub fn only_read(rng: &mut Rng) -> Vec<u8> {
+    let mut ways: Vec<Vec<Event>> = (0..8).map(|h| way_of_readers(rng, h)).collect();
+    let mut list = if rng.percent(70) {
+        ways.concat()
+    } else {
+        ways.iter_mut().for_each(|way| way.reverse());
+        side_by_side(rng, &mut ways)
+    };
+    for _ in 0..100 {
+        let (h, b) = (rng.below(8) as u8, 1 + rng.below(8) as u8);
+        let site = if rng.percent(50) { 0 } else { b };
+        list.push(match rng.below(20) {
+            0..=10 => [2, h, b, rng.below(8) as u8, NO_CUT, 0],
+            11 => [4, 0, site, 0, NO_CUT, 0],
+            12 => [6, 0, site, 0, NO_CUT, rng.below(2) as u8],
+            13 | 14 => [7, 0, site, 0, if rng.percent(10) { rng.below(9) as u8 } else { NO_CUT }, 0],
+            15 => [8, h, b, 0, NO_CUT, 0],
+            _ => [5, h, site, 0, NO_CUT, 0],
+        });
+    }
+    list.concat()
+}
+
+/// One transaction. Some members only read, and are marked before begin or after it; some let their timer run out, the
+/// others vote Yes. Prepares may come twice, votes come in any order; the last may be cut, or the timer comes instead.
+/// Then all sites are restarted that are down, and all that was sent comes.
+fn way_of_readers(rng: &mut Rng, h: u8) -> Vec<Event> {
+    let size = 1 + rng.below(4);
+    let members = random_mask(rng, size);
+    let some = members & rng.byte();
+    let presume_commit = rng.pick(&[0, members, some, some]);
+    let share = rng.pick(&[20, 50, 50, 80, 100]);
+    let readers = some_of(rng, members, share);
+    let quitters = if rng.percent(25) { some_of(rng, members & !readers, 40) } else { 0 };
+    let deliver = |b: u8, kind: u8| [2, h, b, kind, NO_CUT, 0];
+    let marks: Vec<Event> = each(readers).map(|b| [8, h, b, 0, NO_CUT, 0]).collect();
+    let early = rng.below(marks.len() + 1);
+    let mut way = vec![[0, h, members, presume_commit, NO_CUT, 0]];
+    way.extend(&marks[..early]);
+    way.push([1, h, 0, 0, NO_CUT, 0]);
+    way.extend(&marks[early..]);
+    way.extend(each(quitters).map(|b| [3, h, b, 0, NO_CUT, 0]));
+    let vote = |b: u8| match (has(readers, b), has(quitters, b)) {
+        (true, _) => 7,
+        (_, true) => 2,
+        _ => 1,
+    };
+    let mut prepares: Vec<Event> = each(members).map(|b| deliver(b, 0)).collect();
+    let mut votes: Vec<Event> = each(members).map(|b| deliver(b, vote(b))).collect();
+    shuffle(rng, &mut prepares);
+    shuffle(rng, &mut votes);
+    if rng.percent(20) {
+        // a second Prepare, and the No that it brings, somewhere among the votes
+        let b = member(rng, members);
+        prepares.push(deliver(b, 0));
+        votes.insert(rng.below(votes.len() + 1), deliver(b, 2));
+    }
+    if rng.percent(20) {
+        votes.insert(rng.below(votes.len() + 1), votes[0]);
+    }
+    if rng.percent(15) {
+        votes.truncate(rng.below(votes.len()));
+        votes.push([3, h, 0, 0, NO_CUT, 0]);
+    }
+    if rng.percent(40) {
+        let (cut, keep) = rng.pick(&[(0, 0), (1, 0), (1, 1), (1, 1), (2, 0), (3, 0), (4, 0), (5, 0)]);
+        let last = votes.last_mut().unwrap();
+        (last[4], last[5]) = (cut, keep);
+    }
+    way.extend(prepares);
+    way.extend(votes);
+    way.extend((0..SITES).map(|site| [7, 0, site, 0, NO_CUT, 0]));
+    way.extend([3, 4, 5, 6, 7].into_iter().flat_map(|kind| each(members).map(move |b| deliver(b, kind))));
+    way
 }
 
 fn highest(members: Mask) -> Mask {

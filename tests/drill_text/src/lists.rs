@@ -2,9 +2,9 @@
 //! says what can happen next; what a list does is compared elsewhere.
 
 use reference::codec::{each, Mask, Message, COORDINATOR, PARTICIPANTS, SITES};
-use reference::joint::{Phase, Plan, Run, NO_CUT};
-use reference::random::{random_mask, small_event, some_keep, wild_event, with_cut, Event, Rng};
-use reference::step::{CoordinatorPhase, Effect};
+use reference::joint::{Plan, Run, NO_CUT};
+use reference::random::{leads_on, random_mask, small_event, some_keep, some_of, wild_event, with_cut, Event, Rng};
+use reference::step::{CoordinatorPhase, Names};
 
 /// What a list is made of. The weights are shares of the events that follow the protocol.
 #[derive(Clone, Copy, Debug)]
@@ -21,6 +21,9 @@ pub struct Style {
     pub discard: usize,
     pub crash: usize,
     pub restart: usize,
+    /// Weight of a mark, and of a hundred members how many are to be marked.
+    pub mark: usize,
+    pub reads: usize,
     /// Of a hundred events: cut, changed for the worse, any bytes.
     pub cut: usize,
     pub fault: usize,
@@ -38,26 +41,31 @@ pub const PLAIN: Style = Style {
     discard: 4,
     crash: 1,
     restart: 12,
+    mark: 20,
+    reads: 20,
     cut: 2,
     fault: 0,
     wild: 0,
 };
 
-pub const STYLES: [Style; 13] = [
+pub const STYLES: [Style; 15] = [
     PLAIN,
-    Style { timer: 8, again: 20, crash: 4, ..PLAIN },
+    Style { timer: 8, again: 20, crash: 4, mark: 4, reads: 10, ..PLAIN },
     Style { spread: false, discard: 3, ..PLAIN },
     // eight transactions of eight members; the second goes on slowly
-    Style { spread: false, all_members: true, timer: 0, force: 0, discard: 2, cut: 1, ..PLAIN },
+    Style { spread: false, all_members: true, timer: 0, force: 0, discard: 2, mark: 4, reads: 10, cut: 1, ..PLAIN },
     Style { spread: false, all_members: true, deliver: 10, again: 10, crash: 3, restart: 6, cut: 8, ..PLAIN },
     // records stay unforced
-    Style { spread: false, timer: 0, force: 0, discard: 0, again: 1, crash: 3, restart: 60, cut: 1, ..PLAIN },
+    Style { spread: false, timer: 0, force: 0, discard: 0, again: 1, crash: 3, restart: 60, mark: 4, reads: 10, ..PLAIN },
     // logs are trimmed soon, and messages come late
     Style { again: 40, force: 15, discard: 60, ..PLAIN },
     // cuts and crashes
     Style { crash: 6, restart: 25, cut: 40, ..PLAIN },
-    Style { transactions: 2, crash: 6, restart: 25, cut: 60, ..PLAIN },
-    Style { spread: false, discard: 2, crash: 20, restart: 25, cut: 15, ..PLAIN },
+    Style { transactions: 2, crash: 6, restart: 25, reads: 50, cut: 60, ..PLAIN },
+    Style { spread: false, discard: 2, crash: 20, restart: 25, mark: 4, reads: 10, cut: 15, ..PLAIN },
+    // many that only read: some early, all late
+    Style { mark: 60, reads: 60, timer: 2, ..PLAIN },
+    Style { mark: 5, reads: 100, again: 20, cut: 10, ..PLAIN },
     // refusals
     Style { transactions: 5, cut: 10, fault: 35, ..PLAIN },
     Style { transactions: 4, fault: 10, wild: 60, ..PLAIN },
@@ -67,6 +75,10 @@ pub const STYLES: [Style; 13] = [
 /// A list of so many events.
 pub fn list(rng: &mut Rng, style: &Style, length: usize) -> Vec<u8> {
     let opens = opens(rng, style);
+    let mut readers = [0; 8];
+    for open in &opens {
+        readers[open[1] as usize] = some_of(rng, open[2], style.reads);
+    }
     let pace = if style.spread { length / (style.transactions + 1) } else { 1 };
     let mut run = Run::fresh();
     let mut list = Vec::with_capacity(6 * length);
@@ -77,7 +89,7 @@ pub fn list(rng: &mut Rng, style: &Style, length: usize) -> Vec<u8> {
         } else {
             match due {
                 Some(&open) if run.judge(&open).is_ok() => open,
-                _ => good_event(rng, &run, style),
+                _ => good_event(rng, &run, &readers, style),
             }
         };
         let event = if rng.percent(style.fault) { faulty(rng, &run, event) } else { event };
@@ -111,9 +123,10 @@ fn opens(rng: &mut Rng, style: &Style) -> Vec<Event> {
 /// The place among the weights.
 const DELIVER: usize = 1;
 
-/// An event that the run accepts.
-fn good_event(rng: &mut Rng, run: &Run, style: &Style) -> Event {
-    let weights = [20, style.deliver, style.again, style.timer, style.force, style.discard, style.crash, style.restart];
+/// An event that the run accepts; `readers` are the members of each transaction that are to be marked.
+fn good_event(rng: &mut Rng, run: &Run, readers: &[Mask; 8], style: &Style) -> Event {
+    let Style { deliver, again, timer, force, discard, crash, restart, mark, .. } = *style;
+    let weights = [20, deliver, again, timer, force, discard, crash, restart, mark];
     let total: usize = weights.iter().sum();
     for _ in 0..30 {
         let mut at = rng.below(total);
@@ -126,7 +139,7 @@ fn good_event(rng: &mut Rng, run: &Run, style: &Style) -> Event {
         let tries = if choice == Some(DELIVER) { 8 } else { 1 };
         let mut found = None;
         for _ in 0..tries {
-            let event = proposed(rng, run, choice.unwrap());
+            let event = proposed(rng, run, readers, choice.unwrap());
             found = event.and_then(|event| Some((event, run.judge(&event).ok()?))).or(found);
             if found.as_ref().is_some_and(|(_, plan)| leads_on(run, plan)) {
                 break;
@@ -144,28 +157,20 @@ fn good_event(rng: &mut Rng, run: &Run, style: &Style) -> Event {
     }
 }
 
-/// Does the row change a phase, or do more than to send what was sent before?
-fn leads_on(run: &Run, plan: &Plan) -> bool {
-    let Plan::Row { site, effects, phases, .. } = plan else { return true };
-    let moved = |h: u8, phase: Phase| run.transactions[h as usize].as_ref().map(|t| t.phase(*site)) != Some(phase);
-    let new = |effect: &Effect| !matches!(effect, Effect::Send(message) if run.sent[message.number() as usize]);
-    effects.iter().any(|(_, effect)| new(effect)) || phases.iter().any(|&(h, phase)| moved(h, phase))
-}
-
 /// An event of a kind, which the run may refuse.
-fn proposed(rng: &mut Rng, run: &Run, choice: usize) -> Option<Event> {
+fn proposed(rng: &mut Rng, run: &Run, readers: &[Mask; 8], choice: usize) -> Option<Event> {
     let opened = run.transactions.iter().flatten().count();
     let any = |rng: &mut Rng| run.transactions.iter().flatten().nth(rng.below(opened.max(1)));
     match choice {
         0 => {
             let t = any(rng)?;
-            (t.coordinator == CoordinatorPhase::Open).then_some([1, t.names.transaction, 0, 0, NO_CUT, 0])
+            (t.coordinator.phase == CoordinatorPhase::Open).then_some([1, t.names.transaction, 0, 0, NO_CUT, 0])
         }
         1 | 2 => {
             let t = any(rng)?;
             let b = member(rng, t.names.members);
             let sent = |kind: u8| run.sent[Message { transaction: t.names.transaction, participant: b, kind }.number() as usize];
-            let kind = (0..4).map(|_| rng.below(7) as u8).find(|&kind| sent(kind))?;
+            let kind = (0..4).map(|_| rng.below(8) as u8).find(|&kind| sent(kind))?;
             Some([2, t.names.transaction, b, kind, NO_CUT, 0])
         }
         3 | 5 => {
@@ -181,9 +186,16 @@ fn proposed(rng: &mut Rng, run: &Run, choice: usize) -> Option<Event> {
             let unforced = unforced(site);
             Some([6, 0, site, 0, NO_CUT, some_keep(rng, unforced)])
         }
-        _ => {
+        7 => {
             let site = some_site(rng);
             (!run.up[site as usize]).then_some([7, 0, site, 0, NO_CUT, 0])
+        }
+        _ => {
+            let t = any(rng)?;
+            let Names { transaction, members, .. } = t.names;
+            let wanted = readers[transaction as usize] & !t.marked;
+            let of = if wanted != 0 && rng.percent(95) { wanted } else { members };
+            rng.percent(if wanted != 0 { 100 } else { 5 }).then_some([8, transaction, member(rng, of), 0, NO_CUT, 0])
         }
     }
 }
@@ -227,11 +239,12 @@ fn faulty(rng: &mut Rng, run: &Run, mut event: Event) -> Event {
             let (h, members) = opened.map_or((rng.below(8) as u8, 255), |t| (t.names.transaction, t.names.members));
             let b = if rng.percent(80) { member(rng, members) } else { 1 + rng.below(8) as u8 };
             let site = if rng.percent(40) { COORDINATOR } else { b };
-            event = match rng.below(8) as u8 {
+            event = match rng.below(9) as u8 {
                 0 => [0, h, members, 0, NO_CUT, 0],
                 1 => [1, h, 0, 0, NO_CUT, 0],
-                2 => [2, h, b, rng.below(7) as u8, NO_CUT, 0],
+                2 => [2, h, b, rng.below(8) as u8, NO_CUT, 0],
                 code @ (3 | 5) => [code, h, site, 0, NO_CUT, 0],
+                8 => [8, h, b, 0, NO_CUT, 0],
                 code => [code, 0, site, 0, NO_CUT, 0],
             };
             if rng.percent(15) {

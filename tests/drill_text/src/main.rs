@@ -10,7 +10,7 @@ mod library;
 mod lists;
 
 use coverage::Coverage;
-use directed::{full_logs, late_votes, long_restarts, many_unforced};
+use directed::{full_logs, late_votes, long_restarts, many_unforced, only_read};
 use fenced::SPACE;
 use library::{fail, text_of, Library};
 use lists::{list, Style, STYLES};
@@ -99,7 +99,7 @@ fn vectors(trial: &mut Trial) {
             fail(&format!("vectors: not '{}'", line.trim()), &input, SPACE);
         }
     }
-    assert_eq!((trial.coverage.lists, claims), (117, [47, 87, 2]), "vectors: lists and claims");
+    assert_eq!((trial.coverage.lists, claims), (183, [113, 87, 2]), "vectors: lists and claims");
 }
 
 /// Lists whose last event is broken, at every length; no event at all.
@@ -133,7 +133,8 @@ fn limit(trial: &mut Trial) {
     assert!(drill(&vec![0; BYTES + 3]).len() == 10_000);
 }
 
-/// Restarts with all that there can be to do, crashes with many unforced records, votes that come late, full logs.
+/// Restarts with all that there can be to do, crashes with many unforced records, votes that come late, full logs, members
+/// that only read.
 fn deep(trial: &mut Trial) {
     for i in 0..60 {
         let input = long_restarts(&mut trial.rng, i % 2 == 0);
@@ -146,6 +147,10 @@ fn deep(trial: &mut Trial) {
         trial.list(&input, i);
         let input = full_logs(&mut trial.rng, [100, 0, 70][i % 3]);
         trial.list(&input, i);
+        for _ in 0..5 {
+            let input = only_read(&mut trial.rng);
+            trial.list(&input, i);
+        }
     }
 }
 

@@ -33,6 +33,7 @@ pub const COMMIT: u8 = 3;
 pub const ABORT: u8 = 4;
 pub const COMMIT_ACK: u8 = 5;
 pub const ABORT_ACK: u8 = 6;
+pub const READ_ONLY: u8 = 7;
 
 /// Prepare, Commit and Abort go from the coordinator to a participant, the others back.
 pub fn goes_to_participant(kind: u8) -> bool {
@@ -47,23 +48,31 @@ pub struct Message {
     pub kind: u8,
 }
 
-pub const MESSAGES: usize = 448;
+pub const MESSAGES: usize = 512;
+/// The first number of a read-only vote; those of the other kinds are below.
+const READ_ONLY_VOTES: u16 = 448;
 
 impl Message {
     pub fn number(self) -> u16 {
-        56 * self.transaction as u16 + 7 * (self.participant as u16 - 1) + self.kind as u16
+        let Message { transaction, participant, kind } = self;
+        let (h, b) = (transaction as u16, participant as u16 - 1);
+        match kind {
+            READ_ONLY => READ_ONLY_VOTES + 8 * h + b,
+            _ => 56 * h + 7 * b + kind as u16,
+        }
     }
 
-    /// 26: number above 447.
+    /// 26: number above 511.
     pub fn from_number(number: u16) -> Result<Message, u8> {
-        if number > 447 {
-            return Err(26);
-        }
-        Ok(Message {
-            transaction: (number / 56) as u8,
-            participant: (number % 56 / 7) as u8 + 1,
-            kind: (number % 7) as u8,
-        })
+        let (transaction, b, kind) = match number {
+            0..READ_ONLY_VOTES => (number / 56, number % 56 / 7, number % 7),
+            READ_ONLY_VOTES..=511 => {
+                let vote = number - READ_ONLY_VOTES;
+                (vote / 8, vote % 8, READ_ONLY as u16)
+            }
+            _ => return Err(26),
+        };
+        Ok(Message { transaction: transaction as u8, participant: b as u8 + 1, kind: kind as u8 })
     }
 }
 
@@ -162,18 +171,16 @@ impl LogRecord {
 /// Every beginning of a legal row is legal, so a reader can ask record by record.
 pub fn legal_sequence(of_one: &[LogRecord]) -> bool {
     use LogRecord::*;
-    let has_pra = |members: Mask, presume_commit: Mask| members & !presume_commit != 0;
     match *of_one {
         [] => true,
         // coordinator
         [Init { .. }] | [Commit { .. }] | [CommitEnd { .. }] | [AbortEnd { .. }] => true,
         [Init { .. }, AbortEnd { .. }] => true,
-        [Commit { members, presume_commit, .. }, CommitEnd { .. }] => has_pra(members, presume_commit),
-        [Init { members: m1, presume_commit: p1, .. }, Commit { members: m2, presume_commit: p2, .. }] => {
-            m1 == m2 && p1 == p2
-        }
-        [Init { members: m1, presume_commit: p1, .. }, Commit { members: m2, presume_commit: p2, .. }, CommitEnd { .. }] => {
-            m1 == m2 && p1 == p2 && has_pra(m2, p2)
+        // a member that presumes abort
+        [Commit { members, presume_commit, .. }, CommitEnd { .. }] => members & !presume_commit != 0,
+        // Commit names a part of Init's members, each with the presumption that it has there
+        [Init { members: m1, presume_commit: p1, .. }, Commit { members: m2, presume_commit: p2, .. }, ..] => {
+            is_part(m2, m1) && p2 == p1 & m2 && legal_sequence(&of_one[1..])
         }
         // participant
         [Prepared { .. }] | [Committed { .. }] | [Aborted { .. }] => true,
@@ -302,15 +309,17 @@ mod tests {
 
     #[test]
     fn message_numbers_round_trip() {
-        for n in 0..=447 {
+        for n in 0..=511 {
             let m = Message::from_number(n).unwrap();
-            assert!(m.transaction < 8 && (1..=8).contains(&m.participant) && m.kind < 7);
+            assert!(m.transaction < 8 && (1..=8).contains(&m.participant) && (m.kind == 7) == (n > 447) && m.kind < 8);
             assert_eq!(m.number(), n);
         }
-        for n in 448..=65535 {
+        for n in 512..=65535 {
             assert_eq!(Message::from_number(n), Err(26));
         }
-        assert_eq!(Message::from_number(447), Ok(Message { transaction: 7, participant: 8, kind: 6 }));
+        for (n, transaction, participant, kind) in [(447, 7, 8, 6), (448, 0, 1, 7), (456, 1, 1, 7), (511, 7, 8, 7)] {
+            assert_eq!(Message::from_number(n), Ok(Message { transaction, participant, kind }));
+        }
     }
 
     #[test]
@@ -356,6 +365,23 @@ mod tests {
             assert_eq!(write_image(site as u64, &[bytes.to_vec()], &mut [], 0), Err(number));
         }
         assert!(LogRecord::parse(0, &[2, 7, 3, 0]).is_ok());
+    }
+
+    #[test]
+    fn commit_keeps_a_part_of_init() {
+        let row = |p1, m2, p2, end: bool| {
+            let init = LogRecord::Init { transaction: 0, members: 7, presume_commit: p1 };
+            let commit = LogRecord::Commit { transaction: 0, members: m2, presume_commit: p2 };
+            let end = end.then_some(LogRecord::CommitEnd { transaction: 0 });
+            legal_sequence(&[init, commit].into_iter().chain(end).collect::<Vec<_>>())
+        };
+        for (m2, p2) in [(7, 3), (6, 2), (5, 1), (4, 0), (3, 3), (1, 1)] {
+            assert!(row(3, m2, p2, false));
+            assert_eq!(row(3, m2, p2, true), m2 != p2, "members {m2}");
+        }
+        for (m2, p2) in [(7, 1), (7, 7), (7, 0), (6, 0), (6, 6), (5, 0), (5, 4), (8, 0), (15, 3), (2, 0)] {
+            assert!(!row(3, m2, p2, false) && !row(3, m2, p2, true), "members {m2}, presume_commit {p2}");
+        }
     }
 
     #[test]

@@ -32,7 +32,7 @@ impl Run {
         let mut lines = Vec::new();
         for t in self.transactions.iter().flatten() {
             let h = t.names.transaction;
-            lines.push(format!("H {} {} {}", h, t.coordinator.number(), t.coordinator.waiting()));
+            lines.push(format!("H {} {} {}", h, t.coordinator.phase.number(), t.coordinator.phase.waiting()));
             let mut line = format!("B {h}");
             for b in 1..=PARTICIPANTS {
                 if has(t.names.members, b) {

@@ -2,15 +2,17 @@
 
 use reference::codec::*;
 use reference::drill::*;
+use reference::facts;
 use reference::joint::*;
 use reference::monitor;
 use reference::numbers::*;
 use reference::random::*;
 use reference::random_images::*;
 use reference::random_steps::*;
+use reference::read_only;
 use std::io::{self, BufRead, BufWriter, Write};
 
-const USAGE: &str = "usage: reference drill|dump|read|write|step|message|safe|facts
+const USAGE: &str = "usage: reference drill|dump|read|write|step|message|safe|facts|met
        reference random SEED COUNT MAXLEN
        reference random-images SEED COUNT
        reference random-steps SEED COUNT";
@@ -90,9 +92,9 @@ fn answer_write(line: &str) -> Option<String> {
     })
 }
 
-/// Nine numbers; one too large for 64 bits is as good as any other too large one.
+/// Eleven numbers; one too large for 64 bits is as good as any other too large one. The eight bytes of the call.
 fn answer_step(line: &str) -> Option<String> {
-    let mut arguments = [0u64; 9];
+    let mut arguments = [0u64; ARGUMENTS];
     let mut tokens = line.split_whitespace();
     for a in &mut arguments {
         let token = tokens.next()?;
@@ -104,11 +106,7 @@ fn answer_step(line: &str) -> Option<String> {
     if tokens.next().is_some() {
         return None;
     }
-    let s = step_on_numbers(arguments);
-    Some(format!(
-        "{} {} {} {} {} {} {} {}",
-        s.answer, s.phase, s.waiting, s.record, s.forced, s.entered, s.message, s.to
-    ))
+    Some(step_on_numbers(arguments).bytes().map(|byte| byte.to_string()).join(" "))
 }
 
 /// A message number: `transaction participant kind`, or 26.
@@ -136,6 +134,16 @@ fn answer_lines(answer: impl Fn(&str) -> Option<String>) -> io::Result<()> {
     out.flush()
 }
 
+/// What of Job 3 all the lists meet: `can count name`, and `cannot count name` for what none can meet.
+fn answer_met() -> io::Result<()> {
+    let lines: Vec<String> = io::stdin().lock().lines().collect::<io::Result<_>>()?;
+    let lists: Vec<Vec<u8>> = lines.iter().filter_map(|line| hex(line)).collect();
+    for (name, can, count) in read_only::counted(lists.iter().map(Vec::as_slice)) {
+        println!("{} {count} {name}", if can { "can" } else { "cannot" });
+    }
+    Ok(())
+}
+
 fn generate(count: u64, seed: u64, one: impl Fn(&mut Rng) -> String) -> io::Result<()> {
     let mut out = BufWriter::new(io::stdout().lock());
     let mut rng = Rng::new(seed);
@@ -157,7 +165,8 @@ fn main() -> io::Result<()> {
         (["step"], _) => answer_lines(answer_step),
         (["message"], _) => answer_lines(answer_message),
         (["safe"], _) => answer_lines(|line| Some(verdict(monitor::safe(&hex(line)?)))),
-        (["facts"], _) => answer_lines(|line| Some(verdict(monitor::facts(&hex(line)?)))),
+        (["facts"], _) => answer_lines(|line| Some(verdict(facts::facts(&hex(line)?)))),
+        (["met"], _) => answer_met(),
         (["random", _, _, _], &[seed, count, most]) => generate(count, seed, |rng| {
             let list: Vec<String> = event_list(rng, most as usize).iter().map(|e| to_hex(e)).collect();
             list.join("; ")

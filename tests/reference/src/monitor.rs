@@ -15,59 +15,119 @@ struct Reply {
     kind: u8,
 }
 
-/// None: demand 3 holds; else what is broken.
-pub fn check(history: &[Happening]) -> Result<(), String> {
-    let mut logs: [Log; 9] = Default::default();
-    let mut names: [Option<Names>; 8] = [None; 8];
-    // The members that sent a Yes while record 5 was stable.
-    let mut voted: [Mask; 8] = [0; 8];
-    let mut entered: [Entries; 8] = Default::default();
-    let mut commit_was_stable = [false; 8];
-    let mut replies: Vec<Reply> = Vec::new();
-    let mut event = 0;
-    // Set while the event is such a Yes.
-    let mut doubt: Option<Message> = None;
-    for happening in history {
-        match *happening {
-            Happening::Event { number, yes } => {
-                event = number;
-                doubt = None;
-                if let Some((message, CoordinatorPhase::Unknown)) = yes {
-                    let stable = logs[message.participant as usize].stable_of(message.transaction);
-                    let holds = |kind| stable.iter().any(|r| r.kind() == kind);
-                    if holds(5) && !holds(6) && !holds(7) {
-                        doubt = Some(message);
-                    }
+/// What the history has shown of an opened transaction.
+#[derive(Clone, Copy)]
+struct Seen {
+    names: Names,
+    /// The members that sent a Yes while record 5 was stable.
+    voted: Mask,
+    /// Those whose read-only vote was delivered to the coordinator in Collecting.
+    taken_out: Mask,
+    /// Those that an accepted event 8 has marked.
+    marked: Mask,
+    /// The masks of the Commit record that was appended.
+    commit: Option<(Mask, Mask)>,
+    commit_was_stable: bool,
+    entered: Entries,
+}
+
+impl Seen {
+    fn opened(names: Names) -> Seen {
+        let (commit, entered) = (None, Entries::default());
+        Seen { names, voted: 0, taken_out: 0, marked: 0, commit, commit_was_stable: false, entered }
+    }
+
+    /// An entry: of one outcome alone, and of commit after all votes but those of the members taken out, which are marked.
+    fn enter(&mut self, outcome: Outcome) -> Result<(), &'static str> {
+        match outcome {
+            Outcome::Abort => self.entered.abort = true,
+            Outcome::Commit => {
+                self.entered.commit = true;
+                if !is_part(self.names.members & !self.taken_out, self.voted) {
+                    return Err("commit entered before every member voted that is not taken out");
+                }
+                if !is_part(self.names.members & !self.marked, self.voted) {
+                    return Err("commit entered before every member voted that is not marked");
                 }
             }
-            Happening::Opened(opened) => names[opened.transaction as usize] = Some(opened),
-            Happening::Did { site, transaction, effect } => match effect {
-                Effect::Append(record) => logs[site as usize].append(record),
-                Effect::Force => logs[site as usize].force(),
-                Effect::Enter(outcome) => {
-                    let h = transaction.expect("an entry has a transaction") as usize;
-                    let members = names[h].expect("opened").members;
-                    match outcome {
-                        Outcome::Commit => {
-                            if !is_part(members, voted[h]) {
-                                return Err(format!(
-                                    "event {event}: commit of {h} entered at site {site} before every member voted"
-                                ));
-                            }
-                            entered[h].commit = true;
+        }
+        if self.entered.commit && self.entered.abort {
+            return Err("entries of commit and of abort");
+        }
+        Ok(())
+    }
+
+    /// The Commit record names those that were never marked, and it is theirs that voted.
+    fn at_the_end(&self) -> Result<(), &'static str> {
+        let Names { members, presume_commit, .. } = self.names.without(self.marked);
+        match self.commit {
+            Some(masks) if masks != (members, presume_commit) => Err("Commit names others than those never marked"),
+            Some(_) if self.voted & self.names.members != members => {
+                Err("Commit, and others voted than those never marked")
+            }
+            None if self.entered.commit => Err("commit entered without a record"),
+            _ => Ok(()),
+        }
+    }
+}
+
+/// Rebuilds the logs: what one happening does to them.
+pub fn rebuild(logs: &mut [Log; 9], happening: &Happening) {
+    match *happening {
+        Happening::Did { site, effect: Effect::Append(record), .. } => logs[site as usize].append(record),
+        Happening::Did { site, effect: Effect::Force, .. } => logs[site as usize].force(),
+        Happening::Down { site, keep } => logs[site as usize].go_down(keep),
+        Happening::Dropped { site, transaction } => logs[site as usize].drop_oldest(transaction),
+        _ => {}
+    }
+}
+
+/// Ok: demand 3 holds; else what is broken.
+pub fn check(history: &[Happening]) -> Result<(), String> {
+    let mut logs: [Log; 9] = Default::default();
+    let mut seen: [Option<Seen>; 8] = [None; 8];
+    let mut replies: Vec<Reply> = Vec::new();
+    let mut event = 0;
+    // Set while the event is the Yes of a participant in doubt, and the coordinator was Unknown.
+    let mut doubt: Option<Message> = None;
+    for happening in history {
+        rebuild(&mut logs, happening);
+        match *happening {
+            Happening::Event { number, delivered } => {
+                event = number;
+                doubt = None;
+                match delivered {
+                    Some((message @ Message { kind: YES, .. }, CoordinatorPhase::Unknown)) => {
+                        let stable = logs[message.participant as usize].stable_of(message.transaction);
+                        let holds = |kind| stable.iter().any(|r| r.kind() == kind);
+                        if holds(5) && !holds(6) && !holds(7) {
+                            doubt = Some(message);
                         }
-                        Outcome::Abort => entered[h].abort = true,
                     }
-                    if entered[h].commit && entered[h].abort {
-                        return Err(format!("event {event}: {h} has entries of commit and of abort"));
+                    Some((Message { transaction, participant, kind: READ_ONLY }, CoordinatorPhase::Collecting(_))) => {
+                        of(&mut seen, transaction).taken_out |= bit(participant);
                     }
+                    _ => {}
+                }
+            }
+            Happening::Opened(names) => seen[names.transaction as usize] = Some(Seen::opened(names)),
+            Happening::Marked { transaction, participant } => of(&mut seen, transaction).marked |= bit(participant),
+            Happening::Did { site, transaction, effect } => match effect {
+                Effect::Append(LogRecord::Commit { transaction, members, presume_commit }) => {
+                    of(&mut seen, transaction).commit = Some((members, presume_commit));
+                }
+                Effect::Append(_) | Effect::Force => {}
+                Effect::Enter(outcome) => {
+                    let h = transaction.expect("an entry has a transaction");
+                    let entered = of(&mut seen, h).enter(outcome);
+                    entered.map_err(|what| format!("event {event}: {h} at site {site}: {what}"))?;
                 }
                 Effect::Send(message) => {
                     let Message { transaction, participant, kind } = message;
                     if kind == YES {
                         let stable = logs[site as usize].stable_of(transaction);
                         if site == participant && stable.iter().any(|r| r.kind() == 5) {
-                            voted[transaction as usize] |= bit(participant);
+                            of(&mut seen, transaction).voted |= bit(participant);
                         }
                     }
                     if let Some(yes) = doubt {
@@ -78,26 +138,31 @@ pub fn check(history: &[Happening]) -> Result<(), String> {
                     }
                 }
             },
-            Happening::Down { site, keep } => logs[site as usize].go_down(keep),
-            Happening::Dropped { site, transaction } => logs[site as usize].drop_oldest(transaction),
+            Happening::Down { .. } | Happening::Dropped { .. } => {}
         }
         for record in logs[COORDINATOR as usize].stable_part() {
             if record.kind() == 2 {
-                commit_was_stable[record.transaction() as usize] = true;
+                of(&mut seen, record.transaction()).commit_was_stable = true;
             }
         }
     }
-    // Replies are measured by the outcome of the whole list.
-    for reply in replies {
-        let outcome = if commit_was_stable[reply.transaction as usize] { COMMIT } else { ABORT };
-        if reply.kind != outcome {
+    // Replies are measured by the outcome of the whole list, and so are the marks.
+    for Reply { event, transaction, participant, kind } in replies {
+        let outcome = if of(&mut seen, transaction).commit_was_stable { COMMIT } else { ABORT };
+        if kind != outcome {
             return Err(format!(
-                "event {}: reply on {} to participant {} is not its outcome",
-                reply.event, reply.transaction, reply.participant
+                "event {event}: reply on {transaction} to participant {participant} is not its outcome"
             ));
         }
     }
+    for seen in seen.iter().flatten() {
+        seen.at_the_end().map_err(|what| format!("{}: {what}", seen.names.transaction))?;
+    }
     Ok(())
+}
+
+fn of(seen: &mut [Option<Seen>; 8], transaction: u8) -> &mut Seen {
+    seen[transaction as usize].as_mut().expect("opened")
 }
 
 /// Runs a list and checks it.
@@ -109,111 +174,95 @@ pub fn safe(input: &[u8]) -> Result<(), String> {
     check(&run.history)
 }
 
-/// Facts of every run that events can reach, asked after every event of a list.
-pub fn facts(input: &[u8]) -> Result<(), String> {
-    let mut run = Run::fresh();
-    let mut commit_was_stable = [false; 8];
-    for (i, event) in drill_events(input).enumerate() {
-        let seen = run.history.len();
-        run.event(event);
-        // Commit is forced in the row that appends it, or kept.
-        for happening in &run.history[seen..] {
-            if let Happening::Did { effect: Effect::Append(LogRecord::Commit { transaction, .. }), .. } = happening {
-                let stable = run.logs[0].stable_of(*transaction);
-                commit_was_stable[*transaction as usize] |= stable.iter().any(|r| r.kind() == 2);
-            }
-        }
-        facts_now(&run, &commit_was_stable).map_err(|e| format!("after event {}: {}", i + 1, e))?;
-    }
-    Ok(())
-}
+#[cfg(test)]
+mod tests {
+    use super::*;
 
-fn facts_now(run: &Run, commit_was_stable: &[bool; 8]) -> Result<(), String> {
-    let fail = |ok: bool, what: &str, h: u8, site: u8| {
-        if ok {
-            Ok(())
-        } else {
-            Err(format!("{what} (transaction {h}, site {site})"))
-        }
-    };
-    for site in 0..SITES {
-        let log = &run.logs[site as usize];
-        fail(run.up[site as usize] || log.unforced() == 0, "a down site has unforced records", 0, site)?;
-        fail(log.records[log.stable..].iter().all(|r| r.kind() != 5), "an unforced vote", 0, site)?;
-        let bytes = image(site, &log.records);
-        fail(read_image(&bytes) == Ok((site, log.records.clone())), "whole log not a legal image", 0, site)?;
-        let bytes = image(site, log.stable_part());
-        fail(read_image(&bytes) == Ok((site, log.stable_part().to_vec())), "stable log not a legal image", 0, site)?;
+    const H: u8 = 2;
+    const OPENED: Names = Names { transaction: H, members: 3, presume_commit: 1 };
+
+    fn did(site: u8, effect: Effect) -> Happening {
+        Happening::Did { site, transaction: Some(H), effect }
     }
-    for t in run.transactions.iter().flatten() {
-        let h = t.names.transaction;
-        let sent = |b: u8, k: u8| run.sent[Message { transaction: h, participant: b, kind: k }.number() as usize];
-        let of = |site: u8| -> Vec<u8> {
-            let log = &run.logs[site as usize];
-            log.records.iter().filter(|r| r.transaction() == h).map(|r| r.kind()).collect()
-        };
-        let stable_of =
-            |site: u8| -> Vec<u8> { run.logs[site as usize].stable_of(h).iter().map(|r| r.kind()).collect() };
-        let all = of(0);
-        let stable = stable_of(0);
-        fail(all.len() <= 3, "more than 3 records", h, 0)?;
-        match t.coordinator {
-            CoordinatorPhase::Open => {
-                let none = (1..=8).all(|b| (0..7).all(|k| !sent(b, k)));
-                fail(none && all.is_empty(), "Open with a message or a record", h, 0)?;
-            }
-            CoordinatorPhase::Collecting(w) => {
-                let right: &[u8] = if t.names.presume_commit != 0 { &[1] } else { &[] };
-                fail(w != 0 && all == right && stable == right, "Collecting: log", h, 0)?;
-                for b in each(t.names.members) {
-                    fail((3..7).all(|k| !sent(b, k)), "Collecting: an outcome or ack was sent", h, b)?;
-                    if sent(b, YES) {
-                        fail(stable_of(b) == [5] && !sent(b, NO), "Collecting: voter's log", h, b)?;
-                    }
-                }
-            }
-            CoordinatorPhase::Committing(w) => {
-                fail(w != 0 && is_part(w, t.names.presume_abort()), "Committing: waiting", h, 0)?;
-                fail(stable.contains(&2) && !all.contains(&3), "Committing: log", h, 0)?;
-            }
-            CoordinatorPhase::Aborting(w) => {
-                fail(w != 0 && is_part(w, t.names.presume_commit), "Aborting: waiting", h, 0)?;
-                fail(all == [1], "Aborting: log", h, 0)?;
-            }
-            CoordinatorPhase::Unknown if run.up[0] => {
-                fail(!all.contains(&1) || all.contains(&2) || all.contains(&4), "Unknown: Init alone", h, 0)?;
-                let pra = t.names.presume_abort() != 0;
-                fail(!pra || !all.contains(&2) || all.contains(&3), "Unknown: Commit without end", h, 0)?;
-                for b in each(t.names.members) {
-                    if stable_of(b) == [5] {
-                        let commits = has(t.names.presume_commit, b);
-                        fail(commits == commit_was_stable[h as usize], "Unknown: presumption not the outcome", h, b)?;
-                    }
-                }
-            }
-            CoordinatorPhase::Unknown => {}
-        }
-        if run.up[0] && run.logs[0].is_closed(h) {
-            fail(t.coordinator == CoordinatorPhase::Unknown, "discard allowed, phase not Unknown", h, 0)?;
-        }
-        for b in each(t.names.members) {
-            let all = of(b);
-            fail(all.len() <= 2, "more than 2 records", h, b)?;
-            let ok = match t.participants[b as usize - 1] {
-                ParticipantPhase::Working => all.is_empty() && !sent(b, YES) && !sent(b, NO),
-                ParticipantPhase::Prepared => all == [5] && stable_of(b) == [5],
-                ParticipantPhase::Committed => all.last() == Some(&6),
-                ParticipantPhase::Aborted => all.last() == Some(&7),
-                ParticipantPhase::Unknown => !run.up[b as usize] || all.is_empty(),
-            };
-            fail(ok, "participant's log", h, b)?;
-            let presumes_commit = has(t.names.presume_commit, b);
-            fail(!sent(b, COMMIT_ACK) || !presumes_commit, "CommitAck of a PrC participant", h, b)?;
-            fail(!sent(b, ABORT_ACK) || presumes_commit, "AbortAck of a PrA participant", h, b)?;
-            if sent(b, YES) && sent(b, NO) {
-                fail(sent(b, COMMIT) || sent(b, ABORT), "Yes and No without an outcome message", h, b)?;
-            }
-        }
+
+    fn message(participant: u8, kind: u8) -> Message {
+        Message { transaction: H, participant, kind }
     }
-    Ok(())
+
+    fn delivered(participant: u8, kind: u8, phase: CoordinatorPhase) -> Happening {
+        Happening::Event { number: 1, delivered: Some((message(participant, kind), phase)) }
+    }
+
+    /// Record 5, its force and a Yes.
+    fn voted(b: u8) -> [Happening; 3] {
+        let vote = LogRecord::Prepared { transaction: H, presumption: OPENED.presumption(b) };
+        [Effect::Append(vote), Effect::Force, Effect::Send(message(b, YES))].map(|effect| did(b, effect))
+    }
+
+    /// Participant 2 is marked, and its vote taken.
+    fn taken_out() -> [Happening; 2] {
+        let collecting = CoordinatorPhase::Collecting(3);
+        [Happening::Marked { transaction: H, participant: 2 }, delivered(2, READ_ONLY, collecting)]
+    }
+
+    /// Commit of these members, forced and entered.
+    fn commits(members: Mask, presume_commit: Mask) -> [Happening; 3] {
+        let record = LogRecord::Commit { transaction: H, members, presume_commit };
+        [Effect::Append(record), Effect::Force, Effect::Enter(Outcome::Commit)].map(|effect| did(0, effect))
+    }
+
+    fn verdict(parts: &[&[Happening]]) -> Result<(), String> {
+        check(&[&[Happening::Opened(OPENED)], parts.concat().as_slice()].concat())
+    }
+
+    fn broken(parts: &[&[Happening]], by: &str) {
+        let verdict = verdict(parts);
+        assert!(verdict.as_ref().is_err_and(|what| what.contains(by)), "{verdict:?} instead of: {by}");
+    }
+
+    #[test]
+    fn commit_asks_for_votes() {
+        assert_eq!(verdict(&[&voted(1), &voted(2), &commits(3, 1)]), Ok(()));
+        assert_eq!(verdict(&[&voted(1), &taken_out(), &commits(1, 1)]), Ok(()));
+        broken(&[&voted(1), &commits(3, 1)], "not taken out");
+        broken(&[&voted(1), &commits(3, 1), &voted(2)], "not taken out");
+        // a Yes from a record that is not stable
+        let [vote, force, yes] = voted(2);
+        broken(&[&voted(1), &[vote, yes, force], &commits(3, 1)], "not taken out");
+        // a mark alone, and a read-only vote that comes to another phase or too late
+        let [mark, vote] = taken_out();
+        broken(&[&voted(1), &[mark], &commits(1, 1)], "not taken out");
+        broken(
+            &[&voted(1), &[mark, delivered(2, READ_ONLY, CoordinatorPhase::Unknown)], &commits(1, 1)],
+            "not taken out",
+        );
+        broken(&[&voted(1), &[mark], &commits(1, 1), &[vote]], "not taken out");
+        broken(&[&voted(1), &[vote], &commits(1, 1)], "not marked");
+    }
+
+    #[test]
+    fn commit_names_those_never_marked() {
+        broken(&[&voted(1), &taken_out(), &commits(3, 1)], "Commit names others");
+        broken(&[&voted(1), &taken_out(), &commits(1, 0)], "Commit names others");
+        broken(&[&voted(1), &voted(2), &commits(1, 1)], "Commit names others");
+        broken(&[&voted(1), &voted(2), &commits(3, 1), &taken_out()], "Commit names others");
+        broken(&[&voted(1), &taken_out(), &commits(1, 1), &voted(2)], "others voted");
+        broken(&[&voted(1), &voted(2), &commits(3, 1)[2..]], "without a record");
+    }
+
+    #[test]
+    fn one_outcome_and_its_replies() {
+        let abort = [did(1, Effect::Enter(Outcome::Abort))];
+        broken(&[&voted(1), &voted(2), &commits(3, 1), &abort], "entries of commit and of abort");
+        let reply = |phase, kind| [delivered(1, YES, phase), did(0, Effect::Send(message(1, kind)))];
+        let unknown = CoordinatorPhase::Unknown;
+        assert_eq!(verdict(&[&voted(1), &reply(unknown, ABORT)]), Ok(()));
+        broken(&[&voted(1), &reply(unknown, COMMIT)], "not its outcome");
+        assert_eq!(verdict(&[&voted(1), &voted(2), &commits(3, 1), &reply(unknown, COMMIT)]), Ok(()));
+        broken(&[&voted(1), &voted(2), &commits(3, 1), &reply(unknown, ABORT)], "not its outcome");
+        // the outcome is that of the whole list; another phase, or a participant not in doubt, is no matter
+        broken(&[&voted(1), &voted(2), &reply(unknown, ABORT), &commits(3, 1)], "not its outcome");
+        assert_eq!(verdict(&[&voted(1), &reply(CoordinatorPhase::Aborting(1), COMMIT)]), Ok(()));
+        assert_eq!(verdict(&[&reply(unknown, COMMIT)]), Ok(()));
+    }
 }

@@ -2,6 +2,7 @@
 
 use crate::codec::*;
 use crate::joint::*;
+use crate::step::Effect;
 
 /// xorshift64*.
 pub struct Rng(u64);
@@ -53,6 +54,9 @@ struct Style {
     discard: usize,
     crash: usize,
     restart: usize,
+    /// Weight of a mark, and of a hundred members how many are to be marked; the others are once in a while.
+    mark: usize,
+    reads: usize,
 }
 
 /// One event list of 1 to `most` events.
@@ -72,6 +76,8 @@ pub fn event_list(rng: &mut Rng, most: usize) -> Vec<Event> {
         discard: rng.pick(&[1, 5, 15]),
         crash: if patient { 1 } else { rng.pick(&[2, 6]) },
         restart: rng.pick(&[5, 25]),
+        mark: rng.pick(&[0, 5, 20, 60]),
+        reads: rng.pick(&[20, 40, 60, 100]),
     };
     if kind < 45 {
         style.cut = rng.pick(&[0, 3, 6]);
@@ -84,15 +90,16 @@ pub fn event_list(rng: &mut Rng, most: usize) -> Vec<Event> {
         style.wild = rng.pick(&[30, 60, 100]);
     }
     let names = transactions_to_open(rng);
+    let readers: Vec<Mask> = names.iter().map(|open| some_of(rng, open[2], style.reads)).collect();
     let mut run = Run::fresh();
     let mut list = Vec::new();
     while list.len() < length {
         let event = if rng.percent(style.wild) {
             wild_event(rng)
         } else if rng.percent(style.fault) {
-            faulty_event(rng, &run, &names, &style)
+            faulty_event(rng, &run, &names, &readers, &style)
         } else {
-            good_event(rng, &run, &names, &style)
+            good_event(rng, &run, &names, &readers, &style)
         };
         run.event(&event);
         list.push(event);
@@ -134,8 +141,13 @@ pub fn random_mask(rng: &mut Rng, size: usize) -> Mask {
     mask
 }
 
-/// An event that the run accepts.
-fn good_event(rng: &mut Rng, run: &Run, opens: &[Event], style: &Style) -> Event {
+/// So many of a hundred.
+pub fn some_of(rng: &mut Rng, members: Mask, share: usize) -> Mask {
+    each(members).filter(|_| rng.percent(share)).map(bit).sum()
+}
+
+/// An event that the run accepts; `readers` are the members of each opening that are to be marked.
+fn good_event(rng: &mut Rng, run: &Run, opens: &[Event], readers: &[Mask], style: &Style) -> Event {
     let mut choices: Vec<(Event, usize)> = Vec::new();
     let mut add = |event: Event, weight: usize| choices.push((event, weight));
     for &open in opens {
@@ -145,12 +157,12 @@ fn good_event(rng: &mut Rng, run: &Run, opens: &[Event], style: &Style) -> Event
     }
     let mut useful = Vec::new();
     let mut others = Vec::new();
-    for number in 0..448 {
-        if run.sent[number as usize] {
-            let m = Message::from_number(number).expect("in range");
+    for number in 0..MESSAGES {
+        if run.sent[number] {
+            let m = Message::from_number(number as u16).expect("in range");
             let event = [2, m.transaction, m.participant, m.kind, NO_CUT, 0];
             match run.judge(&event) {
-                Ok(plan) if changes(run, &plan) => useful.push(event),
+                Ok(plan) if leads_on(run, &plan) => useful.push(event),
                 Ok(_) => others.push(event),
                 Err(_) => {}
             }
@@ -176,6 +188,11 @@ fn good_event(rng: &mut Rng, run: &Run, opens: &[Event], style: &Style) -> Event
             let discard = [5, h, site, 0, NO_CUT, 0];
             if run.judge(&discard).is_ok() {
                 add(discard, style.discard);
+            }
+            let mark = [8, h, site, 0, NO_CUT, 0];
+            if run.judge(&mark).is_ok() {
+                let reader = opens.iter().zip(readers).any(|(open, readers)| open[1] == h && has(*readers, site));
+                add(mark, if reader && !has(t.marked, site) { style.mark } else { style.mark / 10 });
             }
         }
     }
@@ -219,11 +236,17 @@ fn good_event(rng: &mut Rng, run: &Run, opens: &[Event], style: &Style) -> Event
     event
 }
 
-/// Does the plan have effects or change a phase?
-fn changes(run: &Run, plan: &Plan) -> bool {
+/// Does it change a phase, or do more than to send what was sent before, or a No behind a read-only vote?
+pub fn leads_on(run: &Run, plan: &Plan) -> bool {
     let Plan::Row { site, effects, phases, .. } = plan else { return true };
     let moved = |h: u8, phase: Phase| run.transactions[h as usize].as_ref().map(|t| t.phase(*site)) != Some(phase);
-    !effects.is_empty() || phases.iter().any(|&(h, phase)| moved(h, phase))
+    let sent = |message: Message| run.sent[message.number() as usize];
+    let new = |effect: &Effect| match *effect {
+        Effect::Send(no @ Message { kind: NO, .. }) => !sent(no) && !sent(Message { kind: READ_ONLY, ..no }),
+        Effect::Send(message) => !sent(message),
+        _ => true,
+    };
+    effects.iter().any(|(_, effect)| new(effect)) || phases.iter().any(|&(h, phase)| moved(h, phase))
 }
 
 pub fn some_keep(rng: &mut Rng, unforced: usize) -> u8 {
@@ -245,8 +268,8 @@ pub fn with_cut(rng: &mut Rng, run: &Run, mut event: Event) -> Event {
 }
 
 /// A malformed event, or one that is likely refused.
-fn faulty_event(rng: &mut Rng, run: &Run, opens: &[Event], style: &Style) -> Event {
-    let mut event = good_event(rng, run, opens, style);
+fn faulty_event(rng: &mut Rng, run: &Run, opens: &[Event], readers: &[Mask], style: &Style) -> Event {
+    let mut event = good_event(rng, run, opens, readers, style);
     match rng.below(10) {
         0 => {
             event[rng.below(6)] = rng.byte();
@@ -277,14 +300,15 @@ fn faulty_event(rng: &mut Rng, run: &Run, opens: &[Event], style: &Style) -> Eve
             let members: Vec<u8> = each(open[2]).collect();
             let b = if rng.percent(90) { rng.pick(&members) } else { 1 + rng.below(8) as u8 };
             let site = if rng.percent(40) { COORDINATOR } else { b };
-            event = match rng.below(12) {
+            event = match rng.below(14) {
                 0 => [1, h, 0, 0, NO_CUT, 0],
-                1..=3 => [2, h, b, rng.below(7) as u8, NO_CUT, 0],
+                1..=3 => [2, h, b, rng.below(8) as u8, NO_CUT, 0],
                 4 | 5 => [3, h, site, 0, NO_CUT, 0],
                 6..=8 => [5, h, site, 0, NO_CUT, 0],
                 9 => [4, 0, site, 0, NO_CUT, 0],
                 10 => [6, 0, site, 0, NO_CUT, 0],
-                _ => [7, 0, site, 0, NO_CUT, 0],
+                11 => [7, 0, site, 0, NO_CUT, 0],
+                _ => [8, h, b, 0, NO_CUT, 0],
             };
         }
     }
@@ -293,12 +317,12 @@ fn faulty_event(rng: &mut Rng, run: &Run, opens: &[Event], style: &Style) -> Eve
 
 /// Fields near their ranges.
 pub fn small_event(rng: &mut Rng) -> Event {
-    let code = rng.below(9) as u8;
+    let code = rng.below(10) as u8;
     let x = if rng.percent(40) { 0 } else { rng.below(9) as u8 };
     let y = if code == 0 { rng.byte() } else { rng.below(10) as u8 };
     let z = match code {
         0 => y & rng.byte(),
-        2 => rng.below(8) as u8,
+        2 => rng.below(9) as u8,
         _ => rng.percent(10) as u8,
     };
     let cut = if rng.percent(70) { NO_CUT } else { rng.below(6) as u8 };

@@ -9,7 +9,9 @@ fn legal_records(rng: &mut Rng, site: u8, transaction: u8) -> Vec<LogRecord> {
     let members = 1 + rng.below(255) as u8;
     let presume_commit = if rng.percent(25) { members } else { members & rng.byte() };
     let init = Init { transaction, members, presume_commit };
-    let commit = Commit { transaction, members, presume_commit };
+    // what remains of Init's, mostly all
+    let remaining = if rng.percent(50) { members } else { members & rng.byte() };
+    let commit = Commit { transaction, members: remaining, presume_commit: presume_commit & remaining };
     let vote = Prepared { transaction, presumption: rng.below(2) as u8 };
     let row = if site == COORDINATOR {
         match rng.below(9) {
@@ -173,7 +175,11 @@ pub fn random_image(rng: &mut Rng) -> Vec<u8> {
                 let mut record = vec![kind, h];
                 match kind {
                     1 | 2 => {
-                        let members = if rng.percent(90) { mask } else { rng.byte() };
+                        let members = match rng.below(10) {
+                            0 => rng.byte(),
+                            1..=3 => mask & rng.byte(),
+                            _ => mask,
+                        };
                         let part = if rng.percent(60) { 1 & members } else { rng.below(4) as u8 };
                         record.extend([members, part]);
                     }

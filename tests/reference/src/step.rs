@@ -1,4 +1,4 @@
-//! One site's step as a row of effects, and restart.
+//! One site's step as a row of effects.
 
 use crate::codec::*;
 
@@ -55,6 +55,20 @@ impl CoordinatorPhase {
     }
 }
 
+/// The coordinator's phase, and the participants taken out of the transaction since it began.
+#[derive(Clone, Copy, PartialEq, Eq, Debug)]
+pub struct CoordinatorState {
+    pub phase: CoordinatorPhase,
+    pub taken_out: Mask,
+}
+
+impl CoordinatorState {
+    /// Nobody is taken out.
+    pub fn of(phase: CoordinatorPhase) -> CoordinatorState {
+        CoordinatorState { phase, taken_out: 0 }
+    }
+}
+
 #[derive(Clone, Copy, PartialEq, Eq, Debug)]
 pub enum ParticipantPhase {
     Working = 0,
@@ -64,7 +78,7 @@ pub enum ParticipantPhase {
     Unknown = 4,
 }
 
-/// What a step needs to know of a transaction.
+/// What a step needs to know of a transaction: its masks as opened, or what remains of them.
 #[derive(Clone, Copy, PartialEq, Eq, Debug)]
 pub struct Names {
     pub transaction: u8,
@@ -75,6 +89,11 @@ pub struct Names {
 impl Names {
     pub fn presume_abort(&self) -> Mask {
         self.members & !self.presume_commit
+    }
+
+    /// What remains of the masks.
+    pub fn without(&self, taken_out: Mask) -> Names {
+        Names { members: self.members & !taken_out, presume_commit: self.presume_commit & !taken_out, ..*self }
     }
 
     /// The members that owe an ack for an outcome.
@@ -99,7 +118,7 @@ impl Names {
     }
 
     /// The outcome to a set: those that owe an ack first, then the others.
-    fn outcomes(&self, outcome: Outcome, to: Mask) -> Vec<Effect> {
+    pub fn outcomes(&self, outcome: Outcome, to: Mask) -> Vec<Effect> {
         let owing = self.owing(outcome);
         each(to & owing).chain(each(to & !owing)).map(|b| self.message(b, outcome.message())).collect()
     }
@@ -113,15 +132,16 @@ pub enum Stimulus {
     Deliver { kind: u8, participant: u8 },
 }
 
-/// The coordinator's row: phase after and effects. None: no row.
+/// The coordinator's row: state after and effects. None: no row.
 pub fn coordinator_step(
     names: Names,
-    phase: CoordinatorPhase,
+    state: CoordinatorState,
     stimulus: Stimulus,
-) -> Option<(CoordinatorPhase, Vec<Effect>)> {
+) -> Option<(CoordinatorState, Vec<Effect>)> {
     use CoordinatorPhase::*;
     let Names { transaction, members, presume_commit } = names;
-    match (stimulus, phase) {
+    let CoordinatorState { phase, taken_out } = state;
+    let (after, row) = match (stimulus, phase) {
         (Stimulus::Begin, Open) => {
             let mut row = Vec::new();
             if presume_commit != 0 {
@@ -129,75 +149,106 @@ pub fn coordinator_step(
                 row.push(Effect::Force);
             }
             row.extend(names.prepares());
-            Some((Collecting(members), row))
+            (Collecting(members), row)
         }
-        (Stimulus::Timer, Collecting(_)) => Some(decide_abort(names, members, presume_commit)),
-        (Stimulus::Timer, Committing(waiting)) => Some((phase, names.outcomes(Outcome::Commit, waiting))),
-        (Stimulus::Timer, Aborting(waiting)) => Some((phase, names.outcomes(Outcome::Abort, waiting))),
-        (Stimulus::Deliver { kind: YES, participant }, Collecting(waiting)) => {
-            let missing = waiting & !bit(participant);
-            if missing != 0 {
-                return Some((Collecting(missing), vec![]));
-            }
-            let mut row = vec![
-                Effect::Append(LogRecord::Commit { transaction, members, presume_commit }),
-                Effect::Force,
-                Effect::Enter(Outcome::Commit),
-            ];
-            row.extend(names.outcomes(Outcome::Commit, members));
-            let acks = names.presume_abort();
-            Some((if acks != 0 { Committing(acks) } else { Unknown }, row))
-        }
+        (_, Collecting(waiting)) => return collecting(names, waiting, taken_out, stimulus),
+        (Stimulus::Timer, Committing(waiting)) => (phase, names.outcomes(Outcome::Commit, waiting)),
+        (Stimulus::Timer, Aborting(waiting)) => (phase, names.outcomes(Outcome::Abort, waiting)),
         (Stimulus::Deliver { kind: YES, participant }, Committing(_)) => {
-            Some((phase, vec![names.message(participant, COMMIT)]))
+            (phase, vec![names.message(participant, COMMIT)])
         }
-        (Stimulus::Deliver { kind: YES, participant }, Aborting(_)) => {
-            Some((phase, vec![names.message(participant, ABORT)]))
-        }
+        (Stimulus::Deliver { kind: YES, participant }, Aborting(_)) => (phase, vec![names.message(participant, ABORT)]),
         (Stimulus::Deliver { kind: YES, participant }, Unknown) => {
             let presumed = if names.presumption(participant) == 1 { COMMIT } else { ABORT };
-            Some((phase, vec![names.message(participant, presumed)]))
-        }
-        (Stimulus::Deliver { kind: NO, participant }, Collecting(_)) => {
-            let b = bit(participant);
-            Some(decide_abort(names, members & !b, presume_commit & !b))
+            (phase, vec![names.message(participant, presumed)])
         }
         (Stimulus::Deliver { kind: COMMIT_ACK, participant }, Committing(waiting)) => {
-            let missing = waiting & !bit(participant);
-            if missing != 0 {
-                return Some((Committing(missing), vec![]));
+            match waiting & !bit(participant) {
+                0 => (Unknown, vec![Effect::Append(LogRecord::CommitEnd { transaction })]),
+                missing => (Committing(missing), vec![]),
             }
-            Some((Unknown, vec![Effect::Append(LogRecord::CommitEnd { transaction })]))
         }
         (Stimulus::Deliver { kind: ABORT_ACK, participant }, Aborting(waiting)) => {
-            let missing = waiting & !bit(participant);
-            if missing != 0 {
-                return Some((Aborting(missing), vec![]));
+            match waiting & !bit(participant) {
+                0 => (Unknown, vec![Effect::Append(LogRecord::AbortEnd { transaction })]),
+                missing => (Aborting(missing), vec![]),
             }
-            Some((Unknown, vec![Effect::Append(LogRecord::AbortEnd { transaction })]))
         }
-        _ => None,
+        _ => return None,
+    };
+    Some((CoordinatorState { phase: after, taken_out }, row))
+}
+
+/// The coordinator's row in Collecting. `names` are the masks as opened; those taken out have no row there.
+fn collecting(
+    names: Names,
+    waiting: Mask,
+    taken_out: Mask,
+    stimulus: Stimulus,
+) -> Option<(CoordinatorState, Vec<Effect>)> {
+    use CoordinatorPhase::*;
+    let (kind, sender) = match stimulus {
+        Stimulus::Begin => return None,
+        // the same as a No, of nobody
+        Stimulus::Timer => (NO, 0),
+        Stimulus::Deliver { kind, participant } => (kind, bit(participant)),
+    };
+    if sender & taken_out != 0 {
+        return None;
+    }
+    let taken_out = if kind == READ_ONLY { taken_out | sender } else { taken_out };
+    let remaining = names.without(taken_out);
+    let missing = waiting & !sender;
+    let (phase, row) = match kind {
+        YES | READ_ONLY if missing != 0 => (Collecting(missing), vec![]),
+        READ_ONLY if remaining.members == 0 => (Unknown, abort_end(names)),
+        YES | READ_ONLY => decide_commit(remaining),
+        NO => decide_abort(names, remaining.without(sender)),
+        _ => return None,
+    };
+    Some((CoordinatorState { phase, taken_out }, row))
+}
+
+/// Commit out of Collecting, with those that remain.
+fn decide_commit(remaining: Names) -> (CoordinatorPhase, Vec<Effect>) {
+    let Names { transaction, members, presume_commit } = remaining;
+    let mut row = vec![
+        Effect::Append(LogRecord::Commit { transaction, members, presume_commit }),
+        Effect::Force,
+        Effect::Enter(Outcome::Commit),
+    ];
+    row.extend(remaining.outcomes(Outcome::Commit, members));
+    match remaining.presume_abort() {
+        0 => (CoordinatorPhase::Unknown, row),
+        acks => (CoordinatorPhase::Committing(acks), row),
     }
 }
 
-/// Abort out of Collecting: here the order is enter, send, append.
-fn decide_abort(names: Names, to: Mask, acks: Mask) -> (CoordinatorPhase, Vec<Effect>) {
+/// Abort out of Collecting, told to these: here the order is enter, send, append.
+fn decide_abort(names: Names, told: Names) -> (CoordinatorPhase, Vec<Effect>) {
     let mut row = vec![Effect::Enter(Outcome::Abort)];
-    row.extend(names.outcomes(Outcome::Abort, to));
-    if acks != 0 {
-        return (CoordinatorPhase::Aborting(acks), row);
+    row.extend(told.outcomes(Outcome::Abort, told.members));
+    match told.presume_commit {
+        0 => {
+            row.extend(abort_end(names));
+            (CoordinatorPhase::Unknown, row)
+        }
+        acks => (CoordinatorPhase::Aborting(acks), row),
     }
-    if names.presume_commit != 0 {
-        row.push(Effect::Append(LogRecord::AbortEnd { transaction: names.transaction }));
-    }
-    (CoordinatorPhase::Unknown, row)
 }
 
-/// A participant's row: phase after and effects. None: no row.
+/// AbortEnd exactly if Init was appended: by the masks as opened.
+fn abort_end(names: Names) -> Vec<Effect> {
+    let end = Effect::Append(LogRecord::AbortEnd { transaction: names.transaction });
+    (names.presume_commit != 0).then_some(end).into_iter().collect()
+}
+
+/// A participant's row: phase after and effects. None: no row. `marked`: it only read, which matters to Prepare in Working.
 pub fn participant_step(
     transaction: u8,
     participant: u8,
     presumption: u8,
+    marked: bool,
     phase: ParticipantPhase,
     stimulus: Stimulus,
 ) -> Option<(ParticipantPhase, Vec<Effect>)> {
@@ -217,6 +268,7 @@ pub fn participant_step(
         Stimulus::Deliver { kind, .. } => kind,
     };
     match (kind, phase) {
+        (PREPARE, Working) if marked => Some((Unknown, vec![send(READ_ONLY)])),
         (PREPARE, Working) => {
             let vote = LogRecord::Prepared { transaction, presumption };
             Some((Prepared, vec![Effect::Append(vote), Effect::Force, send(YES)]))
@@ -250,118 +302,5 @@ pub fn participant_step(
         }
         (ABORT, Aborted | Unknown) => Some((phase, if presumes_commit { vec![send(ABORT_ACK)] } else { vec![] })),
         _ => None,
-    }
-}
-
-/// Restart of the coordinator for one transaction, from its stable records of it.
-pub fn coordinator_restart(transaction: u8, records: &[LogRecord]) -> (CoordinatorPhase, Vec<Effect>) {
-    let mut init = None;
-    let mut commit = None;
-    let mut commit_end = false;
-    let mut abort_end = false;
-    for record in records {
-        match *record {
-            LogRecord::Init { members, presume_commit, .. } => {
-                init = Some(Names { transaction, members, presume_commit })
-            }
-            LogRecord::Commit { members, presume_commit, .. } => {
-                commit = Some(Names { transaction, members, presume_commit })
-            }
-            LogRecord::CommitEnd { .. } => commit_end = true,
-            LogRecord::AbortEnd { .. } => abort_end = true,
-            _ => {}
-        }
-    }
-    if let (Some(names), false) = (commit, commit_end) {
-        let mut row = vec![Effect::Enter(Outcome::Commit)];
-        let acks = names.presume_abort();
-        if acks == 0 {
-            return (CoordinatorPhase::Unknown, row);
-        }
-        row.extend(names.outcomes(Outcome::Commit, names.members));
-        return (CoordinatorPhase::Committing(acks), row);
-    }
-    if let (Some(names), None, false) = (init, commit, abort_end) {
-        let mut row = vec![Effect::Enter(Outcome::Abort)];
-        row.extend(names.outcomes(Outcome::Abort, names.members));
-        return (CoordinatorPhase::Aborting(names.presume_commit), row);
-    }
-    (CoordinatorPhase::Unknown, vec![])
-}
-
-/// Restart of a participant for one transaction, from its stable records of it.
-pub fn participant_restart(
-    transaction: u8,
-    participant: u8,
-    records: &[LogRecord],
-) -> (ParticipantPhase, Vec<Effect>) {
-    let holds = |kind| records.iter().any(|r| r.kind() == kind);
-    if holds(6) {
-        (ParticipantPhase::Committed, vec![Effect::Enter(Outcome::Commit)])
-    } else if holds(7) {
-        (ParticipantPhase::Aborted, vec![Effect::Enter(Outcome::Abort)])
-    } else if holds(5) {
-        let yes = Message { transaction, participant, kind: YES };
-        (ParticipantPhase::Prepared, vec![Effect::Send(yes)])
-    } else {
-        (ParticipantPhase::Unknown, vec![])
-    }
-}
-
-#[cfg(test)]
-mod tests {
-    use super::*;
-
-    const H: u8 = 3;
-
-    fn coordinator(kinds: &[u8], members: Mask, presume_commit: Mask) -> (CoordinatorPhase, String) {
-        let record = |&kind: &u8| match kind {
-            1 => LogRecord::Init { transaction: H, members, presume_commit },
-            2 => LogRecord::Commit { transaction: H, members, presume_commit },
-            3 => LogRecord::CommitEnd { transaction: H },
-            _ => LogRecord::AbortEnd { transaction: H },
-        };
-        let records: Vec<LogRecord> = kinds.iter().map(record).collect();
-        let (phase, row) = coordinator_restart(H, &records);
-        (phase, show(&row))
-    }
-
-    fn show(row: &[Effect]) -> String {
-        let one = |e: &Effect| match e {
-            Effect::Append(r) => format!("a{}", r.kind()),
-            Effect::Force => "f".to_string(),
-            Effect::Enter(Outcome::Commit) => "eC".to_string(),
-            Effect::Enter(Outcome::Abort) => "eA".to_string(),
-            Effect::Send(m) => format!("s{}:{}", m.participant, m.kind),
-        };
-        row.iter().map(one).collect::<Vec<String>>().join(" ")
-    }
-
-    /// Restart by the kinds of record in the log.
-    #[test]
-    fn restart_table() {
-        use CoordinatorPhase::*;
-        for kinds in [&[][..], &[3], &[2, 3], &[1, 2, 3], &[4], &[1, 4]] {
-            assert_eq!(coordinator(kinds, 7, 2), (Unknown, String::new()));
-        }
-        assert_eq!(coordinator(&[1], 7, 2), (Aborting(2), "eA s2:4 s1:4 s3:4".to_string()));
-        for kinds in [&[2][..], &[1, 2]] {
-            assert_eq!(coordinator(kinds, 7, 1), (Committing(6), "eC s2:3 s3:3 s1:3".to_string()));
-            assert_eq!(coordinator(kinds, 7, 7), (Unknown, "eC".to_string()));
-        }
-        let participant = |records: &[LogRecord]| {
-            let (phase, row) = participant_restart(H, 4, records);
-            (phase, show(&row))
-        };
-        let vote = LogRecord::Prepared { transaction: H, presumption: 1 };
-        let (c, a) = (LogRecord::Committed { transaction: H }, LogRecord::Aborted { transaction: H });
-        assert_eq!(participant(&[]), (ParticipantPhase::Unknown, String::new()));
-        assert_eq!(participant(&[vote]), (ParticipantPhase::Prepared, "s4:1".to_string()));
-        for records in [&[c][..], &[vote, c]] {
-            assert_eq!(participant(records), (ParticipantPhase::Committed, "eC".to_string()));
-        }
-        for records in [&[a][..], &[vote, a]] {
-            assert_eq!(participant(records), (ParticipantPhase::Aborted, "eA".to_string()));
-        }
     }
 }

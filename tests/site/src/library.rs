@@ -1,8 +1,9 @@
 //! The function of libsite.a, each call compared with the reference model's step on numbers.
 
 use crate::arguments::{expected, Arguments, NAMES};
+use crate::numbers::ARGUMENTS;
 use crate::rows::Counts;
-use std::sync::atomic::{AtomicU64, AtomicU8, Ordering::Relaxed};
+use std::sync::atomic::{AtomicU64, Ordering::Relaxed};
 
 #[link(name = "site", kind = "static")]
 extern "C" {
@@ -16,6 +17,8 @@ extern "C" {
         waiting: u8,
         members: u8,
         presume_commit: u8,
+        mark: u8,
+        taken_out: u8,
     ) -> u64;
 }
 
@@ -26,16 +29,16 @@ extern "C" {
 /// SIGILL, SIGTRAP, SIGABRT, SIGBUS, SIGFPE, SIGSEGV.
 const STOPS: [i32; 6] = [4, 5, 6, 7, 8, 11];
 
-const PARTS: [&str; 8] = ["answer", "phase", "waiting", "record", "forced", "outcome", "message", "to"];
+const PARTS: [&str; 8] = ["answer", "phase", "waiting", "taken out", "records", "forced and outcome", "message", "to"];
 
-/// The call under way: the first eight arguments and the last.
-static CALL: (AtomicU64, AtomicU8) = (AtomicU64::new(0), AtomicU8::new(0));
+/// The call under way: the first eight arguments, and the others.
+static CALL: [AtomicU64; 2] = [AtomicU64::new(0), AtomicU64::new(0)];
 
 extern "C" fn stopped(number: i32) {
-    let first = CALL.0.load(Relaxed).to_le_bytes();
-    let mut arguments = [0; 9];
+    let [first, last] = [0, 1].map(|i| CALL[i].load(Relaxed).to_le_bytes());
+    let mut arguments = [0; ARGUMENTS];
     arguments[..8].copy_from_slice(&first);
-    arguments[8] = CALL.1.load(Relaxed);
+    arguments[8..].copy_from_slice(&last[..ARGUMENTS - 8]);
     eprintln!("FAILED: the call ends the program (signal {number})\n{}", given(arguments));
     std::process::exit(1);
 }
@@ -47,24 +50,24 @@ fn given(arguments: Arguments) -> String {
 
 /// One call of the library.
 pub fn step(arguments: Arguments) -> u64 {
-    let [site, kind, transaction, participant, presumption, phase, waiting, members, presume_commit] = arguments;
-    let first = [site, kind, transaction, participant, presumption, phase, waiting, members];
-    CALL.0.store(u64::from_le_bytes(first), Relaxed);
-    CALL.1.store(presume_commit, Relaxed);
-    unsafe { dpr_site_step(site, kind, transaction, participant, presumption, phase, waiting, members, presume_commit) }
+    let [a, b, c, d, e, f, g, h, i, j, k] = arguments;
+    CALL[0].store(u64::from_le_bytes([a, b, c, d, e, f, g, h]), Relaxed);
+    CALL[1].store(u64::from_le_bytes([i, j, k, 0, 0, 0, 0, 0]), Relaxed);
+    unsafe { dpr_site_step(a, b, c, d, e, f, g, h, i, j, k) }
 }
 
 /// The same call with any bits above the byte in each register and each place on the stack. The calling convention
 /// says nothing of them, so a caller may leave there what it likes.
-pub fn wide_step(arguments: Arguments, upper: [u32; 9]) -> u64 {
-    type Wide = unsafe extern "C" fn(u64, u64, u64, u64, u64, u64, u64, u64, u64) -> u64;
-    let mut w = [0; 9];
-    for i in 0..9 {
-        w[i] = (upper[i] as u64) * 0x1_0000_0100 & !255 | arguments[i] as u64;
+pub fn wide_step(arguments: Arguments, upper: [u32; ARGUMENTS]) -> u64 {
+    type Wide = unsafe extern "C" fn(u64, u64, u64, u64, u64, u64, u64, u64, u64, u64, u64) -> u64;
+    let mut wide = [0; ARGUMENTS];
+    for i in 0..ARGUMENTS {
+        wide[i] = (upper[i] as u64) * 0x1_0000_0100 & !255 | arguments[i] as u64;
     }
+    let [a, b, c, d, e, f, g, h, i, j, k] = wide;
     unsafe {
         let call: Wide = std::mem::transmute(dpr_site_step as *const ());
-        call(w[0], w[1], w[2], w[3], w[4], w[5], w[6], w[7], w[8])
+        call(a, b, c, d, e, f, g, h, i, j, k)
     }
 }
 
@@ -113,7 +116,7 @@ impl Trial {
         eprintln!("FAILED in '{}', call {}\n{}", self.part, self.calls() + 1, given(arguments));
         for ((name, wanted), came) in PARTS.iter().zip(expected.to_le_bytes()).zip(got.to_le_bytes()) {
             let mark = if wanted == came { "" } else { "  <- differs" };
-            eprintln!("  {name:8} expected {wanted}, got {came}{mark}");
+            eprintln!("  {name:18} expected {wanted}, got {came}{mark}");
         }
         std::process::exit(1);
     }

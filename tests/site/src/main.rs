@@ -1,6 +1,6 @@
 //! Calls the C function of libsite.a and compares each number that it gives with the reference model.
 //! The first difference ends the program with what was given, what was expected and what came.
-//! Words on the command line name the parts to run; without any, all are run, and every row of 01 has to be met.
+//! Words on the command line name the parts to run; without any, all are run, and every row has to be met.
 
 mod arguments;
 #[allow(dead_code)]
@@ -21,6 +21,7 @@ mod step;
 
 use arguments::*;
 use library::{step as library_step, wide_step, Trial};
+use numbers::ARGUMENTS;
 use random::Random;
 
 const VECTORS: &str = include_str!("../../vectors/steps.txt");
@@ -43,65 +44,60 @@ fn vectors(trial: &mut Trial, _: &mut Random) {
         trial.call(given);
     }
     println!("vectors: {wide} more with a number above 255, which no byte carries");
-    assert_eq!((trial.calls(), wide), (23, 1), "vectors: lines");
+    assert_eq!((trial.calls(), wide), (52, 1), "vectors: lines");
 }
 
-/// Every call that is accepted, all transactions.
+/// Every call that is accepted.
 fn all_accepted(trial: &mut Trial, _: &mut Random) {
-    for transaction in 0..8 {
-        accepted(transaction, |call| {
-            trial.call(call);
-        });
-    }
-    assert_eq!(
-        (trial.accepted, trial.refused),
-        (8 * accepted_count(), 0),
-        "the calls that the reference model accepts"
-    );
+    accepted(|call| {
+        trial.call(call);
+    });
+    assert_eq!((trial.accepted, trial.refused), (accepted_count(), 0), "the calls that the reference model accepts");
 }
 
 /// Every pair of masks with every kind and the phases to 6, at the coordinator and at a participant; the other
 /// arguments are as the call asks where that is possible.
 fn all_masks_kinds_phases(trial: &mut Trial, random: &mut Random) {
     for members in 0..=255 {
-        for pc in 0..=255 {
+        for presume_commit in 0..=255 {
             let mut number = random.next() as u32;
             for phase in 0..=6 {
                 for kind in 0..=255 {
                     number = number.wrapping_mul(1664525).wrapping_add(1013904223);
+                    let standing = some_standing(phase, members, presume_commit, number >> 4);
                     let b = some_member(members, number >> 8);
-                    let transaction = (number >> 24) as u8 % 8;
-                    let waiting = some_waiting(phase, members, pc, number >> 12);
-                    let (sender, of_sender) = if kind == 16 || kind == 17 { (0, 0) } else { (b, presumption(b, pc)) };
-                    trial.call([0, kind, transaction, sender, of_sender, phase, waiting, members, pc]);
-                    trial.call([b, kind, transaction, b, presumption(b, pc), phase, 0, members, pc]);
+                    trial.call(standing.coordinator(kind, if kind == 16 || kind == 17 { 0 } else { b }));
+                    trial.call(standing.participant(kind, b, (number >> 31) as u8));
                 }
             }
         }
     }
 }
 
-/// Every waiting set with each pair of masks that is in range, and those at the borders with every pair of masks.
-fn all_waiting_sets(trial: &mut Trial, random: &mut Random) {
+/// Every waiting set and every set taken out, by itself, with each pair of masks that is in range, and those at the
+/// borders with every pair of masks.
+fn all_sets(trial: &mut Trial, random: &mut Random) {
     let all: Vec<u8> = (0..=255).collect();
     for members in 0..=255 {
         for pc in 0..=255 {
-            let some = waiting_sets(members, pc);
             let number = random.next() as u32;
             let b = some_member(members, number);
-            let (of_b, transaction) = (presumption(b, pc), (number >> 24) as u8 % 8);
+            let some = borders(&[members, pc, members & !pc, members & pc]);
             let in_range = members != 0 && pc & !members == 0;
-            let sets = if in_range { &all } else { &some };
-            for &waiting in sets {
+            for &set in if in_range { &all } else { &some } {
                 for phase in 0..=4 {
-                    for kind in FROM_NOBODY {
-                        trial.call([0, kind, transaction, 0, 0, phase, waiting, members, pc]);
+                    let standing = some_standing(phase, members, pc, number ^ 37 * set as u32);
+                    let taken_out = Standing { taken_out: set, ..standing };
+                    let waiting = Standing { waiting: set, ..standing };
+                    let kind = FROM_PARTICIPANTS[(set as usize + phase as usize) % 5];
+                    for standing in [waiting, taken_out] {
+                        for (kind, sender) in [(16, 0), (17, 0), (kind, b), (7, b)] {
+                            trial.call(standing.coordinator(kind, sender));
+                        }
                     }
-                    for kind in FROM_PARTICIPANTS {
-                        trial.call([0, kind, transaction, b, of_b, phase, waiting, members, pc]);
-                    }
-                    let kind = AT_PARTICIPANT[waiting as usize % 4];
-                    trial.call([b, kind, transaction, b, of_b, phase, waiting, members, pc]);
+                    let mut of_participant = standing.participant(AT_PARTICIPANT[set as usize % 4], b, set >> 7);
+                    of_participant[if set & 16 == 0 { WAITING } else { TAKEN_OUT }] = set;
+                    trial.call(of_participant);
                 }
             }
         }
@@ -118,14 +114,16 @@ fn all_masks_participants(trial: &mut Trial, random: &mut Random) {
                     for phase in 0..=4 {
                         number = number.wrapping_mul(1664525).wrapping_add(1013904223);
                         let pick = (number >> 24) as usize;
-                        let (kind, waiting) = match (site, participant) {
-                            (0, 0) => (FROM_NOBODY[pick % 2], some_waiting(phase, members, pc, number >> 8)),
-                            (0, _) => (FROM_PARTICIPANTS[pick % 4], some_waiting(phase, members, pc, number >> 8)),
-                            _ => (AT_PARTICIPANT[pick % 4], 0),
+                        let standing = some_standing(phase, members, pc, number >> 8);
+                        let mut call = match (site, participant) {
+                            (0, 0) => standing.coordinator(FROM_NOBODY[pick % 2], 0),
+                            (0, _) => standing.coordinator(FROM_PARTICIPANTS[pick % 5], 0),
+                            _ => standing.participant(AT_PARTICIPANT[pick % 4], 1, pick as u8 & 1),
                         };
-                        let transaction = pick as u8 % 8;
+                        (call[0], call[PARTICIPANT]) = (site, participant);
                         for p in 0..=2 {
-                            trial.call([site, kind, transaction, participant, p, phase, waiting, members, pc]);
+                            call[PRESUMPTION] = p;
+                            trial.call(call);
                         }
                     }
                 }
@@ -134,28 +132,28 @@ fn all_masks_participants(trial: &mut Trial, random: &mut Random) {
     }
 }
 
-/// All arguments to one above what is in range, and transactions and kinds far above, for some masks and waiting sets.
+/// All arguments to one above what is in range, and transactions and kinds far above, for some masks and sets.
 fn products(trial: &mut Trial, random: &mut Random) {
-    let mut masks =
-        vec![(0, 0), (0, 1), (1, 0), (1, 1), (128, 128), (3, 1), (3, 2), (255, 0), (255, 255), (1, 3), (254, 1)];
-    for _ in 0..10 {
+    let mut masks = vec![(0, 0), (0, 1), (1, 0), (1, 1), (128, 128), (3, 1), (3, 2), (255, 0), (255, 255), (1, 3)];
+    for _ in 0..5 {
         let (members, any) = (random.byte(), random.byte());
         masks.extend([(members, any), (members, members & any)]);
     }
-    let kinds: Vec<u8> = (0..=18).chain([32, 33, 128 + 17, 255]).collect();
+    let kinds: Vec<u8> = (0..=18).chain([23, 32, 33, 128 + 17, 255]).collect();
     for (members, pc) in masks {
-        let mut sets =
-            vec![0, members, pc, members & !pc, !members, random.byte() & members, members & pc & random.byte()];
+        let mut sets = vec![(0, 0), (members, 0), (0, members), (members, members), (0, !members)];
+        sets.extend([(pc, members & !pc), (members & !pc, pc), (random.byte() & members, 0)]);
         sets.sort();
         sets.dedup();
-        for waiting in sets {
+        for (waiting, out) in sets {
             for &kind in &kinds {
-                for transaction in [0, 7, 8, 255] {
+                for (transaction, mark) in [(0, 0), (7, 1), (3, 2), (8, 0), (255, 1)] {
                     for site in 0..=9 {
                         for b in 0..=9 {
                             for p in 0..=2 {
                                 for phase in 0..=6 {
-                                    trial.call([site, kind, transaction, b, p, phase, waiting, members, pc]);
+                                    let call = [site, kind, transaction, b, p, phase, waiting, members, pc, mark, out];
+                                    trial.call(call);
                                 }
                             }
                         }
@@ -168,11 +166,11 @@ fn products(trial: &mut Trial, random: &mut Random) {
 
 /// Around accepted calls each argument with each of its 256 values.
 fn single_changes(trial: &mut Trial, random: &mut Random) {
-    let mut refused = [0u64; 9];
-    let mut taken = [0u64; 9];
+    let mut refused = [0u64; ARGUMENTS];
+    let mut taken = [0u64; ARGUMENTS];
     for _ in 0..20_000 {
         let call = random_accepted(random);
-        for i in 0..9 {
+        for i in 0..ARGUMENTS {
             for value in 0..=255 {
                 let mut changed = call;
                 changed[i] = value;
@@ -191,9 +189,9 @@ fn single_changes(trial: &mut Trial, random: &mut Random) {
 
 /// Around accepted calls each two arguments with all their values.
 fn double_changes(trial: &mut Trial, random: &mut Random) {
-    for _ in 0..30 {
+    for _ in 0..20 {
         let call = random_accepted(random);
-        for i in 0..9 {
+        for i in 0..ARGUMENTS {
             for j in 0..i {
                 for value in 0..=65535u16 {
                     let mut changed = call;
@@ -205,13 +203,11 @@ fn double_changes(trial: &mut Trial, random: &mut Random) {
     }
 }
 
-/// Nine random bytes are hardly ever in range: this tries refusals.
+/// Random bytes are hardly ever in range: this tries refusals.
 fn random_bytes(trial: &mut Trial, random: &mut Random) {
     for _ in 0..10_000_000 {
-        let first = random.next().to_le_bytes();
-        let mut call = [random.byte(); 9];
-        call[..8].copy_from_slice(&first);
-        trial.call(call);
+        let numbers = [random.next().to_le_bytes(), random.next().to_le_bytes()].concat();
+        trial.call(numbers[..ARGUMENTS].try_into().unwrap());
     }
 }
 
@@ -222,7 +218,7 @@ fn same_again(trial: &mut Trial, random: &mut Random) {
         .map(|i| {
             let mut call = random_accepted(random);
             if i % 3 == 0 {
-                call[random.below(9)] = random.byte();
+                call[random.below(ARGUMENTS)] = random.byte();
             }
             call
         })
@@ -237,7 +233,7 @@ fn same_again(trial: &mut Trial, random: &mut Random) {
         trial.compare(call, number, library_step(call));
     }
     for (&call, &number) in calls.iter().zip(&numbers) {
-        let upper = [(); 9].map(|_| random.next() as u32);
+        let upper = [(); ARGUMENTS].map(|_| random.next() as u32);
         trial.compare(call, number, wide_step(call, upper));
     }
 }
@@ -249,7 +245,7 @@ fn main() {
         ("single changes", single_changes),
         ("every accepted call", all_accepted),
         ("masks, kinds, phases", all_masks_kinds_phases),
-        ("waiting sets", all_waiting_sets),
+        ("waiting sets and sets taken out", all_sets),
         ("masks, sites, participants, presumptions", all_masks_participants),
         ("products of small ranges", products),
         ("double changes", double_changes),
