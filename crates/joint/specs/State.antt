@@ -69,10 +69,14 @@ atTransaction t g r = record { site = r .site; transaction = update t g (r .tran
 unfoldable pub opened : Run → ℕ → Bool
 opened r t = not (empty (r .transaction t .cohort .members))
 
+-- members name each participant among them, and the coordinator in any case
+abbrev pub names : ℕ → ℕ → Bool
+names members zero = true
+names members (suc n) = member (suc n) members
+
 -- the coordinator takes part in each transaction, a participant in those that it is a member of
 unfoldable pub takesPart : Transaction → ℕ → Bool
-takesPart x zero = true
-takesPart x (suc n) = member (suc n) (x .cohort .members)
+takesPart x s = names (x .cohort .members) s
 
 -- A site has a participant part and a coordinator part. The cohort as opened stands in the transaction; the cohort that a site coordinates:
 -- at site 0 the opened one, elsewhere nobody
