@@ -239,18 +239,23 @@ uint64_t dpr_site_step(uint8_t site, uint8_t kind, uint8_t handover, uint8_t box
  * than DPR_DRILL_TEXT_MAX bytes. */
 #define DPR_EVENT_BYTES 6
 #define DPR_DRILL_BYTES_MAX 60000
-#define DPR_DRILL_TEXT_MAX 220168 /* 10,000 lines of at most 22 bytes, and 8 lines of handovers of 21 bytes */
+#define DPR_DRILL_TEXT_MAX 220924 /* 10,000 lines of at most 22 bytes, 8 of handovers of 21, 9 of sites of at most 84 */
 
 /* Runs the events in the `len` bytes at `events` from a fresh run, one after another, and writes the drill's whole text
  * from the start of the `text_len` bytes at `text`. Each event has a line: its number from 1, its answer (0, or 1 to 9
  * for a refusal), and how many records, forces and sends happened. A broken last event, of 1 to 5 bytes, answers 1. Then
  * each opened handover has a line: HANDOVER, its number, and for each of the sites 0 to 8 a letter: C (commit was
  * entered), A (abort), X (both) or - (none). No such line has an X, and none has both a C and an A: that is proved for all
- * bytes. Every line ends with a newline, and no zero byte follows the text.
+ * bytes. Last, each of the sites 0 to 8 has a line of four numbers: the forces that happened there so far, in cut events
+ * up to their cut; how many handovers were opened with it (site 0: all); the first divided by the second; and what is
+ * left over. So the first is the second times the third plus the fourth, and the fourth is below the second; a site
+ * without handovers has 0 and then its forces. The numbers are decimal, with one space between. Forces and handovers are
+ * counted in 64 bits, and a count stays at its highest value once there. Every line ends with a newline, and no zero byte
+ * follows the text.
  *
  * Returns the length of the text, which has been written; the bytes of the buffer behind it are as they were.
- * Returns 0 where `text_len` is under that length, and then nothing has been written. Without events the text is empty:
- * 0, and nothing is written. */
+ * Returns 0 where `text_len` is under that length, and then nothing has been written. Without events the text is the nine
+ * lines of the sites, 72 bytes; so no text is empty, and 0 always means that `text_len` was too small. */
 size_t dpr_drill(const uint8_t *events, size_t len, uint8_t *text, size_t text_len);
 
 #ifdef __cplusplus

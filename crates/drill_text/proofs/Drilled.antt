@@ -1,23 +1,26 @@
 -- The lines of a drill: how long they are, what the answers' bytes stand for, and all lines in a lent buffer.
 use Prim.Native.Nat.{ℕ, zero, suc, _+_, _-_, _*_, _/_, _%_, _≤_, _<_, min}
-use mathlib.Core.Path.{_≡_, refl, ap}
+use mathlib.Core.Path.{_≡_, refl, sym, ap, _∙_}
 use mathlib.Core.Bool.{Bool, true, false}
-use mathlib.Core.List.{List, [], _∷_, _++_, flatten}
+use mathlib.Core.List.{List, [], _∷_, _++_, map, flatten}
+use native.Mathlib.Nat.{zero-add}
 use native.Mathlib.Omega.{arith}
 use lib.Dec.{leb, ltb}
 use lib.ListN.{length, getD, take, drop, length-append, length-take}
-use lib.Seq.{getD-drop}
+use lib.Seq.{getD-drop, take-at}
 use borrow.Author.Tests.{le-leb, lt-leb, ltb-false}
 use borrow.Rule.Slice.PartMut.{midOf, putMid}
 use Rattle.codec.specs.Image.{stored}
 use Rattle.codec.specs.Answers.{written}
 use Rattle.joint.specs.State.{Run, fresh}
 use Rattle.joint.specs.Run.{Answer, after, answers}
-use Rattle.joint.specs.Drill.{eventsIn, answerBytes, Replayed, replayed, decimal, line, eventLines, drill, textInto}
-use Rattle.drill_text.specs.Inside.{answersIn, linesOf, openedIn, transactionLines, textOf}
-use Rattle.joint.specs.Answers.{runIn, replayIn}
+use Rattle.codec.specs.Sets.{participants}
+use Rattle.joint.specs.Totals.{Totals, totals}
+use Rattle.joint.specs.Drill.{eventsIn, answerBytes, Replayed, replayed, decimal, line, eventLines, totalsLine, drill, textInto}
+use Rattle.drill_text.specs.Inside.{answersIn, linesOf, openedIn, transactionLines, sites, siteLines, textOf}
+use Rattle.joint.specs.Answers.{runIn, totalsIn, replayIn}
 use Rattle.joint.specs.declared.replay.Ran.{Ran}
-use Rattle.codec.specs.laws.Stored.{length-stored, stored-two, stored-part}
+use Rattle.codec.specs.laws.Stored.{length-stored, Left, left-front, left-end, next-last, left-next, left-put}
 use Rattle.drill_text.proofs.Texts.{text-length}
 use Rattle.joint.specs.laws.Events.{take-most, length-answers, bytesOf, bytesTold, length-told, eventsFor, events-count}
 
@@ -43,11 +46,33 @@ byte-size : (n : ℕ) → n < 256 → length (decimal 5 n) ≤ 3
 byte-size n h = decimal-size 2 5 n (omega arith)
 
 line-size : (n : ℕ) (a : Answer) → n ≤ 10000 → a .number < 256 → a .records < 256 → a .forces < 256 → a .sends < 256
-    → length (line (n ∷ a .number ∷ a .records ∷ a .forces ∷ a .sends ∷ [])) ≤ 22
+    → length (line 5 (n ∷ a .number ∷ a .records ∷ a .forces ∷ a .sends ∷ [])) ≤ 22
 unfolding line
 line-size n a h p q r s =
     simp length-append
     (omega (arith, decimal-size 4 5 n (omega arith), byte-size (a .number) p, byte-size (a .records) q, byte-size (a .forces) r, byte-size (a .sends) s))
+
+-- a number of any size
+decimal-short : (k n : ℕ) → length (decimal k n) ≤ suc k
+unfolding decimal
+decimal-short zero n = omega arith
+decimal-short (suc k) n = digit-size (suc k) n (ltb n 10) (decimal k (n / 10)) (λ e. decimal-short k (n / 10))
+
+-- the line of a site, and the lines of some sites
+totals-short : (x : Totals) → length (totalsLine x) ≤ 84
+unfolding totalsLine line
+totals-short x =
+    simp length-append
+    (omega (arith, decimal-short 19 (x .forces), decimal-short 19 (x .handovers), decimal-short 19 (x .quotient), decimal-short 19 (x .remainder)))
+
+sites-short : (f : ℕ → Totals) (ss : List ℕ) → length (siteLines f ss) ≤ 84 * length ss
+unfolding flatten
+sites-short f [] = omega arith
+sites-short f (s ∷ ss) = simp length-append (omega (arith, totals-short (f s), sites-short f ss))
+
+pub sites-most : (f : ℕ → Totals) → length (siteLines f sites) ≤ 756
+unfolding participants
+sites-most f = sites-short f sites
 
 -- the lines of n answers, numbered from m on
 lines-size : (m n : ℕ) (bytes : List ℕ) → m + n ≤ 10001 → ((i : ℕ) → getD bytes i 0 < 256) → length (eventLines m (answersIn n bytes)) ≤ 22 * n
@@ -63,39 +88,58 @@ lines-size m (suc n) bytes h small =
 
 -- ---- all lines
 
--- how many answers, in four bytes each, and how many opened transactions
-pub record Sized (count : ℕ) (bytes : List ℕ) (r : Run) (opened : ℕ) : Type 0 where
+-- how many answers, in four bytes each, how many opened transactions, and how long the lines of the sites are
+pub record Sized (count : ℕ) (bytes : List ℕ) (r : Run) (f : ℕ → Totals) (opened last : ℕ) : Type 0 where
   pub few : count ≤ 10000
   pub small : (i : ℕ) → getD bytes i 0 < 256
   pub opened-are : opened ≡ length (openedIn r)
   pub opened-few : opened ≤ 8
+  pub last-are : last ≡ length (siteLines f sites)
 
-module _ {count : ℕ} {bytes : List ℕ} {r : Run} {opened : ℕ} (z : Sized count bytes r opened) where
-  text-size : length (textOf count bytes r) ≡ length (linesOf count bytes) + 21 * opened
-  text-size = simp length-append (omega (arith, text-length r (openedIn r), z .opened-are))
+module _ {count : ℕ} {bytes : List ℕ} {r : Run} {f : ℕ → Totals} {opened last : ℕ} (z : Sized count bytes r f opened last) where
+  abbrev text : List ℕ
+  text = textOf count bytes r f
+
+  text-size : length text ≡ length (linesOf count bytes) + 21 * opened + last
+  text-size = simp length-append (omega (arith, text-length r (openedIn r), z .opened-are, z .last-are))
+
+  pub last-short : last ≤ 756
+  last-short = omega (arith, z .last-are, sites-most f)
 
   pub lines-short : length (linesOf count bytes) ≤ 22 * count
   lines-short = lines-size 1 count bytes (omega (arith, z .few)) (z .small)
 
-  pub text-short : length (textOf count bytes r) ≤ 220168
-  text-short = omega (arith, text-size, lines-short, z .few, z .opened-few)
+  pub text-short : length text ≤ 220924
+  text-short = omega (arith, text-size, lines-short, last-short, z .few, z .opened-few)
 
   module _ (lines : ℕ) (e : lines ≡ length (linesOf count bytes)) (buffer : List ℕ) where
-    pub text-none : length buffer < lines + 21 * opened → written 0 buffer ≡ textInto (textOf count bytes r) buffer
+    pub text-none : length buffer < lines + 21 * opened + last → written 0 buffer ≡ textInto text buffer
     unfolding textInto
     text-none h =
-        let short : leb (length (textOf count bytes r)) (length buffer) ≡ false = lt-leb (length (textOf count bytes r)) (length buffer) (omega (arith, text-size)) in
+        let short : leb (length text) (length buffer) ≡ false = lt-leb (length text) (length buffer) (omega (arith, text-size)) in
         rw short
 
-    -- the lines of the answers, and those of the transactions in the part behind them
-    pub text-all : (lined part : List ℕ) → lines + 21 * opened ≤ length buffer → lined ≡ stored 0 (linesOf count bytes) buffer
-        → part ≡ stored 0 (transactionLines r) (midOf lines (length lined - lines) lined)
-        → written (lines + 21 * opened) (putMid lines (length lined - lines) lined part) ≡ textInto (textOf count bytes r) buffer
-    unfolding textInto
-    text-all lined part h p q =
-        let fits : leb (length (textOf count bytes r)) (length buffer) ≡ true = le-leb (length (textOf count bytes r)) (length buffer) (omega (arith, text-size)) in
-        let whole : putMid lines (length lined - lines) lined part ≡ stored 0 (textOf count bytes r) buffer = rw (stored-part lines (transactionLines r) lined part q, p, e) (stored-two (linesOf count bytes) (transactionLines r) buffer (omega (arith, e))) in
-        rw (fits, whole, text-size, e)
+    -- the lines of the answers, those of the transactions in the part behind them, and those of the sites
+    module _ (lined part : List ℕ) (h : lines + 21 * opened + last ≤ length buffer) (p : lined ≡ stored 0 (linesOf count bytes) buffer)
+        (q : part ≡ stored 0 (transactionLines r) (midOf lines (length lined - lines) lined)) where
+      pub text-last : Left 0 text buffer (lines + 21 * opened) (siteLines f sites) (putMid lines (length lined - lines) lined part)
+      text-last =
+          let start : Left 0 text buffer 0 text buffer = left-front (omega (arith, text-size)) in
+          let behind : Left 0 text buffer lines (transactionLines r ++ siteLines f sites) lined = left-next start (record { split = refl }) lines (e ∙ sym (zero-add (length (linesOf count bytes)))) lined p in
+          left-put behind (record { split = refl }) (lines + 21 * opened) (omega (arith, text-length r (openedIn r), z .opened-are)) part q
+
+      pub text-all : (all : List ℕ) → all ≡ stored (lines + 21 * opened) (siteLines f sites) (putMid lines (length lined - lines) lined part)
+          → written (lines + 21 * opened + last) all ≡ textInto text buffer
+      unfolding textInto
+      text-all all s =
+          let fits : leb (length text) (length buffer) ≡ true = le-leb (length text) (length buffer) (omega (arith, text-size)) in
+          let whole : all ≡ stored 0 text buffer = left-end (left-next text-last next-last (lines + 21 * opened + last) (omega (arith, z .last-are)) all s) refl in
+          rw (fits, whole, text-size, e)
+
+-- what was stored at the front
+pub front-of : (x buffer : List ℕ) (n : ℕ) → n ≡ length x → take n (stored 0 x buffer) ≡ x
+unfolding stored
+front-of x buffer n e = take-at x (drop (0 + length x) buffer) n (sym e)
 
 -- ---- answers
 
@@ -107,15 +151,15 @@ answers-back (a ∷ l) rest = ap (λ (m : List Answer). a ∷ m) (answers-back l
 
 -- ---- the drill
 
--- what a replay of the input leaves: how many answers, the run, and the buffer
-pub record Answered (input : List ℕ) (count : ℕ) (r : Run) (buffer : List ℕ) : Type 0 where
+-- what a replay of the input leaves: how many answers, the run with its totals, and the buffer
+pub record Answered (input : List ℕ) (count : ℕ) (r : Run) (f : ℕ → Totals) (buffer : List ℕ) : Type 0 where
   pub few : count ≤ 10000
   pub room : 4 * count ≤ length buffer
-  pub text : textOf count buffer r ≡ drill input
+  pub text : textOf count buffer r f ≡ drill input
 
 -- the buffer is long enough
 pub answered : (input start buffer : List ℕ) (len : ℕ) (x : Ran) → len ≡ min 60000 (length input) → length start ≡ 40000
-    → replayIn x buffer ≡ replayed (take len input) start → Answered input (x .count) (runIn (x .run)) buffer
+    → replayIn x buffer ≡ replayed (take len input) start → Answered input (x .count) (runIn (x .run)) (totalsIn (x .run)) buffer
 unfolding replayIn replayed eventsIn drill stored
 answered input start buffer len x h k e =
     let es = eventsIn input in
@@ -124,12 +168,12 @@ answered input start buffer len x h k e =
     let count : length es ≡ eventsFor (take 60000 input) = events-count (take 60000 input) in
     let size : length (bytesTold es) ≡ 4 * length es = length-told es in
     let fits : leb (length (bytesTold es)) (length start) ≡ true = le-leb (length (bytesTold es)) (length start) (omega arith) in
-    let all : replayIn x buffer ≡ record { count = length es; run = after fresh es; buffer = stored 0 (bytesTold es) start } = rw (first, fits) at e in
+    let all : replayIn x buffer ≡ record { count = length es; run = after fresh es; totals = totals es; buffer = stored 0 (bytesTold es) start } = rw (first, fits) at e in
     let n : x .count ≡ length es = ap (λ (y : Replayed). y .count) all in
     let held : buffer ≡ stored 0 (bytesTold es) start = ap (λ (y : Replayed). y .buffer) all in
     let back : answersIn (length es) (stored 0 (bytesTold es) start) ≡ answers fresh es = rw (← length-answers fresh es) (answers-back (answers fresh es) (drop (0 + length (bytesTold es)) start)) in
     record {
       few = omega arith;
       room = rw held (omega (arith, length-stored 0 (bytesTold es) start (omega arith)));
-      text = rw (n, held, ap (λ (y : Replayed). y .run) all, back);
+      text = rw (n, held, ap (λ (y : Replayed). y .run) all, ap (λ (y : Replayed). y .totals) all, back);
     }

@@ -1,3 +1,4 @@
 mod Stored
 mod Texts
+mod Digits
 mod Drilled

@@ -12,12 +12,13 @@ use lib.Dec.{eqb, ltb}
 use borrow.Author.Tests.{lt-ltb, le-ltb, ltb-true, ltb-false, eqb-true, eq-eqb, ne-eqb}
 use Rattle.codec.specs.Lists.{select}
 use Rattle.codec.specs.Sets.{participants, empty}
-use Rattle.codec.specs.laws.Tests.{below-at, true-of}
+use Rattle.joint.specs.laws.Numbered.{numbered-at, numbered-from}
 use Rattle.joint.specs.State.{Run, opened}
 use Rattle.joint.specs.Plan.{transactions}
-use Rattle.joint.specs.Drill.{decimal, line, space, newline, eventLines, ascii, entryLetter, transactionLine}
+use Rattle.joint.specs.Totals.{Totals}
+use Rattle.joint.specs.Drill.{decimal, line, space, newline, eventLines, ascii, entryLetter, transactionLine, totalsLine}
 use Rattle.drill_text.specs.declared.text.LastFour.{LastFour}
-use Rattle.drill_text.specs.Inside.{two, Shows, answersIn, lineAt, linesOf, letters}
+use Rattle.drill_text.specs.Inside.{two, Shows, answersIn, lineAt, linesOf, letters, sites, siteLines}
 use Rattle.codec.specs.Image.{stored}
 use Rattle.codec.specs.laws.Stored.{Left, left-start, Next, left-next}
 
@@ -102,24 +103,50 @@ digits-at (suc k) (suc j) n l a b =
 -- ---- the line of an event
 
 -- its fields in turn
-pub field-next : (n m : ℕ) (ns : List ℕ) → Next (line (n ∷ m ∷ ns)) (decimal 5 n ++ (32 ∷ [])) (line (m ∷ ns))
+pub field-next : (k n m : ℕ) (ns : List ℕ) → Next (line k (n ∷ m ∷ ns)) (decimal k n ++ (32 ∷ [])) (line k (m ∷ ns))
 unfolding line space
-field-next n m ns = record { split = sym (append-snoc (decimal 5 n) 32 (line (m ∷ ns))) }
+field-next k n m ns = record { split = sym (append-snoc (decimal k n) 32 (line k (m ∷ ns))) }
 
-pub field-last : (n : ℕ) → Next (line (n ∷ [])) (decimal 5 n ++ (10 ∷ [])) []
+pub field-last : (k n : ℕ) → Next (line k (n ∷ [])) (decimal k n ++ (10 ∷ [])) []
 unfolding line newline
-field-last n = record { split = sym (append-nil (decimal 5 n ++ (10 ∷ []))) }
+field-last k n = record { split = sym (append-nil (decimal k n ++ (10 ∷ []))) }
+
+-- those that are left, and what ends the one before them
+abbrev pub fields : ℕ → List ℕ → List ℕ
+fields k [] = []
+fields k (n ∷ ns) = line k (n ∷ ns)
+
+abbrev pub ending : List ℕ → ℕ
+ending [] = 10
+ending (n ∷ ns) = 32
+
+pub ending-more : (l : List ℕ) → 0 < length l → ending l ≡ 32
+ending-more [] h = absurd (omega (arith, h))
+ending-more (n ∷ l) h = refl
+
+pub ending-none : (l : List ℕ) → length l ≡ 0 → ending l ≡ 10
+ending-none [] h = refl
+ending-none (n ∷ l) h = absurd (omega (arith, h))
+
+fields-split : (k n : ℕ) (ns : List ℕ) → Next (line k (n ∷ ns)) (decimal k n ++ (ending ns ∷ [])) (fields k ns)
+fields-split k n [] = field-last k n
+fields-split k n (m ∷ ns) = field-next k n m ns
+
+-- field i of a list
+pub fields-next : (k : ℕ) (ns : List ℕ) (i end d : ℕ) → i < length ns → end ≡ ending (drop (suc i) ns)
+    → Next (fields k (drop i ns)) (decimal k (getD ns i d) ++ (end ∷ [])) (fields k (drop (suc i) ns))
+fields-next k ns i end d h e = rw (drop-cons ns i d h, e) (fields-split k (getD ns i d) (drop (suc i) ns))
 
 -- four fields of one digit each
 pub line-short : (a b c d : ℕ) → a + b + c + d < 10
-    → line (a ∷ b ∷ c ∷ d ∷ []) ≡ (48 + a) ∷ 32 ∷ (48 + b) ∷ 32 ∷ (48 + c) ∷ 32 ∷ (48 + d) ∷ 10 ∷ []
+    → line 5 (a ∷ b ∷ c ∷ d ∷ []) ≡ (48 + a) ∷ 32 ∷ (48 + b) ∷ 32 ∷ (48 + c) ∷ 32 ∷ (48 + d) ∷ 10 ∷ []
 unfolding line space newline
 line-short a b c d h =
     rw (decimal-one 5 a (omega arith), decimal-one 5 b (omega arith), decimal-one 5 c (omega arith), decimal-one 5 d (omega arith))
 
 pub line-length : (a b c d e : ℕ)
     → length (decimal 5 a) + length (decimal 5 b) + length (decimal 5 c) + length (decimal 5 d) + length (decimal 5 e) + 5
-    ≡ length (line (a ∷ b ∷ c ∷ d ∷ e ∷ []))
+    ≡ length (line 5 (a ∷ b ∷ c ∷ d ∷ e ∷ []))
 unfolding line
 line-length a b c d e = simp length-append (omega arith)
 
@@ -167,9 +194,6 @@ lined-end {bytes} {n} {i} l h = omega (arith, l .all, ap length (lines-end i n b
 abbrev pub head : ℕ → List ℕ
 head t = 72 ∷ 65 ∷ 78 ∷ 68 ∷ 79 ∷ 86 ∷ 69 ∷ 82 ∷ 32 ∷ (48 + t) ∷ 32 ∷ []
 
-abbrev sites : List ℕ
-sites = 0 ∷ 1 ∷ 2 ∷ 3 ∷ 4 ∷ 5 ∷ 6 ∷ 7 ∷ 8 ∷ []
-
 any-default : (l : List ℕ) (i d e : ℕ) → i < length l → getD l i d ≡ getD l i e
 any-default [] i d e h = absurd (omega (arith, h))
 any-default (x ∷ l) zero d e h = refl
@@ -184,8 +208,7 @@ module _ (r : Run) (t : ℕ) where
   unfolding letters participants
   letter-at s h =
       let f = entryLetter (r .transaction t) in
-      let numbered : getD sites s 0 ≡ s = eqb-true _ _ (true-of _ (below-at 9 (λ i. eqb (getD sites i 0) i) tt s h)) in
-      sym (any-default (map f sites) s 0 (f 0) h ∙ List·getD-map f sites s 0 ∙ ap f numbered)
+      sym (any-default (map f sites) s 0 (f 0) h ∙ List·getD-map f sites s 0 ∙ ap f (numbered-at sites tt s h))
 
   pub head-next : t < 8 → Next (transactionLine r t) (head t) (letters r t ++ (10 ∷ []))
   unfolding transactionLine ascii decimal space newline letters
@@ -225,9 +248,7 @@ module _ (r : Run) (i : ℕ) where
   module _ (h : i < 8) where
     here : drop i transactions ≡ i ∷ drop (i + 1) transactions
     unfolding transactions
-    here =
-        let numbered : getD transactions i 0 ≡ i = eqb-true _ _ (true-of _ (below-at 8 (λ j. eqb (getD transactions j 0) j) tt i h)) in
-        drop-cons transactions i 0 h ∙ rw (numbered, add-one)
+    here = numbered-from transactions tt i h
 
     pub opened-next : (r .transaction i .cohort .members ≡ 0 → ⊥) → openedFrom r i ≡ i ∷ openedFrom r (i + 1)
     unfolding select opened empty
@@ -243,3 +264,14 @@ module _ (r : Run) (i : ℕ) where
 
     pub text-skip : r .transaction i .cohort .members ≡ 0 → textFrom r i ≡ textFrom r (i + 1)
     text-skip e = ap (linesOfEach r) (opened-skip e)
+
+-- ---- the sites in turn
+
+module _ (f : ℕ → Totals) (i : ℕ) where
+  pub site-next : i < 9 → Next (siteLines f (drop i sites)) (totalsLine (f i)) (siteLines f (drop (i + 1) sites))
+  unfolding participants flatten
+  site-next h = record { split = ap (siteLines f) (numbered-from sites tt i h) }
+
+  pub sites-end : 9 ≤ i → siteLines f (drop i sites) ≡ []
+  unfolding participants flatten
+  sites-end h = ap (siteLines f) (drop-of-length-le sites {i = i} h)

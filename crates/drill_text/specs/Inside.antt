@@ -8,7 +8,8 @@ use Rattle.codec.specs.Sets.{participants}
 use Rattle.joint.specs.State.{Run, opened}
 use Rattle.joint.specs.Plan.{transactions}
 use Rattle.joint.specs.Run.{Answer}
-use Rattle.joint.specs.Drill.{line, eventLines, entryLetter, transactionLine}
+use Rattle.joint.specs.Totals.{Totals}
+use Rattle.joint.specs.Drill.{line, eventLines, entryLetter, transactionLine, totalsLine}
 use Rattle.drill_text.specs.declared.text.LastFour.{LastFour}
 
 -- the tens and the ones of a number, as characters
@@ -36,7 +37,7 @@ linesOf n bytes = eventLines 1 (answersIn n bytes)
 -- the line of event n, whose answer stands from `at` on
 abbrev pub lineAt : ℕ → List ℕ → ℕ → List ℕ
 lineAt n bytes at =
-    line (n ∷ getD bytes at 0 ∷ getD bytes (at + 1) 0 ∷ getD bytes (at + 2) 0 ∷ getD bytes (at + 3) 0 ∷ [])
+    line 5 (n ∷ getD bytes at 0 ∷ getD bytes (at + 1) 0 ∷ getD bytes (at + 2) 0 ∷ getD bytes (at + 3) 0 ∷ [])
 
 -- a letter for each site
 unfoldable pub letters : Run → ℕ → List ℕ
@@ -49,6 +50,13 @@ openedIn r = select (opened r) transactions
 abbrev pub transactionLines : Run → List ℕ
 transactionLines r = flatten (map (transactionLine r) (openedIn r))
 
--- the lines of n answers and of a run's opened transactions
-abbrev pub textOf : ℕ → List ℕ → Run → List ℕ
-textOf n bytes r = linesOf n bytes ++ transactionLines r
+-- the sites, and their lines
+abbrev pub sites : List ℕ
+sites = 0 ∷ participants
+
+abbrev pub siteLines : (ℕ → Totals) → List ℕ → List ℕ
+siteLines f ss = flatten (map (λ s. totalsLine (f s)) ss)
+
+-- the lines of n answers, of a run's opened transactions, and of the sites
+abbrev pub textOf : ℕ → List ℕ → Run → (ℕ → Totals) → List ℕ
+textOf n bytes r f = linesOf n bytes ++ (transactionLines r ++ siteLines f sites)

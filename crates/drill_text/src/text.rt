@@ -1,4 +1,4 @@
-// The lines of a drill, as bytes.
+// The lines of a drill, as bytes: those of events and of transactions.
 use codec::message::Parts;
 use joint::run::Run;
 use site::presumption::Outcome;
@@ -53,7 +53,7 @@ fn line_size(number: usize, answers: &[u8], from: usize) -> usize
         + 5
 }
 
-fn write_bytes(bytes: &[u8], out: &mut [u8], at: usize)
+pub(crate) fn write_bytes(bytes: &[u8], out: &mut [u8], at: usize)
     requires { ⌜ at + length (now bytes) ≤ length (now out) ⌝ }
     ensures { λ _. ⌜ now (out .exit) ≡ stored at (now (bytes .entry)) (now (out .entry)) ⌝ }
 {
@@ -166,8 +166,8 @@ fn write_counted(number: usize, last: LastFour, out: &mut [u8], at: usize) -> us
 
 // The four numbers of an answer. Where their sum is below 10, as it mostly is, each has one digit.
 fn write_answer(number: u8, records: u8, forces: u8, sends: u8, out: &mut [u8], at: usize) -> usize
-    requires { ⌜ at + length (line (number ∷ records ∷ forces ∷ sends ∷ [])) ≤ length (now out) ⌝ }
-    ensures { λ r. ⌜ (r ≡ at + length (line (number ∷ records ∷ forces ∷ sends ∷ []))) × (now (out .exit) ≡ stored at (line (number ∷ records ∷ forces ∷ sends ∷ [])) (now (out .entry))) ⌝ }
+    requires { ⌜ at + length (line 5 (number ∷ records ∷ forces ∷ sends ∷ [])) ≤ length (now out) ⌝ }
+    ensures { λ r. ⌜ (r ≡ at + length (line 5 (number ∷ records ∷ forces ∷ sends ∷ []))) × (now (out .exit) ≡ stored at (line 5 (number ∷ records ∷ forces ∷ sends ∷ [])) (now (out .entry))) ⌝ }
 {
     if (number as usize) + (records as usize) + (forces as usize) + (sends as usize) < 10 {
         let short = [

@@ -5,7 +5,8 @@ use Prim.Native.String.{String}
 use Prim.Native.String
 use mathlib.Core.Path.{_≡_, refl}
 use mathlib.Core.Bool.{cond}
-use mathlib.Core.List.{List, [], _∷_, map}
+use mathlib.Core.List.{List, [], _∷_, _++_, map, flatten}
+use lib.ListN.{replicate}
 use lib.Dec.{leb}
 use Rattle.site.specs.Numbers.{coordinatorPhase, waitingSet, participantPhase}
 use Rattle.joint.specs.State.{Run, fresh}
@@ -31,11 +32,14 @@ hex s = paired (digits s)
 
 -- ---- the table
 
--- a list of events; the drill's whole output; after it, of one transaction, the coordinator's phase and waiting set
--- and participant 1's phase (phases counted from 0 in 01's order); and the image of participant 1's log
+-- a list of events; the drill's output, its last nine lines apart: those of the sites 0 and 1, and the one that each other site has; after it, of
+-- one transaction, the coordinator's phase and waiting set and participant 1's phase (phases counted from 0 in 01's order); and the image of
+-- participant 1's log
 pub record Case : Type 0 where
   pub input : String
   pub output : String
+  pub totals : String
+  pub others : String
   pub transaction : ℕ
   pub phases : List ℕ
   pub image-of-1 : String
@@ -46,6 +50,8 @@ cases =
     record {
       input = "00 00 01 01 FF 00 / 01 00 00 00 FF 00 / 02 00 01 00 FF 00 / 02 00 01 01 FF 00 / 02 00 01 03 FF 00";
       output = "1 0 0 0 0\n2 0 1 1 1\n3 0 1 1 1\n4 0 1 1 1\n5 0 1 0 0\nHANDOVER 0 CC-------\n";
+      totals = "2 1 2 0\n1 1 1 0\n";
+      others = "0 0 0 0\n";
       transaction = 0;
       phases = 4 ∷ 0 ∷ 2 ∷ [];
       image-of-1 = "44 50 52 4C 01 01 0A 00 03 00 05 00 01";
@@ -54,6 +60,8 @@ cases =
     ∷ record {
       input = "00 00 01 00 FF 00 / 01 00 00 00 FF 00 / 02 00 01 00 FF 00 / 02 00 01 01 FF 00 / 02 00 01 03 FF 00 / 02 00 01 05 FF 00";
       output = "1 0 0 0 0\n2 0 0 0 1\n3 0 1 1 1\n4 0 1 1 1\n5 0 1 1 1\n6 0 1 0 0\nHANDOVER 0 CC-------\n";
+      totals = "1 1 1 0\n2 1 2 0\n";
+      others = "0 0 0 0\n";
       transaction = 0;
       phases = 4 ∷ 0 ∷ 2 ∷ [];
       image-of-1 = "44 50 52 4C 01 02 0E 00 03 00 11 00 02 00 05 00 00 06 00";
@@ -63,6 +71,8 @@ cases =
       input =
           "00 00 01 00 FF 00 / 01 00 00 00 FF 00 / 02 00 01 00 FF 00 / 02 00 01 01 FF 00 / 02 00 01 03 FF 00 / 02 00 01 05 FF 00 / 02 00 01 04 FF 00 / 02 00 01 01 FF 00 / 02 00 01 04 FF 00";
       output = "1 0 0 0 0\n2 0 0 0 1\n3 0 1 1 1\n4 0 1 1 1\n5 0 1 1 1\n6 0 1 0 0\n7 7 0 0 0\n8 0 0 0 1\n9 0 0 0 0\nHANDOVER 0 CC-------\n";
+      totals = "1 1 1 0\n2 1 2 0\n";
+      others = "0 0 0 0\n";
       transaction = 0;
       phases = 4 ∷ 0 ∷ 2 ∷ [];
       image-of-1 = "44 50 52 4C 01 02 0E 00 03 00 11 00 02 00 05 00 00 06 00";
@@ -71,6 +81,8 @@ cases =
     ∷ record {
       input = "00 00 01 01 FF 00 / 01 00 00 00 FF 00 / 02 00 01 00 FF 00 / 02 00 01 01 01 00 / 07 00 00 00 FF 00";
       output = "1 0 0 0 0\n2 0 1 1 1\n3 0 1 1 1\n4 0 1 0 0\n5 0 0 0 1\nHANDOVER 0 A--------\n";
+      totals = "1 1 1 0\n1 1 1 0\n";
+      others = "0 0 0 0\n";
       transaction = 0;
       phases = 3 ∷ 1 ∷ 1 ∷ [];
       image-of-1 = "44 50 52 4C 01 01 0A 00 03 00 05 00 01";
@@ -80,6 +92,8 @@ cases =
       input =
           "00 00 01 01 FF 00 / 01 00 00 00 FF 00 / 02 00 01 00 FF 00 / 02 00 01 01 01 01 / 07 00 00 00 FF 00 / 02 00 01 03 FF 00 / 02 00 01 01 FF 00 / 02 00 01 03 FF 00";
       output = "1 0 0 0 0\n2 0 1 1 1\n3 0 1 1 1\n4 0 1 0 0\n5 0 0 0 0\n6 7 0 0 0\n7 0 0 0 1\n8 0 1 0 0\nHANDOVER 0 CC-------\n";
+      totals = "1 1 1 0\n1 1 1 0\n";
+      others = "0 0 0 0\n";
       transaction = 0;
       phases = 4 ∷ 0 ∷ 2 ∷ [];
       image-of-1 = "44 50 52 4C 01 01 0A 00 03 00 05 00 01";
@@ -88,6 +102,8 @@ cases =
     ∷ record {
       input = "00 00 01 01 FF 00 / 01 00 00 00 FF 00 / 02 00 01 00 FF 00 / 02 00 01 01 05 00 / 02 00 01 01 04 00";
       output = "1 0 0 0 0\n2 0 1 1 1\n3 0 1 1 1\n4 9 0 0 0\n5 0 1 1 1\nHANDOVER 0 C--------\n";
+      totals = "2 1 2 0\n1 1 1 0\n";
+      others = "0 0 0 0\n";
       transaction = 0;
       phases = 4 ∷ 0 ∷ 1 ∷ [];
       image-of-1 = "44 50 52 4C 01 01 0A 00 03 00 05 00 01";
@@ -97,6 +113,8 @@ cases =
       input =
           "00 00 01 01 FF 00 / 01 00 00 00 FF 00 / 02 00 01 00 FF 00 / 02 00 01 01 FF 00 / 02 00 01 03 FF 00 / 05 00 01 00 FF 00 / 04 00 01 00 FF 00 / 05 00 01 00 FF 00";
       output = "1 0 0 0 0\n2 0 1 1 1\n3 0 1 1 1\n4 0 1 1 1\n5 0 1 0 0\n6 8 0 0 0\n7 0 0 1 0\n8 0 0 0 0\nHANDOVER 0 CC-------\n";
+      totals = "2 1 2 0\n2 1 2 0\n";
+      others = "0 0 0 0\n";
       transaction = 0;
       phases = 4 ∷ 0 ∷ 2 ∷ [];
       image-of-1 = "44 50 52 4C 01 01 0A 00 02 00 06 00";
@@ -106,6 +124,8 @@ cases =
       input =
           "00 00 01 01 FF 00 / 01 00 00 00 FF 00 / 02 00 01 00 FF 00 / 02 00 01 01 FF 00 / 02 00 01 03 FF 00 / 05 00 00 00 FF 00 / 05 00 00 00 FF 00 / 05 00 00 00 FF 00";
       output = "1 0 0 0 0\n2 0 1 1 1\n3 0 1 1 1\n4 0 1 1 1\n5 0 1 0 0\n6 0 0 0 0\n7 0 0 0 0\n8 8 0 0 0\nHANDOVER 0 CC-------\n";
+      totals = "2 1 2 0\n1 1 1 0\n";
+      others = "0 0 0 0\n";
       transaction = 0;
       phases = 4 ∷ 0 ∷ 2 ∷ [];
       image-of-1 = "44 50 52 4C 01 01 0A 00 03 00 05 00 01";
@@ -114,6 +134,8 @@ cases =
     ∷ record {
       input = "00 07 FF 00 FF 00 / 00 08 FF 00 FF 00 / 00 06 00 00 FF 00";
       output = "1 0 0 0 0\n2 1 0 0 0\n3 1 0 0 0\nHANDOVER 7 ---------\n";
+      totals = "0 1 0 0\n0 1 0 0\n";
+      others = "0 1 0 0\n";
       transaction = 7;
       phases = 0 ∷ 0 ∷ 0 ∷ [];
       image-of-1 = "44 50 52 4C 01 00";
@@ -122,6 +144,8 @@ cases =
     ∷ record {
       input = "00 00 01 01 FF 00 / 01 00 00 00 FF 00 / 02 00 01 00 FF 00";
       output = "1 0 0 0 0\n2 0 1 1 1\n3 0 1 1 1\nHANDOVER 0 ---------\n";
+      totals = "1 1 1 0\n1 1 1 0\n";
+      others = "0 0 0 0\n";
       transaction = 0;
       phases = 1 ∷ 1 ∷ 1 ∷ [];
       image-of-1 = "44 50 52 4C 01 01 0A 00 03 00 05 00 01";
@@ -141,7 +165,8 @@ observed c =
     drill (hex (c .input)) ∷ phasesOf r (c .transaction) ∷ siteImage r 1 ∷ []
 
 pub expected : Case → List (List ℕ)
-expected c = ascii (c .output) ∷ c .phases ∷ hex (c .image-of-1) ∷ []
+expected c =
+    (ascii (c .output) ++ ascii (c .totals) ++ flatten (replicate 7 (ascii (c .others)))) ∷ c .phases ∷ hex (c .image-of-1) ∷ []
 
 pub cases-hold : map observed cases ≡ map expected cases
 unfolding codec-opens site-opens joint-opens cases phasesOf observed expected

@@ -4,6 +4,7 @@ mod view
 mod safety
 mod Demand3
 mod Screen
+mod Exact
 mod logs
 mod Reachable
 mod engine

@@ -14,7 +14,8 @@ use Rattle.joint.specs.State.{Run, fresh, opened}
 use Rattle.joint.specs.Plan.{transactions}
 use Rattle.joint.specs.Run.{Answer, after, answers}
 use Rattle.joint.specs.Safety.{Moment, history, isEntry, isEntryAt}
-use Rattle.joint.specs.Drill.{eventsIn, space, newline, decimal, line, eventLines, ascii, letter, entryLetter, transactionLine, drill}
+use Rattle.joint.specs.Totals.{Totals, totals}
+use Rattle.joint.specs.Drill.{eventsIn, space, newline, decimal, line, eventLines, ascii, letter, entryLetter, transactionLine, totalsLine, drill}
 use Rattle.joint.specs.Screen.{inFront, lines, isHandover, letters, oneOutcome, letterOf, EveryScreen}
 use Rattle.joint.proofs.base.Booleans.{and-both, or-both, is-false}
 use Rattle.joint.proofs.base.Lists.{Each, each-append, each-map}
@@ -61,15 +62,15 @@ decimal-plain (suc k) n = go (decimal-plain k (n / 10)) (ltb n 10) refl
 abbrev PlainLine : List ℕ → Type 0
 PlainLine l = (front : List ℕ) × (l ≡ front ++ newline ∷ []) × Each Plain front
 
-line-plain : (ns : List ℕ) → PlainLine (line ns)
+line-plain : (k : ℕ) (ns : List ℕ) → PlainLine (line k ns)
 unfolding line space
-line-plain [] = ([], refl, tt)
-line-plain (n ∷ []) = (decimal 5 n, refl, decimal-plain 5 n)
-line-plain (n ∷ m ∷ ns) =
-    let x = line-plain (m ∷ ns) in (
-      decimal 5 n ++ 32 ∷ x .0,
-      ap (λ (l : List ℕ). decimal 5 n ++ 32 ∷ l) (x .1) ∙ sym (append-assoc (decimal 5 n) (32 ∷ x .0) (newline ∷ [])),
-      each-append Plain (decimal 5 n) (32 ∷ x .0) (decimal-plain 5 n) ((refl, refl), x .2),
+line-plain k [] = ([], refl, tt)
+line-plain k (n ∷ []) = (decimal k n, refl, decimal-plain k n)
+line-plain k (n ∷ m ∷ ns) =
+    let x = line-plain k (m ∷ ns) in (
+      decimal k n ++ 32 ∷ x .0,
+      ap (λ (l : List ℕ). decimal k n ++ 32 ∷ l) (x .1) ∙ sym (append-assoc (decimal k n) (32 ∷ x .0) (newline ∷ [])),
+      each-append Plain (decimal k n) (32 ∷ x .0) (decimal-plain k n) ((refl, refl), x .2),
     )
 
 each-inner : (l : List ℕ) → Each Plain l → Each Inner l
@@ -92,9 +93,15 @@ unfolding eventLines
 events-passed n [] rest = refl
 events-passed n (a ∷ given) rest =
     let l = n ∷ a .number ∷ a .records ∷ a .forces ∷ a .sends ∷ [] in
-    ap handovers (append-assoc (line l) (eventLines (n + 1) given) rest)
-    ∙ plain-passed (line l) (eventLines (n + 1) given ++ rest) (line-plain l)
+    ap handovers (append-assoc (line 5 l) (eventLines (n + 1) given) rest)
+    ∙ plain-passed (line 5 l) (eventLines (n + 1) given ++ rest) (line-plain 5 l)
     ∙ events-passed (n + 1) given rest
+
+-- and lines of sites
+totals-passed : (f : ℕ → Totals) (sites : List ℕ) → handovers (flatten (map (λ s. totalsLine (f s)) sites)) ≡ []
+unfolding flatten totalsLine
+totals-passed f [] = unfold lines select in refl
+totals-passed f (s ∷ sites) = plain-passed (totalsLine (f s)) (flatten (map (λ s. totalsLine (f s)) sites)) (line-plain 19 _) ∙ totals-passed f sites
 
 -- ---- lines of transactions
 
@@ -135,17 +142,17 @@ its-letters : (r : Run) (t : ℕ) → letters (shownLine r t) ≡ map (entryLett
 unfolding letters ascii decimal
 its-letters r t = refl
 
-transactions-shown : (r : Run) (ts : List ℕ)
-    → map letters (handovers (flatten (map (transactionLine r) ts))) ≡ map (λ t. map (entryLetter (r .transaction t)) (0 ∷ participants)) ts
+transactions-shown : (r : Run) (ts behind : List ℕ) → handovers behind ≡ []
+    → map letters (handovers (flatten (map (transactionLine r) ts) ++ behind)) ≡ map (λ t. map (entryLetter (r .transaction t)) (0 ∷ participants)) ts
 unfolding flatten
-transactions-shown r [] = unfold lines select in refl
-transactions-shown r (t ∷ ts) =
-    let rest = flatten (map (transactionLine r) ts) in
-    ap (λ (l : List ℕ). map letters (handovers l)) (line-ends r t rest)
+transactions-shown r [] behind h = ap (map letters) h
+transactions-shown r (t ∷ ts) behind h =
+    let rest = flatten (map (transactionLine r) ts) ++ behind in
+    ap (λ (l : List ℕ). map letters (handovers l)) (append-assoc (transactionLine r t) (flatten (map (transactionLine r) ts)) behind ∙ line-ends r t rest)
     ∙ ap (map letters) (chosen-next (shownLine r t) rest (shown-inner r t))
     ∙ ap (λ (b : Bool). map letters (cond b (shownLine r t ∷ handovers rest) (handovers rest))) (is-handover r t)
     ∙ ap (λ (l : List ℕ). l ∷ map letters (handovers rest)) (its-letters r t)
-    ∙ ap (λ (ls : List (List ℕ)). map (entryLetter (r .transaction t)) (0 ∷ participants) ∷ ls) (transactions-shown r ts)
+    ∙ ap (λ (ls : List (List ℕ)). map (entryLetter (r .transaction t)) (0 ∷ participants) ∷ ls) (transactions-shown r ts behind h)
 
 -- ---- what they show is what happened
 
@@ -164,7 +171,7 @@ module _ (input : List ℕ) where
   unfolding drill
   letters-happened =
       ap (map letters) (events-passed 1 (answers fresh (eventsIn input)) _)
-      ∙ transactions-shown (after fresh (eventsIn input)) openedOnes
+      ∙ transactions-shown (after fresh (eventsIn input)) openedOnes _ (totals-passed (totals (eventsIn input)) (0 ∷ participants))
       ∙ ap (λ (f : ℕ → List ℕ). map f openedOnes) (fun-ext (λ t. ap (λ (f : ℕ → ℕ). map f (0 ∷ participants)) (fun-ext (letter-happened (eventsIn input) t))))
 
 -- ---- one outcome

@@ -9,3 +9,5 @@ pub mod Plans
 pub mod EventMoments
 pub mod Recorded
 pub mod Looked
+pub mod Forces
+pub mod Openings

@@ -1,8 +1,9 @@
 -- What the program's values stand for, and its answers in 01's numbers. Nothing here says what is right: State to Drill do.
 use Prim.Native.Nat.{ℕ}
-use mathlib.Core.Bool.{Bool, true}
+use mathlib.Core.Bool.{Bool, true, _&&_}
 use mathlib.Core.List.{List, map}
-use lib.ListN.{take, drop, getD, replicate}
+use lib.ListN.{length, take, drop, getD, replicate}
+use Rattle.codec.specs.Lists.{select}
 use Rattle.codec.specs.Sets.{member}
 use Rattle.codec.specs.Answers.{recordIn, noRecord}
 use Rattle.site.specs.Presumption.{Outcome, commit, abort}
@@ -12,7 +13,11 @@ use Rattle.site.specs.declared.phases.CoordinatorPhase.{CoordinatorPhase}
 use Rattle.site.specs.declared.phases.CoordinatorPhase.the-variants as coordinator
 use Rattle.site.specs.declared.phases.ParticipantPhase.the-variants as participant
 use Rattle.joint.specs.State as plain
+use Rattle.joint.specs.State.{opened, takesPart}
+use Rattle.joint.specs.Plan.{transactions}
 use Rattle.joint.specs.Run as run
+use Rattle.joint.specs.Totals as totals
+use Rattle.joint.specs.Totals.{held, totalsOf}
 use Rattle.joint.specs.Drill.{Replayed}
 use Rattle.codec.specs.declared.record.Record.{Record}
 use Rattle.joint.specs.declared.sites.Site.{Site}
@@ -25,6 +30,7 @@ use Rattle.joint.specs.declared.answers.Answer.the-variants as answer
 use Rattle.joint.specs.declared.run.Run.{Run}
 use Rattle.joint.specs.declared.run.Next.{Next}
 use Rattle.joint.specs.declared.replay.Ran.{Ran}
+use Rattle.joint.specs.declared.totals.Totals.{Totals}
 
 -- ---- sites
 
@@ -90,6 +96,23 @@ runIn r =
       transaction = transactionsIn (r .transactions);
     }
 
+-- ---- totals
+
+-- the forced writes that the run has counted at site s. (A counter has 64 bits.)
+unfoldable pub forcesIn : Run → ℕ → ℕ
+forcesIn r s = held (getD (r .forces) s 0)
+
+-- the transactions that were opened with site s
+unfoldable pub handoversIn : plain.Run → ℕ → ℕ
+handoversIn r s = length (select (λ t. opened r t && takesPart (r .transaction t) s) transactions)
+
+unfoldable pub totalsIn : Run → ℕ → totals.Totals
+totalsIn r s = totalsOf (forcesIn r s) (handoversIn (runIn r) s)
+
+-- what a call gives of them
+unfoldable pub totalsSeen : Totals → totals.Totals
+totalsSeen x = record { forces = x .forces; handovers = x .handovers; quotient = x .quotient; remainder = x .remainder }
+
 -- ---- answers
 
 -- accepted is 0, with the counts; the others are the refusals 1 to 9
@@ -124,4 +147,4 @@ nextIn x = record { answer = answerIn (x .answer); run = runIn (x .run) }
 
 -- what a replay gives, with the lent buffer
 unfoldable pub replayIn : Ran → List ℕ → Replayed
-replayIn x buffer = record { count = x .count; run = runIn (x .run); buffer = buffer }
+replayIn x buffer = record { count = x .count; run = runIn (x .run); totals = totalsIn (x .run); buffer = buffer }

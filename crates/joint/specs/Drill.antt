@@ -15,6 +15,7 @@ use Rattle.joint.specs.State.{Run, Transaction, fresh, opened}
 use Rattle.joint.specs.Event.{eventLength}
 use Rattle.joint.specs.Plan.{transactions}
 use Rattle.joint.specs.Run.{Answer, after, answers}
+use Rattle.joint.specs.Totals.{Totals, totals}
 
 -- ---- input
 
@@ -36,10 +37,11 @@ eventsIn input = eventsOf (take 60000 input)
 unfoldable pub answerBytes : Answer → List ℕ
 answerBytes a = a .number ∷ a .records ∷ a .forces ∷ a .sends ∷ []
 
--- how many events were run, the run that they leave, and what the buffer holds then
+-- how many events were run, the run that they leave with the totals of each site, and what the buffer holds then
 pub record Replayed : Type 0 where
   pub count : ℕ
   pub run : Run
+  pub totals : ℕ → Totals
   pub buffer : List ℕ
 
 -- no event is run where the buffer is too short for all answers
@@ -48,8 +50,8 @@ replayed bytes buffer =
     let events = eventsOf bytes in
     let told = flatten (map answerBytes (answers fresh events)) in
     cond (leb (length told) (length buffer))
-    (record { count = length events; run = after fresh events; buffer = stored 0 told buffer })
-    (record { count = 0; run = fresh; buffer = buffer })
+    (record { count = length events; run = after fresh events; totals = totals events; buffer = stored 0 told buffer })
+    (record { count = 0; run = fresh; totals = totals []; buffer = buffer })
 
 -- ---- output
 
@@ -64,16 +66,16 @@ unfoldable pub decimal : ℕ → ℕ → List ℕ
 decimal zero n = (48 + n % 10) ∷ []
 decimal (suc k) n = elim (ltb n 10) [ true ↦ (48 + n) ∷ [] | false ↦ decimal k (n / 10) ++ ((48 + n % 10) ∷ []) ]
 
--- numbers with one space between, and a newline
-unfoldable pub line : List ℕ → List ℕ
-line [] = newline ∷ []
-line (n ∷ []) = decimal 5 n ++ (newline ∷ [])
-line (n ∷ m ∷ ns) = decimal 5 n ++ space ∷ line (m ∷ ns)
+-- numbers below 10 ^ (k + 1) with one space between, and a newline
+unfoldable pub line : ℕ → List ℕ → List ℕ
+line k [] = newline ∷ []
+line k (n ∷ []) = decimal k n ++ (newline ∷ [])
+line k (n ∷ m ∷ ns) = decimal k n ++ space ∷ line k (m ∷ ns)
 
 -- a line for each event: its number from n, answer, records, forces, sends
 unfoldable pub eventLines : ℕ → List Answer → List ℕ
 eventLines n [] = []
-eventLines n (a ∷ rest) = line (n ∷ a .number ∷ a .records ∷ a .forces ∷ a .sends ∷ []) ++ eventLines (n + 1) rest
+eventLines n (a ∷ rest) = line 5 (n ∷ a .number ∷ a .records ∷ a .forces ∷ a .sends ∷ []) ++ eventLines (n + 1) rest
 
 -- the bytes of an ASCII text
 unfoldable pub ascii : String → List ℕ
@@ -96,11 +98,17 @@ unfoldable pub transactionLine : Run → ℕ → List ℕ
 transactionLine r t =
     ascii "HANDOVER" ++ space ∷ decimal 0 t ++ space ∷ map (entryLetter (r .transaction t)) (0 ∷ participants) ++ (newline ∷ [])
 
+-- a line for a site: forces, handovers, quotient, remainder. A number of 64 bits is below 10 ^ 20
+unfoldable pub totalsLine : Totals → List ℕ
+totalsLine x = line 19 (x .forces ∷ x .handovers ∷ x .quotient ∷ x .remainder ∷ [])
+
 unfoldable pub drill : List ℕ → List ℕ
 drill input =
     let events = eventsIn input in
     let r = after fresh events in
-    eventLines 1 (answers fresh events) ++ flatten (map (transactionLine r) (select (opened r) transactions))
+    eventLines 1 (answers fresh events)
+    ++ (flatten (map (transactionLine r) (select (opened r) transactions))
+    ++ flatten (map (λ s. totalsLine (totals events s)) (0 ∷ participants)))
 
 -- a text at the front of a lent buffer, and its length; where the buffer is too short, 0 and the buffer as it was
 unfoldable pub textInto : List ℕ → List ℕ → Written

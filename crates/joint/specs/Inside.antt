@@ -25,8 +25,9 @@ use Rattle.joint.specs.Run as run
 use Rattle.joint.specs.Run.{isSend, count, eventParsed, answerOf}
 use Rattle.joint.specs.Drill.{chunks}
 use Rattle.joint.specs.laws.Events.{bytesOf}
-use Rattle.joint.specs.Answers.{siteFrom, partIn, transactionsIn, answerIn, runIn, Seen, seen}
-use Rattle.joint.specs.Program.{hasRoom}
+use Rattle.joint.specs.Safety.{history}
+use Rattle.joint.specs.Answers.{siteFrom, partIn, transactionsIn, answerIn, runIn, forcesIn, Seen, seen}
+use Rattle.joint.specs.Program.{hasRoom, Adds}
 use Rattle.joint.specs.declared.sites.Site.{Site}
 use Rattle.joint.specs.declared.rows.Then.{Then}
 use Rattle.joint.specs.declared.rows.Then.the-variants as follows
@@ -283,9 +284,10 @@ unfoldable pub roomAlong : plain.Run → List (List ℕ) → Bool
 roomAlong r [] = true
 roomAlong r (e ∷ es) = hasRoom r e && roomAlong (run.event r e .run) es
 
--- n events in bytes, from the run r: `before` and `now` are what the buffer of answers holds
-pub record Goes (r : plain.Run) (n : ℕ) (bytes before now : List ℕ) (x : Ran) : Type 0 where
+-- n events in bytes, from the run r, with the forces counted till then: `before` and `now` are what the buffer of answers holds
+pub record Goes (r : plain.Run) (forces : ℕ → ℕ) (n : ℕ) (bytes before now : List ℕ) (x : Ran) : Type 0 where
   pub count : x .count ≡ n
   pub leaves : roomAlong r (chunks n bytes) ≡ true → runIn (x .run) ≡ run.after r (chunks n bytes)
   pub answers : roomAlong r (chunks n bytes) ≡ true → now ≡ stored 0 (bytesOf (run.answers r (chunks n bytes))) before
   pub last : roomAlong r (chunks n bytes) ≡ true → (m : ℕ) → n ≡ suc m → answerIn (x .answer) ≡ answerOf (run.event (run.after r (chunks m bytes)) (take 6 (drop (6 * m) bytes)))
+  pub adds : roomAlong r (chunks n bytes) ≡ true → Adds forces (history r (chunks n bytes)) (forcesIn (x .run))

@@ -3,8 +3,9 @@ pub mod Event
 pub mod Refusals
 pub mod Plan
 pub mod Run
-pub mod Drill
 pub mod Safety
+pub mod Totals
+pub mod Drill
 pub mod Screen
 pub mod Answers
 pub mod Program

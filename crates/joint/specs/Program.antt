@@ -15,8 +15,9 @@ use Rattle.joint.specs.Refusals.{refusals}
 use Rattle.joint.specs.Plan.{Plan, plan}
 use Rattle.joint.specs.Run as run
 use Rattle.joint.specs.Run.{isAppend, count}
-use Rattle.joint.specs.Safety.{history, isEntryAt, isSending, Safe}
-use Rattle.joint.specs.Answers.{runIn, answerIn, seen, nextIn}
+use Rattle.joint.specs.Safety.{Moment, happened, history, isEntryAt, isSending, Safe}
+use Rattle.joint.specs.Totals.{held, forcesAt, totals}
+use Rattle.joint.specs.Answers.{runIn, forcesIn, totalsIn, answerIn, seen, nextIn}
 use Rattle.joint.specs.declared.answers.Answer.{Answer}
 use Rattle.joint.specs.declared.run.Run.{Run}
 use Rattle.joint.specs.declared.run.Next.{Next}
@@ -42,13 +43,18 @@ hasRoom r bytes = roomParsed r (parse bytes)
 
 -- ---- what the program promises, in the words that its functions cite
 
--- `Run::new` in src/run.rt
+-- `Run::new` in src/run.rt: a fresh run, in which no force is counted
 abbrev pub Begins : Run → Type 0
-Begins r = runIn r ≡ fresh
+Begins r = (runIn r ≡ fresh) × ((s : ℕ) → forcesIn r s ≡ 0)
 
--- `Run::event` in src/replay.rt: where the run's logs have room, answer, counts and next run are the plain event's
+-- g counts at each site what f counts, and the forces of h
+abbrev pub Adds : (ℕ → ℕ) → List Moment → (ℕ → ℕ) → Type 0
+Adds f h g = (s : ℕ) → g s ≡ held (f s + forcesAt s h)
+
+-- `Run::event` in src/replay.rt: where the run's logs have room, answer, counts and next run are the plain event's, and its forces are counted
 abbrev pub Takes : Run → List ℕ → Next → Type 0
-Takes r bytes next = hasRoom (runIn r) bytes ≡ true → nextIn next ≡ seen (run.event (runIn r) bytes)
+Takes r bytes next =
+    hasRoom (runIn r) bytes ≡ true → (nextIn next ≡ seen (run.event (runIn r) bytes)) × Adds (forcesIn r) (happened (runIn r) bytes) (forcesIn (next .run))
 
 -- ---- the program along a list of events, of any bytes
 
@@ -70,6 +76,8 @@ pub record Faithful (es : List (List ℕ)) (given : List Answer) (r : Run) : Typ
   pub entries : (t s : ℕ) (o : Outcome) → runIn r .transaction t .entered s o ≡ any (isEntryAt t s o) (history fresh es)
   -- and so is what it stores as sent: a message of transaction t of kind k, to participant p or from it, was sent
   pub messages : (t p k : ℕ) → runIn r .transaction t .sent p k ≡ any (isSending t p k) (history fresh es)
+  -- and so are the totals: forced writes and handovers of each site, with quotient and remainder
+  pub totals : (s : ℕ) → totalsIn r s ≡ totals es s
   -- and the plain run's list keeps the three sentences
   pub safe : Safe es
 

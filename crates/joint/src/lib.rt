@@ -8,4 +8,5 @@ mod restarts;
 mod rows;
 pub mod run;
 mod sites;
+pub mod totals;
 mod transactions;

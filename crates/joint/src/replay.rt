@@ -1,6 +1,5 @@
 // Events run one after the other: a list of them from the fresh run, or one.
 use crate::answers::Answer;
-use crate::answers::Counts;
 use crate::changes::Change;
 use crate::changes::crash;
 use crate::changes::discard;
@@ -14,12 +13,13 @@ use crate::restarts::forget_all;
 use crate::restarts::restart;
 use crate::run::Next;
 use crate::run::Run;
+use crate::totals::add_held;
 ghost use mathlib.Core.Path.{_≡_};
 ghost use Prim.Native.Nat.{_+_, _*_, _≤_};
 ghost use lib.ListN.{length};
 ghost use Rattle.codec.specs.Image.{stored};
 ghost use Rattle.joint.specs.Drill.{answerBytes, replayed};
-ghost use Rattle.joint.specs.Answers.{answerIn, runIn, replayIn};
+ghost use Rattle.joint.specs.Answers.{answerIn, runIn, forcesIn, replayIn};
 ghost use Rattle.joint.specs.Program.{Takes};
 ghost use Rattle.joint.specs.Inside.{Goes};
 
@@ -42,10 +42,10 @@ fn store(answer: Answer, answers: &mut [u8], at: usize)
 }
 
 // Runs the first `events` events in `bytes`, six bytes each, the last perhaps broken, and stores their answers, four bytes
-// each, in `answers`. Each is read, decided, and what it changes is stored; a refusal changes nothing.
+// each, in `answers`. Each is read, decided, and what it changes is stored, its forces counted; a refusal changes nothing.
 fn go(run: Run, bytes: &[u8], answers: &mut [u8], events: usize) -> Ran
     requires { ⌜ (4 * events ≤ length (now answers)) × (6 * events ≤ length (now bytes) + 5) ⌝ }
-    ensures { λ r. ⌜ Goes (runIn run) events (now (bytes .entry)) (now (answers .entry)) (now (answers .exit)) r ⌝ }
+    ensures { λ r. ⌜ Goes (runIn run) (forcesIn run) events (now (bytes .entry)) (now (answers .entry)) (now (answers .exit)) r ⌝ }
 {
     let len = bytes.len();
     let mut run = run;
@@ -76,6 +76,7 @@ fn go(run: Run, bytes: &[u8], answers: &mut [u8], events: usize) -> Ran
                 let next = restart(site, records, transactions, e);
                 last = next.answer;
                 store(last, answers, out);
+                run.forces[s] = add_held(run.forces[s], last.forces());
                 if let Answer::Accepted(_) = last {
                     let changed = next.site;
                     run.sites[s] = changed;
@@ -102,32 +103,27 @@ fn go(run: Run, bytes: &[u8], answers: &mut [u8], events: usize) -> Ran
                     Step::Crash(e) => crash(site, e.keep),
                     Step::Mark(e) => mark(site, transaction, e),
                 };
-                match change {
-                    Change::Refused(answer) => {
-                        last = answer;
-                        store(last, answers, out);
+                last = change.answer();
+                store(last, answers, out);
+                run.forces[s] = add_held(run.forces[s], last.forces());
+                if let Change::Happens(row) = change {
+                    let effects = row.effects;
+                    let then = row.then;
+                    let after = transaction.after(s as u8, effects);
+                    run.transactions[t] = after.settle(s as u8, then);
+                    if row.writes() {
+                        let records = run.records[s];
+                        let log = records.after(site, t as u8, row);
+                        let changed = log.site;
+                        run.sites[s] = changed;
+                        let changed = log.records;
+                        run.records[s] = changed;
+                    } else {
+                        run.sites[s] = site.settle(row);
                     }
-                    Change::Happens(row) => {
-                        let effects = row.effects;
-                        let then = row.then;
-                        last = Answer::Accepted(Counts::of(effects));
-                        store(last, answers, out);
-                        let after = transaction.after(s as u8, effects);
-                        run.transactions[t] = after.settle(s as u8, then);
-                        if row.writes() {
-                            let records = run.records[s];
-                            let log = records.after(site, t as u8, row);
-                            let changed = log.site;
-                            run.sites[s] = changed;
-                            let changed = log.records;
-                            run.records[s] = changed;
-                        } else {
-                            run.sites[s] = site.settle(row);
-                        }
-                        if row.goes_down() {
-                            let transactions = run.transactions;
-                            run.transactions = forget_all(transactions, s);
-                        }
+                    if row.goes_down() {
+                        let transactions = run.transactions;
+                        run.transactions = forget_all(transactions, s);
                     }
                 }
             }

@@ -20,6 +20,8 @@ pub struct Run {
     pub(crate) sites: [Site; Run::SITES],
     pub(crate) records: [Records; Run::SITES],
     pub(crate) transactions: [Transaction; Run::TRANSACTIONS],
+    // Forced writes so far, by site.
+    pub(crate) forces: [u64; Run::SITES],
 }
 
 // An event's answer, and the run that it leaves.
@@ -68,6 +70,7 @@ impl Run {
             sites: [Site::NEW; Run::SITES],
             records: [Records::new(); Run::SITES],
             transactions: [Transaction::new(); Run::TRANSACTIONS],
+            forces: [0u64; Run::SITES],
         }
     }
 
@@ -84,7 +87,7 @@ impl Run {
         found.up
     }
 
-    fn transaction(self, transaction: u8) -> Transaction
+    pub(crate) fn transaction(self, transaction: u8) -> Transaction
         ensures { λ r. ⌜ transactionIn r ≡ runIn self .transaction transaction ⌝ }
     {
         if Parts::LAST_TRANSACTION < transaction {

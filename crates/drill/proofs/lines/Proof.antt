@@ -1,4 +1,4 @@
--- A text of 220,168 bytes is long enough for every drill, so what is counted is the drill. Assumes nothing.
+-- A text of 220,924 bytes is long enough for every drill, so what is counted is the drill. Assumes nothing.
 use Prim.Native.Nat.{ℕ, _+_, _≤_}
 use mathlib.Core.Path.{_≡_, sym, ap}
 use mathlib.Core.Bool.{true}
@@ -17,7 +17,7 @@ use Rattle.joint.specs.Drill.{drill, textInto, drillInto}
 use Rattle.drill.proofs.lines.Statement.{statement}
 use Rattle.drill.proofs.lines.Tie as tie
 
-whole : (input buffer text : List ℕ) (r : ℕ) → 220168 ≤ length buffer → length (drill input) ≤ 220168 → written r text ≡ drillInto input buffer
+whole : (input buffer text : List ℕ) (r : ℕ) → 220924 ≤ length buffer → length (drill input) ≤ 220924 → written r text ≡ drillInto input buffer
     → Counts r text × (take r text ≡ drill input)
 unfolding drillInto textInto stored
 whole input buffer text r h k e =

@@ -12,10 +12,11 @@ use borrow.Author.Tests.{eq-eqb, ne-eqb, eqb-true, leb-true}
 use Rattle.codec.specs.Lists.{any, every, same}
 use Rattle.codec.specs.laws.Tests.{true-of, every-at, same-list}
 use Rattle.site.specs.Presumption.{Outcome, commit, abort}
-use Rattle.site.specs.Step.{Message, prepare, voteYes, voteNo, readOnly, tell, ack, messages, messageKind, Effect, append, force, enter, send}
-use Rattle.joint.specs.State.{Run, Act, fresh, atTransaction, update, withMarked, perform, performAll, atSite, withEntered, withSent}
+use Rattle.site.specs.Cohort.{Cohort}
+use Rattle.site.specs.Step.{Message, prepare, voteYes, voteNo, readOnly, tell, ack, messages, messageKind}
+use Rattle.joint.specs.State.{Run, fresh, atTransaction, update, withMarked, performAll}
 use Rattle.joint.specs.Event.{Event, opening, beginning, delivery, timeout, forcing, discarding, crash, restart, marking, eventLength, eventOf, ranges, bytesInRange, cutInRange, cutAt, cutOf, Parsed, parse}
-use Rattle.joint.specs.Plan.{Plan, plan}
+use Rattle.joint.specs.Plan.{Plan, openedAs, plan}
 use Rattle.joint.specs.Run.{Result, refuse, carry, cutShort, partly, event, after}
 use Rattle.joint.specs.Safety.{steps, accepts, isMarking, marked}
 use Rattle.joint.proofs.base.Booleans.{is-false}
@@ -23,12 +24,12 @@ use Rattle.joint.proofs.base.Lists.{any-append}
 use Rattle.joint.proofs.base.Ranges.{InRange, only-some, parse-range}
 use Rattle.joint.proofs.base.History.{EventCase, refused, whole, cut, event-case, by-events, after-snoc}
 use Rattle.joint.proofs.base.Plans.{All, all-only}
-use Rattle.joint.proofs.base.Recorded.{at-keeps, Settles, plan-keeps, down-keeps}
+use Rattle.joint.proofs.base.Recorded.{Settles, plan-keeps, down-keeps, unsent, acts-keep}
 
 -- ---- an event and its bytes
 
 -- its code, and x, y and z
-abbrev fieldsOf : Event → List ℕ
+abbrev pub fieldsOf : Event → List ℕ
 fieldsOf (opening t M C) = 0 ∷ t ∷ M ∷ C ∷ []
 fieldsOf (beginning t) = 1 ∷ t ∷ []
 fieldsOf (delivery t p m) = 2 ∷ t ∷ p ∷ messageKind m ∷ []
@@ -93,7 +94,7 @@ few-fields (restart s) = omega arith
 few-fields (marking t p) = omega arith
 
 -- the bytes of an event begin with its numbers
-event-bytes : (b : List ℕ) (x : Parsed) → parse b ≡ some x → take (length (fieldsOf (x .event))) b ≡ fieldsOf (x .event)
+pub event-bytes : (b : List ℕ) (x : Parsed) → parse b ≡ some x → take (length (fieldsOf (x .event))) b ≡ fieldsOf (x .event)
 unfolding parse eventLength
 event-bytes b x h =
     let q = only-some _ _ x h in
@@ -168,14 +169,15 @@ any-step f es e =
 
 -- ---- marks
 
--- an event 8 has no cut
-never-cut : (b : List ℕ) (x : Parsed) → parse b ≡ some x → (n k : ℕ) → x .cut ≡ some (n, k) → getD b 0 0 ≡ 8 → ⊥
+-- only the codes 1, 2, 3 and 7 have a cut, and a crash is one
+pub never-cut : (code : ℕ) → any (eqb code) (1 ∷ 2 ∷ 3 ∷ 7 ∷ []) ≡ false → eqb code 6 ≡ false
+    → (b : List ℕ) (x : Parsed) → parse b ≡ some x → (n k : ℕ) → x .cut ≡ some (n, k) → getD b 0 0 ≡ code → ⊥
 unfolding parse cutInRange cutOf cutAt
-never-cut b x h n k c e =
+never-cut code uncut steady b x h n k c e =
     let q = only-some _ _ x h in
     let cuts = every-at _ (q .0) 2 in
-    let whole : eqb (getD b 4 0) 255 ≡ true = sym (or-false _) ∙ (unfold any in (rw e at (every-at _ cuts 2))) in
-    let none-cut : x .cut ≡ none = sym (ap (λ (y : Parsed). y .cut) (q .1)) ∙ rw (e, whole) refl in
+    let whole : eqb (getD b 4 0) 255 ≡ true = sym (or-false _) ∙ rw (e, uncut) at (every-at _ cuts 2) in
+    let none-cut : x .cut ≡ none = sym (ap (λ (y : Parsed). y .cut) (q .1)) ∙ rw (e, steady, whole) refl in
     Option·none-ne-some _ (sym none-cut ∙ c)
 
 -- what holds of a plan, if there is one, says more
@@ -202,20 +204,11 @@ module _ (t p : ℕ) where
   abbrev isMarked : Run → Bool
   isMarked r = r .transaction t .marked p
 
-  abbrev ofMarks : (ℕ → Bool) → (ℕ → ℕ → Bool) → (ℕ → Outcome → Bool) → Bool
-  ofMarks marks sent entered = marks p
+  abbrev itsMark : Cohort → (ℕ → Bool) → Bool
+  itsMark cohort marks = marks p
 
-  perform-marked : (s u : ℕ) (w : Effect) (x : Run) → isMarked (perform s u w x) ≡ isMarked x
-  unfolding perform atSite
-  perform-marked s u (append k fs) x = refl
-  perform-marked s u force x = refl
-  perform-marked s u (enter o) x = at-keeps t ofMarks u (withEntered s o) (λ y. unfold withEntered in refl) x
-  perform-marked s u (send m q) x = at-keeps t ofMarks u (withSent q (messageKind m)) (λ y. unfold withSent in refl) x
-
-  acts-marked : (s : ℕ) (l : List Act) (x : Run) → isMarked (performAll s l x) ≡ isMarked x
-  unfolding performAll
-  acts-marked s [] x = refl
-  acts-marked s (a ∷ l) x = acts-marked s l _ ∙ perform-marked s (a .transaction) (a .effect) x
+  abbrev ofMarks : Cohort → (ℕ → Bool) → (ℕ → ℕ → Bool) → (ℕ → Outcome → Bool) → Bool
+  ofMarks = unsent t itsMark
 
   -- a mark, of p on t or another
   mark-settles : (u q : ℕ) (x : Run) → isMarked (atTransaction u (withMarked q) x) ≡ (isMarked x || (eqb t u && eqb p q))
@@ -256,7 +249,7 @@ module _ (t p : ℕ) where
   SettlesAs b q = (x : Run) → isMarked (q .settle x) ≡ (isMarked x || b)
 
   unmarked : (r : Run) (e : Event) → ((u q : ℕ) → e ≡ marking u q → ⊥) → All (SettlesAs false) (plan r e)
-  unmarked r e not-it = all-map (Settles t ofMarks) (SettlesAs false) (λ q k x. k x ∙ sym (or-false (isMarked x))) (plan r e) (plan-keeps t ofMarks r e (λ u q h. absurd (not-it u q h)))
+  unmarked r e not-it = all-map (Settles t ofMarks) (SettlesAs false) (λ q k x. k x ∙ sym (or-false (isMarked x))) (plan r e) (plan-keeps t ofMarks r e (λ u M C h x. unfold openedAs in refl, λ u q h. absurd (not-it u q h)))
 
   plan-marks : (r : Run) (e : Event) → All (SettlesAs (marksIt e)) (plan r e)
   unfolding plan
@@ -286,15 +279,15 @@ module _ (t p : ℕ) where
   case-marked r e (refused n) = rw (ne-eqb (suc n) 0 (λ q. absurd (omega (arith, q)))) (sym (rw and-false (or-false (isMarked r))))
   case-marked r e (whole {x} {p = q} a c) =
       subst (All (SettlesAs (marksIt (x .event)))) (a .planned) (plan-marks r (x .event)) (performAll (q .site) (q .acts) r)
-      ∙ ap₂ _||_ (acts-marked (q .site) (q .acts) r) (marks-bytes e x (a .parsed) ∙ sym (and-true _))
+      ∙ ap₂ _||_ (acts-keep t itsMark (q .site) (q .acts) r) (marks-bytes e x (a .parsed) ∙ sym (and-true _))
   case-marked r e (cut {x} {p = q} n k a c h) =
-      down-keeps t ofMarks (q .site) k _ ∙ acts-marked (q .site) (take n (q .acts)) r
+      down-keeps t ofMarks (q .site) k _ ∙ acts-keep t itsMark (q .site) (take n (q .acts)) r
       ∙ sym (ap (λ (b : Bool). isMarked r || b) (ap (λ (b : Bool). b && true) (not-cut (same (take 3 e) (8 ∷ t ∷ p ∷ [])) refl)) ∙ or-false (isMarked r))
     where
       -- a mark has no cut
       not-cut : (b : Bool) → same (take 3 e) (8 ∷ t ∷ p ∷ []) ≡ b → same (take 3 e) (8 ∷ t ∷ p ∷ []) ≡ false
       not-cut false w = w
-      not-cut true w = absurd (never-cut e x (a .parsed) n k c (sym (getD-take 3 e 0 0 (omega arith)) ∙ ap (λ (l : List ℕ). getD l 0 0) (same-list _ _ w)))
+      not-cut true w = absurd (never-cut 8 (unfold any in refl) refl e x (a .parsed) n k c (sym (getD-take 3 e 0 0 (omega arith)) ∙ ap (λ (l : List ℕ). getD l 0 0) (same-list _ _ w)))
 
   event-marked : (r : Run) (e : List ℕ) → isMarked (event r e .run) ≡ (isMarked r || isMarking t p (r, e))
   unfolding isMarking accepts

@@ -1,4 +1,4 @@
--- Plans: the refusals that did not strike, what holds of a plan by the way it is made, and that a restart writes no log.
+-- Plans: the refusals that did not strike, what holds of a plan by the way it is made, where it happens, and that a restart writes no log.
 use Prim.Native.Nat.{ℕ, zero, suc}
 use mathlib.Core.Path.{_≡_, refl}
 use mathlib.Core.Bool.{Bool, true, false}
@@ -8,13 +8,14 @@ use native.Mathlib.Omega.{arith}
 use borrow.Author.Tests.{not-false}
 use Rattle.codec.specs.Lists.{first, onlyIf}
 use Rattle.site.specs.Presumption.{Outcome, commit, abort, Presumption}
-use Rattle.site.specs.Step.{Message, tell, Input, Effect, append, force, enter, send, Row, given}
+use Rattle.site.specs.Step.{Message, tell, receiver, Input, begin, timer, received, Effect, append, force, enter, send, Row, given}
 use Rattle.site.specs.Cohort.{Cohort}
 use Rattle.site.specs.Coordinator.{inOrder, tellAll, resuming, leaving, restartFrom, coordinatorRestart}
 use Rattle.site.specs.Participant.{voting, restartWith, participantRestart}
 use Rattle.joint.specs.State.{Run, Transaction}
+use Rattle.joint.specs.Event.{Event, opening, beginning, delivery, timeout, forcing, discarding, crash, restart, marking}
 use Rattle.joint.specs.Refusals.{isDown}
-use Rattle.joint.specs.Plan.{Plan, settling, rowPlan, planned, step, orNothing}
+use Rattle.joint.specs.Plan.{Plan, settling, rowPlan, planned, step, orNothing, restarting, joined, restartAll, plan}
 use Rattle.joint.proofs.base.Lists.{Each}
 
 -- ---- refusals
@@ -56,6 +57,38 @@ module _ (P : Plan → Type 0) where
   unfolding onlyIf
   all-only true p h = h refl
   all-only false p h = tt
+
+-- ---- where an event happens
+
+abbrev pub siteOf : Event → ℕ
+siteOf (opening t M C) = 0
+siteOf (beginning t) = 0
+siteOf (delivery t p m) = receiver m p
+siteOf (timeout t s) = s
+siteOf (forcing s) = s
+siteOf (discarding t s) = s
+siteOf (crash s) = s
+siteOf (restart s) = s
+siteOf (marking t p) = p
+
+pub restart-site : (r : Run) (s : ℕ) (ts : List ℕ) → restartAll r s ts .site ≡ s
+unfolding restartAll joined restarting rowPlan
+restart-site r s [] = refl
+restart-site r zero (u ∷ ts) = refl
+restart-site r (suc n) (u ∷ ts) = refl
+
+pub plan-site : (r : Run) (e : Event) → All (λ p. p .site ≡ siteOf e) (plan r e)
+unfolding plan rowPlan
+plan-site r (opening t M C) = refl
+plan-site r (beginning t) = all-step (λ p. p .site ≡ 0) r t 0 begin (λ X g x. refl)
+plan-site r (delivery t p m) =
+    all-or (λ q. q .site ≡ receiver m p) (receiver m p) _ refl (all-step (λ q. q .site ≡ receiver m p) r t (receiver m p) (received m p) (λ X g x. refl))
+plan-site r (timeout t s) = all-step (λ p. p .site ≡ s) r t s timer (λ X g x. refl)
+plan-site r (forcing s) = refl
+plan-site r (discarding t s) = all-only (λ p. p .site ≡ s) _ _ (λ _. refl)
+plan-site r (crash s) = refl
+plan-site r (restart s) = restart-site r s _
+plan-site r (marking t p) = all-only (λ q. q .site ≡ p) _ _ (λ _. refl)
 
 -- ---- a restart writes no log
 

@@ -7,6 +7,7 @@ use lib.ListN.{take}
 use lib.Dec.{eqb}
 use Rattle.codec.specs.Lists.{any, every}
 use Rattle.site.specs.Presumption.{Outcome, sameOutcome}
+use Rattle.site.specs.Cohort.{Cohort}
 use Rattle.site.specs.Step.{messageKind, Input, begin, timer, received, receiver, Effect, append, force, enter, send}
 use Rattle.joint.specs.State.{Run, Transaction, Act, fresh, update, atSite, atTransaction, withCoordinator, withParticipant, withMarked, withSent, withEntered, forgotten, down, perform, performAll}
 use Rattle.joint.specs.Event.{Event, opening, beginning, delivery, timeout, forcing, discarding, crash, restart, marking}
@@ -25,10 +26,10 @@ momentOf e r x s a = record { event = e; start = r; before = x; site = s; act = 
 
 -- ---- one thing that is stored of transaction t, and the moments at which it happens
 
-module _ (t : ℕ) (f : (ℕ → Bool) → (ℕ → ℕ → Bool) → (ℕ → Outcome → Bool) → Bool) where
-  -- what the marks, messages and entries of a transaction show
+module _ (t : ℕ) (f : Cohort → (ℕ → Bool) → (ℕ → ℕ → Bool) → (ℕ → Outcome → Bool) → Bool) where
+  -- what the cohort, marks, messages and entries of a transaction show
   abbrev pub told : Transaction → Bool
-  told x = f (x .marked) (x .sent) (x .entered)
+  told x = f (x .cohort) (x .marked) (x .sent) (x .entered)
 
   abbrev pub shown : Run → Bool
   shown r = told (r .transaction t)
@@ -64,10 +65,15 @@ module _ (t : ℕ) (f : (ℕ → Bool) → (ℕ → ℕ → Bool) → (ℕ → O
   restart-keeps r s [] x = refl
   restart-keeps r s (u ∷ ts) x = restart-keeps r s ts _ ∙ restarting-keeps r s u x
 
-  -- but for a mark
-  pub plan-keeps : (r : Run) (e : Event) → ((u q : ℕ) → e ≡ marking u q → (x : Transaction) → told (withMarked q x) ≡ told x) → All Settles (plan r e)
-  unfolding plan openedAs discard atSite
-  plan-keeps r (opening u M C) k = at-keeps u _ (λ y. refl)
+  -- but for an opening, which sets the cohort, and a mark
+  abbrev pub Untouched : Event → Type 0
+  Untouched e =
+      ((u M C : ℕ) → e ≡ opening u M C → (x : Transaction) → told (openedAs (record { members = M; presumeCommit = C }) x) ≡ told x)
+      × ((u q : ℕ) → e ≡ marking u q → (x : Transaction) → told (withMarked q x) ≡ told x)
+
+  pub plan-keeps : (r : Run) (e : Event) → Untouched e → All Settles (plan r e)
+  unfolding plan discard atSite
+  plan-keeps r (opening u M C) k = at-keeps u _ (k .0 u M C refl)
   plan-keeps r (beginning u) k = step-keeps r u 0 begin
   plan-keeps r (delivery u p m) k = all-or Settles _ _ (λ x. refl) (step-keeps r u (receiver m p) (received m p))
   plan-keeps r (timeout u s) k = step-keeps r u s timer
@@ -75,7 +81,7 @@ module _ (t : ℕ) (f : (ℕ → Bool) → (ℕ → ℕ → Bool) → (ℕ → O
   plan-keeps r (discarding u s) k = all-only Settles _ _ (λ h x. forget-keeps _ u s _)
   plan-keeps r (crash s) k = λ x. refl
   plan-keeps r (restart s) k = restart-keeps r s _
-  plan-keeps r (marking u q) k = all-only Settles _ _ (λ h. at-keeps u (withMarked q) (k u q refl))
+  plan-keeps r (marking u q) k = all-only Settles _ _ (λ h. at-keeps u (withMarked q) (k .1 u q refl))
 
   pub down-keeps : (s k : ℕ) → Keeps (down s k)
   unfolding down forgotten withCoordinator withParticipant
@@ -84,7 +90,7 @@ module _ (t : ℕ) (f : (ℕ → Bool) → (ℕ → ℕ → Bool) → (ℕ → O
 
   -- an act stores it exactly where it happens
   module _ (g : Moment → Bool)
-      (unmarked : (q : ℕ) (x : Transaction) → told (withMarked q x) ≡ told x)
+      (untouched : (e : Event) → Untouched e)
       (one : (e : List ℕ) (r x : Run) (s : ℕ) (a : Act) → shown (perform s (a .transaction) (a .effect) x) ≡ (shown x || g (momentOf e r x s a))) where
     acts-shown : (e : List ℕ) (r : Run) (s : ℕ) (l : List Act) (x : Run) → shown (performAll s l x) ≡ (shown x || any g (moments e r s l x))
     unfolding performAll moments any
@@ -99,7 +105,7 @@ module _ (t : ℕ) (f : (ℕ → Bool) → (ℕ → ℕ → Bool) → (ℕ → O
     unfolding refuse carry cutShort partly
     case-shown r e (refused n) = unfold moments any in sym (or-false (shown r))
     case-shown r e (whole {x} {p} a c) =
-        subst (All Settles) (a .planned) (plan-keeps r (x .event) (λ u q _. unmarked q)) (performAll (p .site) (p .acts) r) ∙ acts-shown e r (p .site) (p .acts) r
+        subst (All Settles) (a .planned) (plan-keeps r (x .event) (untouched (x .event))) (performAll (p .site) (p .acts) r) ∙ acts-shown e r (p .site) (p .acts) r
     case-shown r e (cut {x} {p} n k a c h) = down-keeps (p .site) k _ ∙ acts-shown e r (p .site) (take n (p .acts)) r
 
     event-shown : (r : Run) (e : List ℕ) → shown (event r e .run) ≡ (shown r || any g (happened r e))
@@ -116,6 +122,24 @@ module _ (t : ℕ) (f : (ℕ → Bool) → (ℕ → ℕ → Bool) → (ℕ → O
         ∙ ap (λ (b : Bool). b || any g (happened (after fresh es) e)) h
         ∙ sym (any-append g (history fresh es) (happened (after fresh es) e))
         ∙ ap (any g) (sym (history-snoc fresh es e)))
+
+-- ---- what no effect changes: the cohort and the marks
+
+module _ (t : ℕ) (f : Cohort → (ℕ → Bool) → Bool) where
+  abbrev pub unsent : Cohort → (ℕ → Bool) → (ℕ → ℕ → Bool) → (ℕ → Outcome → Bool) → Bool
+  unsent cohort marked sent entered = f cohort marked
+
+  perform-keeps : (s u : ℕ) (w : Effect) → Keeps t unsent (perform s u w)
+  unfolding perform atSite
+  perform-keeps s u (append k fs) x = refl
+  perform-keeps s u force x = refl
+  perform-keeps s u (enter o) x = at-keeps t unsent u (withEntered s o) (λ y. unfold withEntered in refl) x
+  perform-keeps s u (send m q) x = at-keeps t unsent u (withSent q (messageKind m)) (λ y. unfold withSent in refl) x
+
+  pub acts-keep : (s : ℕ) (l : List Act) → Keeps t unsent (performAll s l)
+  unfolding performAll
+  acts-keep s [] x = refl
+  acts-keep s (a ∷ l) x = acts-keep s l _ ∙ perform-keeps s (a .transaction) (a .effect) x
 
 -- ---- entries and messages
 
@@ -138,7 +162,7 @@ module _ (e : List ℕ) (r x : Run) (s t : ℕ) where
       go true = unfold withEntered in simp (and-true, or-comm)
       go false = none-added (x .transaction t .entered z o) (eqb z s) true
   entry-stored z o u (send m p) =
-      at-keeps t (λ marked sent entered. entered z o) u (withSent p (messageKind m)) (λ y. refl) x
+      at-keeps t (λ cohort marked sent entered. entered z o) u (withSent p (messageKind m)) (λ y. refl) x
       ∙ none-added (x .transaction t .entered z o) (eqb s z) (eqb u t)
 
   message-stored : (q k u : ℕ) (w : Effect) → perform s u w x .transaction t .sent q k ≡ (x .transaction t .sent q k || isSending t q k (now u w))
@@ -146,7 +170,7 @@ module _ (e : List ℕ) (r x : Run) (s t : ℕ) where
   message-stored q k u (append j fs) = none-added (x .transaction t .sent q k) (eqb u t) true
   message-stored q k u force = none-added (x .transaction t .sent q k) (eqb u t) true
   message-stored q k u (enter o) =
-      at-keeps t (λ marked sent entered. sent q k) u (withEntered s o) (λ y. refl) x
+      at-keeps t (λ cohort marked sent entered. sent q k) u (withEntered s o) (λ y. refl) x
       ∙ none-added (x .transaction t .sent q k) (eqb u t) true
   message-stored q k u (send m p) = rw (eqb-sym u t) (unfold atTransaction update in go (eqb t u))
     where
@@ -158,10 +182,10 @@ module _ (e : List ℕ) (r x : Run) (s t : ℕ) where
 -- for every list of events
 pub entries-happened : (es : List (List ℕ)) (t s : ℕ) (o : Outcome) → after fresh es .transaction t .entered s o ≡ any (isEntryAt t s o) (history fresh es)
 entries-happened es t s o =
-    stored-is-history t (λ marked sent entered. entered s o) (isEntryAt t s o) (λ q x. unfold withMarked in refl) (λ e r x z a. entry-stored e r x z t s o (a .transaction) (a .effect))
+    stored-is-history t (λ cohort marked sent entered. entered s o) (isEntryAt t s o) (λ e. (λ u M C h x. unfold openedAs in refl, λ u q h x. unfold withMarked in refl)) (λ e r x z a. entry-stored e r x z t s o (a .transaction) (a .effect))
     (unfold fresh in refl) es
 
 pub messages-happened : (es : List (List ℕ)) (t p k : ℕ) → after fresh es .transaction t .sent p k ≡ any (isSending t p k) (history fresh es)
 messages-happened es t p k =
-    stored-is-history t (λ marked sent entered. sent p k) (isSending t p k) (λ q x. unfold withMarked in refl) (λ e r x z a. message-stored e r x z t p k (a .transaction) (a .effect))
+    stored-is-history t (λ cohort marked sent entered. sent p k) (isSending t p k) (λ e. (λ u M C h x. unfold openedAs in refl, λ u q h x. unfold withMarked in refl)) (λ e r x z a. message-stored e r x z t p k (a .transaction) (a .effect))
     (unfold fresh in refl) es

@@ -1,7 +1,7 @@
 -- One turn of the loop over events: an event more is read, decided, and stored in the run's arrays.
 use Prim.Native.Nat.{ℕ, zero, suc, _+_, _*_, _≤_, _<_}
 use mathlib.Core.Path.{_≡_, refl, sym, ap, _∙_}
-use mathlib.Core.Bool.{Bool, true, false, not, _||_}
+use mathlib.Core.Bool.{Bool, true, false, cond, not, _||_}
 use mathlib.Core.List.{List, [], _∷_}
 use mathlib.Core.Option.{Option, none, some}
 use lib.ListN.{length, take, getD, set, length-take}
@@ -14,19 +14,21 @@ use borrow.Author.Tests.{eqb-true, eqb-false, leb-true}
 use Rattle.codec.specs.Lists.{first, select}
 use Rattle.codec.specs.Image.{stored}
 use Rattle.codec.specs.declared.record.Record.{Record}
-use Rattle.site.specs.Step.{prepare, messages, receiver}
 use Rattle.site.specs.Answers.{effectsIn}
 use Rattle.joint.specs.State as plain
 use Rattle.joint.specs.State.{update, performAll}
 use Rattle.joint.specs.Event as events
 use Rattle.joint.specs.Event.{parse, Parsed}
 use Rattle.joint.specs.Refusals.{refusals}
-use Rattle.joint.specs.Plan.{Plan, plan, acting, rowPlan}
+use Rattle.joint.specs.Plan.{Plan, plan, acting}
 use Rattle.joint.specs.Run.{event, eventParsed, carryUnless, carryPlan, carry, cutShort, canCut, refuse, answerOf, count, isAppend, isForce, isSend}
 use Rattle.joint.specs.Run as answers
 use Rattle.joint.specs.Drill.{answerBytes}
-use Rattle.joint.specs.Program.{hasRoom, roomParsed, roomFor, roomForPlan}
-use Rattle.joint.specs.Answers.{siteFrom, noSite, noRecords, transactionsIn, runIn, answerIn, refusalNumber, Seen, seen}
+use Rattle.joint.specs.Safety.{happened}
+use Rattle.joint.specs.Totals as totals
+use Rattle.joint.specs.Totals.{forcesAt}
+use Rattle.joint.specs.Program.{hasRoom, roomParsed, roomFor, roomForPlan, Adds}
+use Rattle.joint.specs.Answers.{siteFrom, noSite, noRecords, transactionsIn, runIn, forcesIn, answerIn, refusalNumber, Seen, seen}
 use Rattle.joint.specs.Inside.{transactionAfter, counted, size, Fits, thenIn, thenTransaction, goesDown, rowSite, planIn, Asks, begins, delivers, times, taken, changeIn, Here, stepIn, stepSite, stepTransaction, StepInRange, restartedIn}
 use Rattle.joint.specs.declared.answers.Answer.{Answer}
 use Rattle.joint.specs.declared.answers.Counts.{Counts}
@@ -37,13 +39,16 @@ use Rattle.joint.specs.declared.records.SiteLog.{SiteLog}
 use Rattle.joint.specs.declared.transactions.Transaction.{Transaction}
 use Rattle.joint.specs.declared.rows.Row.{Row}
 use Rattle.joint.specs.declared.changes.Change.{Change}
+use Rattle.joint.specs.declared.changes.Change.the-variants as change
 use Rattle.joint.specs.declared.events.Step.{Step}
 use Rattle.joint.specs.declared.events.Step.the-variants as steps
 use Rattle.joint.specs.declared.restarts.Restarted.{Restarted}
 use Rattle.joint.specs.declared.run.Run.{Run}
 use Rattle.joint.proofs.answers.Answer.{the-type}
+use Rattle.joint.proofs.changes.Change as changes
 use Rattle.joint.proofs.base.Lists.{select-take, among}
-use Rattle.joint.proofs.base.Plans.{All, all-step, all-or, all-only}
+use Rattle.joint.proofs.base.Plans.{All, siteOf}
+use Rattle.joint.proofs.base.Forces.{held-sum, none-forced, event-forces}
 use Rattle.joint.proofs.engine.Placed.{run-path, acting-counted}
 use Rattle.joint.proofs.engine.Reads.{siteAt, getD-within, site-read, counts-stored, site-stored}
 use Rattle.joint.proofs.engine.Sites.{log-counted}
@@ -58,6 +63,7 @@ pub record Full (r : Run) : Type 0 where
   pub logs : length (r .records) ≡ 9
   pub whole : (i : ℕ) → i ≤ 8 → length (getD (r .records) i noRecords .of) ≡ 24
   pub eight : length (r .transactions) ≡ 8
+  pub counters : length (r .forces) ≡ 9
 
 -- one site's records are stored
 pub whole-stored : (l : List Records) (s : ℕ) (y : Records) → length l ≡ 9 → s ≤ 8 → length (y .of) ≡ 24
@@ -70,17 +76,54 @@ whole-stored l s y n h e w i k = go (eqb i s) refl
 
 -- ---- the first `count` events have been run
 
-pub record Going (r : plain.Run) (bytes start : List ℕ) (events : ℕ) (buffer : List ℕ) (run : Run) (last : Answer) (count : ℕ) : Type 0 where
+pub record Going (r : plain.Run) (before : ℕ → ℕ) (bytes start : List ℕ) (events : ℕ) (buffer : List ℕ) (run : Run) (last : Answer) (count : ℕ) : Type 0 where
   pub full : Full run
-  pub ahead : Ahead r bytes start events buffer (runIn run) last count
+  pub ahead : Ahead r before bytes start events buffer (runIn run) (forcesIn run) last count
 
-pub going-next : {r : plain.Run} {bytes start : List ℕ} {events : ℕ} {buffer : List ℕ} {run : Run} {last : Answer} {count : ℕ}
-    → Going r bytes start events buffer run last count
+-- an event of answer n leaves `next`, and its forces are counted there
+abbrev pub Turned : Run → List ℕ → Answer → Run → Type 0
+Turned run x n next =
+    (record { answer = answerIn n; run = runIn next } ≡ seen (event (runIn run) x)) × Adds (forcesIn run) (happened (runIn run) x) (forcesIn next)
+
+pub going-next : {r : plain.Run} {before : ℕ → ℕ} {bytes start : List ℕ} {events : ℕ} {buffer : List ℕ} {run : Run} {last : Answer} {count : ℕ}
+    → Going r before bytes start events buffer run last count
     → (n : Answer) (next : Run) (x now : List ℕ) → Full next → count < events → x ≡ eventAt count bytes
-    → (hasRoom (runIn run) x ≡ true → record { answer = answerIn n; run = runIn next } ≡ seen (event (runIn run) x))
+    → (hasRoom (runIn run) x ≡ true → Turned run x n next)
     → now ≡ stored (4 * count) (answerBytes (answerIn n)) buffer
-    → Going r bytes start events now next n (count + 1)
-going-next g n next x now f h e k s = record { full = f; ahead = ahead-next (g .ahead) n (runIn next) x now h e k s }
+    → Going r before bytes start events now next n (count + 1)
+going-next g n next x now f h e k s = record { full = f; ahead = ahead-next (g .ahead) n (runIn next) (forcesIn next) x now h e k s }
+
+-- ---- its forces
+
+-- none in the answer, and nothing is counted
+pub turned-same : (run : Run) (x : List ℕ) (n : Answer) → answerIn n .forces ≡ 0 → record { answer = answerIn n; run = runIn run } ≡ seen (event (runIn run) x) → Turned run x n run
+unfolding seen forcesIn
+turned-same run x n h e = (
+  e,
+  λ s. sym (ap (λ (k : ℕ). totals.held (forcesIn run s + k)) (none-forced (runIn run) x s (sym (ap (λ (v : Seen). v .answer .forces) e) ∙ h)) ∙ held-none (getD (run .forces) s 0)),
+)
+  where
+    held-none : (n : ℕ) → totals.held (totals.held n + 0) ≡ totals.held n
+    held-none n = unfold totals.held in omega arith
+
+-- those in the answer are counted at the event's site
+pub turned-at : (run next : Run) (x : List ℕ) (n : Answer) (p : Parsed) → parse x ≡ some p → (z : ℕ) → z < length (run .forces) → z ≡ siteOf (p .event)
+    → (d m : ℕ) → next .forces ≡ set (run .forces) z (totals.held (getD (run .forces) z d + m)) → m ≡ answerIn n .forces
+    → record { answer = answerIn n; run = runIn next } ≡ seen (event (runIn run) x) → Turned run x n next
+unfolding seen forcesIn
+turned-at run next x n p parsed z low own d m counted forces e = (e, adds)
+  where
+    adds : (s : ℕ) → totals.held (getD (next .forces) s 0) ≡ totals.held (totals.held (getD (run .forces) s 0) + forcesAt s (happened (runIn run) x))
+    adds s = go (eqb z s) refl
+      where
+        there : forcesAt s (happened (runIn run) x) ≡ cond (eqb z s) m 0
+        there = event-forces (runIn run) x p parsed s ∙ ap (λ (y : ℕ). cond (eqb y s) (answerOf (event (runIn run) x) .forces) 0) (sym own) ∙ ap (λ (k : ℕ). cond (eqb z s) k 0) (ap (λ (v : Seen). v .answer .forces) (sym e) ∙ sym forces)
+
+        go : (b : Bool) → eqb z s ≡ b → totals.held (getD (next .forces) s 0) ≡ totals.held (totals.held (getD (run .forces) s 0) + forcesAt s (happened (runIn run) x))
+        go true q =
+            rw (there, q, counted, ← eqb-true z s q, getD-set-same (run .forces) z _ 0 low, getD-within (run .forces) z 0 d low, held-sum)
+            (unfold totals.held in omega arith)
+        go false q = rw (there, q, counted, getD-set-other (run .forces) z s _ 0 (λ h. eqb-false z s q (sym h)), held-sum) (unfold totals.held in omega arith)
 
 -- ---- an event read
 
@@ -172,44 +215,32 @@ module _ (w : plain.Run) (s : ℕ) (small : size (w .site s) ≤ 24) where
 -- ---- a row happens: what is stored
 
 module _ (w : plain.Run) (s t : ℕ) (x : Row) where
-  pub happens-seen : (n : Counts) (f : ℕ → plain.Site) (g : ℕ → plain.Transaction)
-      → (n .records ≡ counted isAppend (effectsIn (x .effects))) × ((n .forces ≡ counted isForce (effectsIn (x .effects))) × (n .sends ≡ counted isSend (effectsIn (x .effects))))
+  pub happens-seen : (n : Answer) (f : ℕ → plain.Site) (g : ℕ → plain.Transaction)
+      → answerIn n ≡ answerOf (carry w (planIn s t x) none)
       → f ≡ update s (λ _. rowSite t x (w .site s)) (w .site)
       → g ≡ forgottenIf (goesDown (x .then)) s (update t (λ _. thenTransaction s (x .then) (transactionAfter s (effectsIn (x .effects)) (w .transaction t))) (w .transaction))
-      → _≡_ {A = Seen} (record { answer = answerIn (answer.Accepted n); run = record { site = f; transaction = g } }) (seen (carry w (planIn s t x) none))
-  unfolding answerIn seen answerOf carry rowSite
+      → _≡_ {A = Seen} (record { answer = answerIn n; run = record { site = f; transaction = g } }) (seen (carry w (planIn s t x) none))
+  unfolding seen carry rowSite
   happens-seen n f g c p q =
       let es = effectsIn (x .effects) in
       let same : _≡_ {A = plain.Run} (record { site = f; transaction = g }) (thenIn s t (x .then) (performAll s (acting t es) w)) = run-path p q ∙ sym (row-happens s t (x .then) es w) in
-      λ i. record {
-        answer =
-            record {
-              number = 0;
-              records = (c .0 ∙ sym (acting-counted t isAppend es)) i;
-              forces = (c .1 .0 ∙ sym (acting-counted t isForce es)) i;
-              sends = (c .1 .1 ∙ sym (acting-counted t isSend es)) i;
-            };
-        run = same i;
-      }
+      λ i. record { answer = c i; run = same i }
 
 -- ---- where an event's plan is
 
-input-site : (w : plain.Run) {e : events.Event} {t s kind p : ℕ} → Asks e t s kind p → All (λ p. p .site ≡ s) (plan w e)
-unfolding plan rowPlan
-input-site w (begins t) = all-step (λ p. p .site ≡ 0) w t 0 _ (λ X g x. refl)
-input-site w (delivers t kind p h l u) =
-    let m = getD messages kind prepare in
-    all-or (λ q. q .site ≡ receiver m p) (receiver m p) _ refl (all-step (λ q. q .site ≡ receiver m p) w t (receiver m p) _ (λ X g x. refl))
-input-site w (times t s h) = all-step (λ p. p .site ≡ s) w t s _ (λ X g x. refl)
+asked-site : {e : events.Event} {t s kind p : ℕ} → Asks e t s kind p → s ≡ siteOf e
+asked-site (begins t) = refl
+asked-site (delivers t kind p h l u) = refl
+asked-site (times t s h) = refl
 
-pub step-site : (w : plain.Run) (e : Step) → StepInRange e → All (λ p. p .site ≡ stepSite e) (plan w (stepIn e .event))
-unfolding stepIn plan
-step-site w (steps.Open e) h = refl
-step-site w (steps.Input e) h = input-site w (h .1 .1)
-step-site w (steps.Force s) h = refl
-step-site w (steps.Discard e) h = all-only (λ p. p .site ≡ e .site) _ _ (λ _. refl)
-step-site w (steps.Crash e) h = refl
-step-site w (steps.Mark e) h = all-only (λ p. p .site ≡ e .participant) _ _ (λ _. refl)
+pub step-site : (e : Step) → StepInRange e → stepSite e ≡ siteOf (stepIn e .event)
+unfolding stepIn
+step-site (steps.Open e) h = refl
+step-site (steps.Input e) h = asked-site (h .1 .1)
+step-site (steps.Force s) h = refl
+step-site (steps.Discard e) h = refl
+step-site (steps.Crash e) h = refl
+step-site (steps.Mark e) h = refl
 
 pub step-low : (e : Step) → StepInRange e → (stepSite e ≤ 8) × (stepTransaction e ≤ 7)
 step-low (steps.Open e) h = (omega arith, h)
@@ -243,9 +274,10 @@ module _ (r : Run) (f : Full r) (s : ℕ) (low : s ≤ 8) (d : Site) (e : Record
       ap (λ (y : Records). restartedIn s (runIn r) (y .of) c) (getD-within (r .records) s noRecords e (omega (arith, f .logs, low)))
       ∙ promise (runIn r) (site-read r s d e (f .nine) (f .logs) low) refl
 
-  pub restart-stored : _≡_ {A = Seen} (record { answer = answerIn (c .answer); run = runIn (record { sites = set (r .sites) s (c .site); records = r .records; transactions = c .transactions }) }) (taken (runIn r) ev cut)
+  pub restart-stored : (forces : List ℕ)
+      → _≡_ {A = Seen} (record { answer = answerIn (c .answer); run = runIn (record { sites = set (r .sites) s (c .site); records = r .records; transactions = c .transactions; forces = forces }) }) (taken (runIn r) ev cut)
   unfolding restartedIn runIn
-  restart-stored =
+  restart-stored forces =
       (λ i. record { answer = answerIn (c .answer); run = record { site = counts-stored (r .sites) (r .records) s (c .site) (f .nine) low i; transaction = transactionsIn (c .transactions) } })
       ∙ restarts
 
@@ -257,6 +289,13 @@ module _ (r : Run) (f : Full r) (s : ℕ) (low : s ≤ 8) (d : Site) (e : Record
       λ i. record { answer = q i; run = sym (refusal-keeps (runIn r) ev cut (n .0) (ap (λ (a : answers.Answer). a .number) (sym q) ∙ n .1)) i }
 
 -- ---- what is decided of an event at one site, by the kind of event
+
+-- a change that is refused leaves the run
+pub refused-seen : (w : plain.Run) (s t : ℕ) (x : Change) (n : Answer) → OneOf (0 ∷ []) (tagOf changes.the-type x) → answerIn n ≡ changeIn w s t x .answer
+    → _≡_ {A = Seen} (record { answer = answerIn n; run = w }) (changeIn w s t x)
+unfolding changeIn
+refused-seen w s t (change.Refused a) n k e = λ i. record { answer = e i; run = w }
+refused-seen w s t (change.Happens y) n k e = absurd (miss (0 ∷ []) 1 tt k)
 
 pub decided-as : (w : plain.Run) {e f : Step} {s t : ℕ} {a b : Change} → e ≡ f → s ≡ stepSite e → t ≡ stepTransaction e → a ≡ b
     → changeIn w (stepSite f) (stepTransaction f) b ≡ taken w (stepIn f .event) (stepIn f .cut) → changeIn w s t a ≡ taken w (stepIn e .event) (stepIn e .cut)

@@ -1,6 +1,7 @@
--- What owning a run tells of its arrays: each site has 24 records.
+-- What owning a run tells of its arrays: each site has 24 records, and a counter of 64 bits.
 use Prim.Native.Nat.{ℕ, zero, suc, _≤_, _<_}
-use mathlib.Core.Path.{_≡_, ap, _∙_, subst}
+use mathlib.Core.Path.{_≡_, refl, ap, _∙_, subst}
+use mathlib.Core.Bool.{Bool, true, false}
 use mathlib.Core.List.{List, [], _∷_, map}
 use lib.ListN.{length, take, getD, length-map, List·getD-map}
 use native.Mathlib.Omega.{arith}
@@ -9,16 +10,20 @@ use base.Fml.{Fml}
 use denote.Shadow.{shadow}
 use denote.Laws.{Is}
 use denote.Array.{each}
+use denote.Builtin.{u64}
+use lib.Dec.{ltb}
+use borrow.Author.Tests.{ltb-true, ltb-false}
 use denote.Struct.Struct.{Struct}
 use denote.Struct.Declared.{row, shape}
 use Rattle.codec.specs.Answers.{recordIn}
 use Rattle.joint.specs.State as plain
+use Rattle.joint.specs.Totals.{held}
 use Rattle.joint.specs.Answers.{runIn}
 use Rattle.joint.specs.Inside.{stableOf}
 use Rattle.joint.specs.declared.sites.Site.{Site}
 use Rattle.joint.specs.declared.records.Records.{Records}
 use Rattle.joint.specs.declared.run.Run.{Run}
-use Rattle.joint.proofs.engine.Arrays.{length-shown}
+use Rattle.joint.proofs.engine.Arrays.{length-shown, getD-past}
 use Rattle.joint.proofs.engine.Sites.{stable-taken}
 use Rattle.joint.proofs.engine.Reads.{site-read}
 use Rattle.joint.proofs.records.Records as records
@@ -44,6 +49,17 @@ run-whole r vs p i d h =
     let one = one-of (R .Denot) (R .own) (map to (r .records)) (l .0) (l .1 .1) i (simp length-map (omega (arith, h, n))) (to d) in
     records-whole (getD (r .records) i d) (one .0 ∷ [])
     (subst (λ x. shadow (R .own x (one .0 ∷ []))) (List·getD-map to (r .records) i d) (one .1))
+
+pub run-held : (r : Run) (vs : List Val) → Is (row run.the-type) r vs → (s : ℕ) → getD (r .forces) s 0 ≡ held (getD (r .forces) s 0)
+unfolding held
+run-held r vs p s = go (ltb s (length (r .forces))) refl
+  where
+    go : (b : Bool) → ltb s (length (r .forces)) ≡ b → getD (r .forces) s 0 ≡ held (getD (r .forces) s 0)
+    go true h =
+        let l = p .1 .1 .1 .1 .1 .0 in
+        let one = one-of ℕ (u64 .own) (map (λ v. v) (r .forces)) (l .0) (l .1 .1) s (simp length-map (ltb-true s _ h)) 0 in
+        omega (arith, one .1 .1, List·getD-map (λ (v : ℕ). v) (r .forces) s 0)
+    go false h = rw (getD-past (r .forces) s 0 (ltb-false s _ h)) refl
 
 -- the stable records of a site, by its counts
 pub log-read : (r : Run) (vs : List Val) → Is (row run.the-type) r vs → (i : ℕ) (d : Site) (e : Records) (k : ℕ) → length (r .sites) ≡ 9 → length (r .records) ≡ 9 → i ≤ 8

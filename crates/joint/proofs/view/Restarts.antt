@@ -16,7 +16,7 @@ use Rattle.joint.specs.Plan.{rowPlan, transactions, restarting, joined, 
 use Rattle.joint.specs.Run.{isForce}
 use Rattle.joint.specs.Safety.{Moment}
 use Rattle.joint.proofs.base.Lists.{Each}
-use Rattle.joint.proofs.base.Plans.{Logless, coordinator-logless, participant-logless}
+use Rattle.joint.proofs.base.Plans.{Logless, coordinator-logless, participant-logless, restart-site}
 use Rattle.joint.proofs.view.View.{View, siteView, view, not-opened, is-opened, site-up, viewAt, viewSettle}
 use Rattle.joint.proofs.view.Turn.{viewStart, starts, resumes, returns, turn}
 use Rattle.joint.proofs.view.Acts.{holds-select, recorded-select, effectsOf, seenEffects}
@@ -44,12 +44,6 @@ module _ (t : ℕ) (r : Run) where
   unfolding restarting rowPlan
   other-settles zero u h ms x = settle-other t u _ h ms x
   other-settles (suc n) u h ms x = settle-other t u _ h ms x
-
-  restart-site : (s : ℕ) (ts : List ℕ) → restartAll r s ts .site ≡ s
-  unfolding restartAll joined restarting rowPlan
-  restart-site s [] = refl
-  restart-site zero (u ∷ ts) = refl
-  restart-site (suc n) (u ∷ ts) = refl
 
   module _ (s : ℕ) where
     absent-seen : (ts : List ℕ) → absent t ts ≡ true → seenEffects t (restartAll r s ts .acts) ≡ []
@@ -101,7 +95,7 @@ module _ (t : ℕ) (Out : ℕ → Type 0) (r : Run) where
       record {
         after = viewAt s started;
         settles = absent-settles t r s ts h;
-        turns = λ ms w c. bare-turns t Out s (turn (starts s (not-opened t ms r e))) (rw (restart-site t r s ts, absent-seen t r s ts h) at c);
+        turns = λ ms w c. bare-turns t Out s (turn (starts s (not-opened t ms r e))) (rw (restart-site r s ts, absent-seen t r s ts h) at c);
       }
 
   held : (s : ℕ) (ms : List Moment) → _≡_ {A = ℕ → Bool} (λ k. holds t k (view t ms r .site s .stable)) (λ k. holds t k (r .site s .stable))
@@ -125,7 +119,7 @@ module _ (t : ℕ) (Out : ℕ → Type 0) (r : Run) where
             turn
             (resumes {row = row} (is-opened t ms r e) (site-up t ms r 0 ∙ d)
             (ap₂ coordinatorRestart (held 0 ms) (tells ms))
-            (rw (restart-site t r 0 ts, once-seen t r 0 ts h, seen-own t (row .effects)) at c));
+            (rw (restart-site r 0 ts, once-seen t r 0 ts h, seen-own t (row .effects)) at c));
       }
   once-shown (suc n) ts d e h =
       let presumption = presumptionOf (r .transaction t .cohort) (suc n) in
@@ -139,7 +133,7 @@ module _ (t : ℕ) (Out : ℕ → Type 0) (r : Run) where
             turn
             (returns {row = row} n (site-up t ms r (suc n) ∙ d)
             (ap (participantRestart presumption (suc n)) (held (suc n) ms))
-            (rw (restart-site t r (suc n) ts, once-seen t r (suc n) ts h, seen-own t (row .effects)) at c));
+            (rw (restart-site r (suc n) ts, once-seen t r (suc n) ts h, seen-own t (row .effects)) at c));
       }
 
   pub restart-shown : (s : ℕ) → r .site s .up ≡ false → (opened r t ≡ true → t < 8) → Shown t Out r (restartAll r s (select (opened r) transactions))

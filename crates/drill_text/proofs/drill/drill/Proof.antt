@@ -6,7 +6,7 @@ use lib.ListN.{length, length-take}
 use denote.Ref.{now}
 use borrow.Author.Needs.{needs}
 use Rattle.joint.specs.Drill.{drillInto}
-use Rattle.joint.specs.Answers.{runIn}
+use Rattle.joint.specs.Answers.{runIn, totalsIn}
 use Rattle.drill_text.proofs.Drilled.{Answered, answered}
 use Rattle.drill_text.proofs.drill.drill.Statement.{statement}
 use Rattle.drill_text.proofs.drill.drill.Tie as tie
@@ -22,7 +22,7 @@ slice-aggregate-replay-2 : tie.Need-slice-aggregate-replay-2
 slice-aggregate-replay-2 c = search needs
 
 -- what the replay leaves
-left : (c : tie.After-replay) → Answered (now (c .before .before .before .before .before .before .args .input)) (c .replay .result .count) (runIn (c .replay .result .run)) (c .replay .last .1 .0)
+left : (c : tie.After-replay) → Answered (now (c .before .before .before .before .before .before .args .input)) (c .replay .result .count) (runIn (c .replay .result .run)) (totalsIn (c .replay .result .run)) (c .replay .last .1 .0)
 left c = answered _ _ _ _ (c .replay .result) (most (c .before .before .before)) (sym (slice-aggregate-replay-2 (c .before))) (c .replay .ensures)
 
 write-text-requires : tie.Need-write-text-requires

@@ -16,15 +16,15 @@ answer : (c : tie.After-write-counted)
     → let a = c .before .before .before .before .args in
     let bytes = a .answers .now in
     Left (a .at) (lineAt (a .number) bytes (a .from)) (a .out .now) (c .write-counted .result)
-    (line (getD bytes (a .from) 0 ∷ getD bytes (a .from + 1) 0 ∷ getD bytes (a .from + 2) 0 ∷ getD bytes (a .from + 3) 0 ∷ []))
+    (line 5 (getD bytes (a .from) 0 ∷ getD bytes (a .from + 1) 0 ∷ getD bytes (a .from + 2) 0 ∷ getD bytes (a .from + 3) 0 ∷ []))
     (c .write-counted .last .1 .1 .0)
 answer c =
     let e = c .write-counted .ensures in
-    left-next (left-start (c .before .before .before .before .pre .1)) (field-next _ _ _) _ (e .0) _ (e .1)
+    left-next (left-start (c .before .before .before .before .pre .1)) (field-next 5 _ _ _) _ (e .0) _ (e .1)
 
 write-counted-requires : tie.Need-write-counted-requires
 write-counted-requires c κs =
-    let s = c .before .before .before in (s .pre .0 .0, left-room {start = s .args .out .now} (left-start (s .pre .1)) (field-next _ _ _))
+    let s = c .before .before .before in (s .pre .0 .0, left-room {start = s .args .out .now} (left-start (s .pre .1)) (field-next 5 _ _ _))
 
 write-answer-requires : tie.Need-write-answer-requires
 write-answer-requires c κs = answer (c .before .before .before .before .before .before .before) .room

@@ -6,22 +6,25 @@ use mathlib.Core.List.{List}
 use mathlib.Core.Logic.{⊎-elim}
 use mathlib.Core.Option.{none}
 use lib.ListN.{length, getD, set, length-set}
+use native.Mathlib.Omega.{arith}
 use Rattle.site.specs.Answers.{effectsIn}
 use Rattle.joint.specs.State as plain
 use Rattle.joint.specs.State.{update}
 use Rattle.joint.specs.Plan.{plan}
-use Rattle.joint.specs.Run.{event, carry}
+use Rattle.joint.specs.Run.{event, carry, answerOf}
 use Rattle.joint.specs.Program.{hasRoom, roomFor}
-use Rattle.joint.specs.Answers.{siteFrom, transactionIn, transactionsIn, runIn, seen}
+use Rattle.joint.specs.Answers.{siteFrom, transactionIn, transactionsIn, runIn, answerIn, seen}
 use Rattle.joint.specs.Inside.{stepSite, stepTransaction, stepIn, changeIn, taken, rowSite, planIn, Fits, thenTransaction, transactionAfter}
+use Rattle.joint.specs.declared.answers.Answer.{Answer}
 use Rattle.joint.specs.declared.events.Step.{Step}
+use Rattle.joint.specs.declared.changes.Change.{Change}
 use Rattle.joint.specs.declared.rows.Row.{Row}
 use Rattle.joint.specs.declared.transactions.Transaction.{Transaction}
 use Rattle.joint.specs.declared.run.Run.{Run}
-use Rattle.joint.proofs.base.Plans.{All}
+use Rattle.joint.proofs.base.Plans.{All, siteOf, plan-site}
 use Rattle.joint.proofs.engine.Arrays.{length-shown}
 use Rattle.joint.proofs.engine.Reads.{siteAt, site-read, transaction-read, transactions-stored}
-use Rattle.joint.proofs.engine.Turns.{Full, parsed-seen, parsed-room, decided-as, here, held, step-site, row-fits, log-stored, site-settled, whole-stored}
+use Rattle.joint.proofs.engine.Turns.{Full, Turned, turned-at, parsed-seen, parsed-room, decided-as, here, held, step-site, row-fits, log-stored, site-settled, whole-stored}
 use Rattle.joint.proofs.replay.go.Tie as tie
 use Rattle.joint.proofs.replay.go.Proof.Read.{Inv-loop, μ-loop, run, x, full, step-of, step-read, in-range, step-parsed, site-low, transaction-low}
 
@@ -39,6 +42,9 @@ module _ (c : tie.At-match3-came Inv-loop μ-loop) where
   pub low : number ≤ 8
   low = site-low (c .before .before .before .before)
 
+  pub few : transaction ≤ 7
+  few = transaction-low (c .before .before .before)
+
   pub at-site : number ≡ stepSite (step-of found)
   at-site = c .before .before .before .before .site2 .ensures
 
@@ -52,7 +58,7 @@ module _ (c : tie.At-match3-came Inv-loop μ-loop) where
   room-for = parsed-room (runIn before) (x (step-read found)) _ (step-parsed found)
 
   pub own : (d : Transaction) {z : ℕ} → transaction ≡ z → transactionIn (getD (before .transactions) transaction d) ≡ runIn before .transaction z
-  own d e = transaction-read before transaction d (full (step-read found) .eight) (transaction-low (c .before .before .before)) ∙ ap (runIn before .transaction) e
+  own d e = transaction-read before transaction d (full (step-read found) .eight) few ∙ ap (runIn before .transaction) e
 
   pub decided : hasRoom (runIn before) (x (step-read found)) ≡ true → changeIn (runIn before) number transaction (c .match3 .change) ≡ taken (runIn before) (stepIn (step-of found) .event) (stepIn (step-of found) .cut)
   unfolding stepIn runIn siteFrom
@@ -88,47 +94,80 @@ module _ (c : tie.At-match3-came Inv-loop μ-loop) where
 pub logged : (c : tie.After-after2 Inv-loop μ-loop) → length (c .after2 .result .records .of) ≡ 24
 logged c = search length-shown
 
+-- its answer is stored, and its forces are counted
+module _ (c : tie.After-add-held2 Inv-loop μ-loop) where
+  abbrev pub taking : tie.At-match3-came Inv-loop μ-loop
+  taking = c .before .before .before .before .before .before .before .before
+
+  abbrev pub answer : Answer
+  answer = c .before .before .before .before .before .before .before .answer .result
+
+  abbrev pub counted : List ℕ
+  counted = set (before taking .forces) (number taking) (c .add-held2 .result)
+
+  pub its-site : number taking ≡ siteOf (stepIn (step-of (found taking)) .event)
+  its-site = at-site taking ∙ step-site (step-of (found taking)) (in-range (found taking))
+
+  pub turned : (next : Run) → next .forces ≡ counted → record { answer = answerIn answer; run = runIn next } ≡ seen (event (runIn (before taking)) (x (step-read (found taking))))
+      → Turned (before taking) (x (step-read (found taking))) answer next
+  turned next e =
+      turned-at (before taking) next (x (step-read (found taking))) answer _ (step-parsed (found taking)) (number taking) (omega (arith, low taking, full (step-read (found taking)) .counters)) its-site
+      _ _ (e ∙ ap (set (before taking .forces) (number taking)) (c .add-held2 .ensures)) (c .before .forces2 .ensures)
+
 -- a row happens
 module _ (c : tie.After-settle Inv-loop μ-loop) where
-  abbrev pub taking : tie.At-match3-came Inv-loop μ-loop
-  taking = c .before .before .before .before .before .before .before .before .before .before .before
+  abbrev pub answered : tie.After-add-held2 Inv-loop μ-loop
+  answered = c .before .before .before .before .before .before
+
+  abbrev pub came : tie.At-match3-came Inv-loop μ-loop
+  came = taking answered
 
   abbrev pub row : Row
-  row = c .before .before .before .before .before .before .before .before .before .change2 .given .0 .0
+  row = c .before .before .before .before .change .given .0 .0
 
-  pub row-seen : hasRoom (runIn (before taking)) (x (step-read (found taking))) ≡ true → seen (carry (runIn (before taking)) (planIn (number taking) (transaction taking) row) none) ≡ seen (event (runIn (before taking)) (x (step-read (found taking))))
+  pub row-seen : hasRoom (runIn (before came)) (x (step-read (found came))) ≡ true → seen (carry (runIn (before came)) (planIn (number came) (transaction came) row) none) ≡ seen (event (runIn (before came)) (x (step-read (found came))))
   unfolding changeIn
-  row-seen h = sym (ap (changeIn (runIn (before taking)) (number taking) (transaction taking)) (c .before .before .before .before .before .before .before .before .before .change2 .given .1)) ∙ decided taking h ∙ parsed-seen (runIn (before taking)) (x (step-read (found taking))) _ (step-parsed (found taking))
+  row-seen h = sym (ap (changeIn (runIn (before came)) (number came) (transaction came)) (c .before .before .before .before .change .given .1)) ∙ decided came h ∙ parsed-seen (runIn (before came)) (x (step-read (found came))) _ (step-parsed (found came))
 
-  pub fits : hasRoom (runIn (before taking)) (x (step-read (found taking))) ≡ true → Fits (effectsIn (row .effects)) (runIn (before taking) .site (number taking))
+  pub row-answer : answerIn (answer answered) ≡ answerOf (carry (runIn (before came)) (planIn (number came) (transaction came) row) none)
+  unfolding changeIn seen
+  row-answer =
+      let v = runIn (before came) in
+      (answered .before .before .before .before .before .before .before .answer .ensures v (number came) (transaction came))
+      ∙ ap (λ (y : Change). changeIn v (number came) (transaction came) y .answer) (c .before .before .before .before .change .given .1)
+
+  pub fits : hasRoom (runIn (before came)) (x (step-read (found came))) ≡ true → Fits (effectsIn (row .effects)) (runIn (before came) .site (number came))
   unfolding changeIn
   fits h =
-      let k = found taking in
-      let v = runIn (before taking) in
-      row-fits v (number taking) (held (before taking) (full (step-read k)) (number taking) (low taking)) (transaction taking) row (stepIn (step-of k) .event) (stepIn (step-of k) .cut)
-      (sym (ap (changeIn v (number taking) (transaction taking)) (c .before .before .before .before .before .before .before .before .before .change2 .given .1)) ∙ decided taking h)
-      (subst (λ (s : ℕ). All (λ p. p .site ≡ s) (plan v (stepIn (step-of k) .event))) (sym (at-site taking)) (step-site v (step-of k) (in-range k))) (room-for taking h)
+      let k = found came in
+      let v = runIn (before came) in
+      row-fits v (number came) (held (before came) (full (step-read k)) (number came) (low came)) (transaction came) row (stepIn (step-of k) .event) (stepIn (step-of k) .cut)
+      (sym (ap (changeIn v (number came) (transaction came)) (c .before .before .before .before .change .given .1)) ∙ decided came h)
+      (subst (λ (s : ℕ). All (λ p. p .site ≡ s) (plan v (stepIn (step-of k) .event))) (sym (its-site answered)) (plan-site v (stepIn (step-of k) .event))) (room-for came h)
 
   abbrev pub put : List Transaction
-  put = set (before taking .transactions) (transaction taking) (c .settle .result)
+  put = set (before came .transactions) (transaction came) (c .settle .result)
 
-  pub put-stored : transactionsIn put ≡ update (transaction taking) (λ _. thenTransaction (number taking) (row .then) (transactionAfter (number taking) (effectsIn (row .effects)) (runIn (before taking) .transaction (transaction taking)))) (runIn (before taking) .transaction)
+  pub put-stored : transactionsIn put ≡ update (transaction came) (λ _. thenTransaction (number came) (row .then) (transactionAfter (number came) (effectsIn (row .effects)) (runIn (before came) .transaction (transaction came)))) (runIn (before came) .transaction)
   unfolding runIn
   put-stored =
-      transactions-stored (before taking .transactions) (transaction taking) (c .settle .result) (full (step-read (found taking)) .eight) (transaction-low (c .before .before .before .before .before .before .before .before .before .before .before .before .before .before))
-      ∙ ap (λ (y : plain.Transaction). update (transaction taking) (λ _. y) (transactionsIn (before taking .transactions)))
-      (c .settle .ensures ∙ ap (thenTransaction (number taking) (row .then)) (c .before .after .ensures ∙ ap (transactionAfter (number taking) (effectsIn (row .effects))) (own taking _ refl)))
+      transactions-stored (before came .transactions) (transaction came) (c .settle .result) (full (step-read (found came)) .eight) (few came)
+      ∙ ap (λ (y : plain.Transaction). update (transaction came) (λ _. y) (transactionsIn (before came .transactions)))
+      (c .settle .ensures ∙ ap (thenTransaction (number came) (row .then)) (c .before .after .ensures ∙ ap (transactionAfter (number came) (effectsIn (row .effects))) (own came _ refl)))
 
 -- its site is stored
 module _ (c : tie.Joined2 Inv-loop μ-loop) where
   abbrev pub settled : tie.After-settle Inv-loop μ-loop
   settled = c .before .before
 
-  abbrev pub at : tie.At-match3-came Inv-loop μ-loop
-  at = taking settled
+  abbrev at : tie.At-match3-came Inv-loop μ-loop
+  at = came settled
 
   pub transactions-put : c .if2 .run .transactions ≡ put settled
   transactions-put = ⊎-elim (λ o. ap (λ (r : Run). r .transactions) (o .5)) (λ o. ap (λ (r : Run). r .transactions) (o .2)) (c .if2 .came)
+
+  pub forces-put : c .if2 .run .forces ≡ counted (answered settled)
+  forces-put = ⊎-elim (λ o. ap (λ (r : Run). r .forces) (o .5)) (λ o. ap (λ (r : Run). r .forces) (o .2)) (c .if2 .came)
 
   pub site-put : hasRoom (runIn (before at)) (x (step-read (found at))) ≡ true
       → siteAt (c .if2 .run .sites) (c .if2 .run .records) ≡ update (number at) (λ _. rowSite (transaction at) (row settled) (runIn (before at) .site (number at))) (runIn (before at) .site)
@@ -143,6 +182,6 @@ module _ (c : tie.Joined2 Inv-loop μ-loop) where
   full-put =
       let f = full (step-read (found at)) in
       ⊎-elim
-      (λ o. rw (o .5) (record { nine = simp length-set (f .nine); logs = simp length-set (f .logs); whole = whole-stored (before at .records) (number at) _ (f .logs) (low at) (logged (record { before = record { before = record { before = c .before; if2 = o .0 }; records3 = o .1 }; after2 = o .2 })) (f .whole); eight = simp length-set (f .eight) }))
-      (λ o. rw (o .2) (record { nine = simp length-set (f .nine); logs = f .logs; whole = f .whole; eight = simp length-set (f .eight) }))
+      (λ o. rw (o .5) (record { nine = simp length-set (f .nine); logs = simp length-set (f .logs); whole = whole-stored (before at .records) (number at) _ (f .logs) (low at) (logged (record { before = record { before = record { before = c .before; if2 = o .0 }; records3 = o .1 }; after2 = o .2 })) (f .whole); eight = simp length-set (f .eight); counters = simp length-set (f .counters) }))
+      (λ o. rw (o .2) (record { nine = simp length-set (f .nine); logs = f .logs; whole = f .whole; eight = simp length-set (f .eight); counters = simp length-set (f .counters) }))
       (c .if2 .came)

@@ -1,11 +1,11 @@
 -- The event that a turn of the loop reads: a restart, or a step at one site in one transaction.
 use Prim.Native.Nat.{ℕ, _+_, _-_, _*_, _≤_, min}
-use mathlib.Core.Path.{_≡_, sym, ap, _∙_}
+use mathlib.Core.Path.{_≡_, refl, sym, ap, _∙_}
 use mathlib.Core.Bool.{true}
 use mathlib.Core.List.{List}
 use mathlib.Core.Logic.{⊎-elim}
 use mathlib.Core.Option.{some}
-use lib.ListN.{length, take, drop}
+use lib.ListN.{length, take, drop, set}
 use native.Mathlib.Omega.{arith}
 use borrow.Author.Needs.{needs}
 use Rattle.codec.specs.Image.{stored}
@@ -15,18 +15,18 @@ use Rattle.joint.specs.Event.{parse}
 use Rattle.joint.specs.Run.{event}
 use Rattle.joint.specs.Drill.{answerBytes}
 use Rattle.joint.specs.Program.{hasRoom}
-use Rattle.joint.specs.Answers.{runIn, answerIn, seen}
+use Rattle.joint.specs.Answers.{runIn, forcesIn, answerIn, seen}
 use Rattle.joint.specs.Inside.{stepIn, StepInRange, eventIn, cutFrom, taken}
 use Rattle.joint.specs.declared.answers.Answer.{Answer}
 use Rattle.joint.specs.declared.events.Step.{Step}
 use Rattle.joint.specs.declared.events.Restart.{Restart}
 use Rattle.joint.specs.declared.run.Run.{Run}
 use Rattle.joint.proofs.engine.Replays.{event-at}
-use Rattle.joint.proofs.engine.Turns.{Full, Going, going-next, step-low}
+use Rattle.joint.proofs.engine.Turns.{Full, Going, Turned, turned-at, going-next, step-low}
 use Rattle.joint.proofs.replay.go.Tie as tie
 
 abbrev pub Inv-loop : tie.InvT-loop
-Inv-loop bytes answers₀ events len run₀ last₀ count₀ answers run last count = Going (runIn run₀) bytes answers₀ events answers run last count
+Inv-loop bytes answers₀ events len run₀ last₀ count₀ answers run last count = Going (runIn run₀) (forcesIn run₀) bytes answers₀ events answers run last count
 
 abbrev pub μ-loop : tie.MeasureT-loop
 μ-loop bytes answers₀ events len run₀ last₀ count₀ answers run last count = events - count
@@ -65,9 +65,9 @@ module _ (r : tie.After-read Inv-loop μ-loop) where
   room = let a = top .loop .inv .ahead in omega (arith, a .kept, a .room, r .before .before .before .before .loop-test .taken)
 
   -- one more has been run: n is its answer
-  pub next : (n : Answer) (y : Run) (now : List ℕ) → Full y → (hasRoom w x ≡ true → record { answer = answerIn n; run = runIn y } ≡ seen (event w x))
+  pub next : (n : Answer) (y : Run) (now : List ℕ) → Full y → (hasRoom w x ≡ true → Turned run x n y)
       → now ≡ stored (4 * top .loop .count) (answerBytes (answerIn n)) (top .loop .answers)
-      → Going (runIn (start .args .run)) bytes (start .args .answers .now) (start .args .events) now y n (top .loop .count + 1)
+      → Going (runIn (start .args .run)) (forcesIn (start .args .run)) bytes (start .args .answers .now) (start .args .events) now y n (top .loop .count + 1)
   next n y now f k s =
       going-next (top .loop .inv) n y x now f (r .before .before .before .before .loop-test .taken)
       (event-at (top .loop .count) bytes _ (sub-rest (r .before .before .before .before)) (ended (r .before .before .before))) k s
@@ -86,6 +86,25 @@ module _ (k : tie.After-event Inv-loop μ-loop) where
   pub restart-parsed : parse (x read-of) ≡ some (record { event = parsed.restart (restarting .site); cut = cutFrom (restarting .cut) (restarting .keep) })
   unfolding eventIn
   restart-parsed = sym (read-of .read .ensures .0) ∙ ap eventIn (k .event .given .1)
+
+-- its answer is stored, and its forces are counted
+module _ (c : tie.After-add-held Inv-loop μ-loop) where
+  abbrev pub restarted : tie.After-restart Inv-loop μ-loop
+  restarted = c .before .before .before .before .before .before .before
+
+  abbrev pub restart-of : tie.After-event Inv-loop μ-loop
+  restart-of = c .before .before .before .before .before .before .before .before .before .before .before .before .before
+
+  abbrev pub restart-counted : List ℕ
+  restart-counted = set (run (read-of restart-of) .forces) (restarting restart-of .site) (c .add-held .result)
+
+  pub restart-turned : (next : Run) → next .forces ≡ restart-counted
+      → record { answer = answerIn (restarted .restart .result .answer); run = runIn next } ≡ seen (event (w (read-of restart-of)) (x (read-of restart-of)))
+      → Turned (run (read-of restart-of)) (x (read-of restart-of)) (restarted .restart .result .answer) next
+  restart-turned next e =
+      let k = restart-of in
+      turned-at (run (read-of k)) next (x (read-of k)) _ _ (restart-parsed k) (restarting k .site) (omega (arith, restart-low k, full (read-of k) .counters)) refl
+      _ _ (e ∙ ap (set (run (read-of k) .forces) (restarting k .site)) (c .add-held .ensures)) (c .before .forces .ensures)
 
 -- an event at one site
 module _ (k : tie.After-event2 Inv-loop μ-loop) where

@@ -9,7 +9,8 @@ use Rattle.codec.specs.laws.Members.{high-bits, none-in}
 use Rattle.site.specs.Presumption.{Outcome, commit, abort}
 use Rattle.site.specs.Answers.{participantIn, hasKind}
 use Rattle.joint.specs.State.{unknownPart, fresh}
-use Rattle.joint.specs.Answers.{siteFrom, noSite, noRecords, enteredIn, noHeld, transactionIn, noTransaction, runIn}
+use Rattle.joint.specs.Totals.{held}
+use Rattle.joint.specs.Answers.{siteFrom, noSite, noRecords, enteredIn, noHeld, transactionIn, noTransaction, runIn, forcesIn}
 use Rattle.joint.specs.declared.sites.Site.{Site}
 use Rattle.joint.specs.declared.records.Records.{Records}
 use Rattle.joint.proofs.engine.Arrays.{all-default}
@@ -42,13 +43,14 @@ no-transaction t =
       entered = λ s o. nothing-entered s o i;
     }
 
-run-fresh : runIn (record { sites = replicate 9 noSite; records = replicate 9 noRecords; transactions = replicate 8 noTransaction }) ≡ fresh
+run-fresh : runIn (record { sites = replicate 9 noSite; records = replicate 9 noRecords; transactions = replicate 8 noTransaction; forces = replicate 9 0 }) ≡ fresh
 unfolding runIn
 run-fresh =
     run-path (fun-ext (λ s. ap₂ (λ (x : Site) (y : Records). siteFrom x (y .of)) (all-default 9 s noSite) (all-default 9 s noRecords) ∙ no-site s)) (fun-ext (λ t. ap transactionIn (all-default 8 t noTransaction) ∙ no-transaction t))
 
 returns : tie.Need-returns
-returns c = rw (c .before .new .ensures, c .new2 .ensures) run-fresh
+unfolding forcesIn
+returns c = (rw (c .before .new .ensures, c .new2 .ensures) run-fresh, λ s. ap held (all-default 9 s 0) ∙ unfold held in refl)
 
 pub new-spec : {M : Type 1} → statement M
 new-spec = tie.close (tie.spec (λ c κs. search needs) (λ c κs. search needs) returns)
