@@ -11,6 +11,7 @@ LONG = ": more than 60,000 bytes; only the first 60,000 (10,000 events) are run"
 TEXT = ": this looks like text, and is run as raw bytes; -x reads text"
 LONE = "a hexadecimal digit that has no second one"
 MARK = "a byte order mark; save the text as ASCII, or as UTF-8 without it"
+NO_SITES = b"0 0 0 0\n" * 9  # the lines of the sites where nothing was opened and nothing forced
 failures = []
 
 
@@ -94,6 +95,19 @@ def events(count, seed):
         cut = rng.randrange(4) if code in (1, 2, 3) and rng.random() < 0.05 else 255
         out += bytes([code, x, y, z, cut, 0])
     return bytes(out)
+
+
+def site_lines(given, lines):
+    """The lines of the sites that a list of whole events asks for, by its lines of events: forces, handovers, quotient, remainder."""
+    forces, opened = [0] * 9, [0] * 9
+    for at, line in zip(range(0, len(given) - 5, 6), lines):
+        code, _, y, z, _, _ = given[at : at + 6]
+        _, answer, _, forced, _ = map(int, line.split())
+        if answer == 0 and code == 0:
+            opened = [n + (site == 0 or y >> (site - 1) & 1) for site, n in enumerate(opened)]
+        elif answer == 0:
+            forces[y if code in (3, 4, 7) or code == 2 and z in (0, 3, 4) else 0] += forced
+    return [" ".join(map(str, (n, by, *(divmod(n, by) if by else (0, n))))) for n, by in zip(forces, opened)]
 
 
 def unheard(*words, given):

@@ -1,6 +1,6 @@
 """How bin/drill reads and writes: input in pieces, a terminal, Ctrl-C, output that nobody reads, descriptors that are closed."""
 import fcntl, glob, os, pty, random, select, signal, subprocess, termios, threading, time
-from drill_runs import DRILL, LIMIT, MOST, TEXT, TOP, broken, events, executable, expect, failures, message, printed, raw, stoppable, straight, text_of, unheard
+from drill_runs import DRILL, LIMIT, MOST, NO_SITES, TEXT, TOP, broken, events, executable, expect, failures, message, printed, raw, stoppable, straight, text_of, unheard
 
 
 def in_pieces(data, words, seed, **more):
@@ -84,8 +84,8 @@ def on_terminal(folder):
     waits = b"bin/drill: waiting for standard input; end it with Ctrl-D\n"
     for words in (["-x"], ["-x", "-"]):
         expect(f"{words}", at_terminal(*words, typed=typed), (waits, 0, wanted, b""))
-    expect("raw", at_terminal(typed=b"00\n\x04"), (waits, 0, b"1 1 0 0 0\n", message(TEXT)))
-    expect("nothing typed", at_terminal(typed=b"\x04"), (waits, 0, b"", b""))
+    expect("raw", at_terminal(typed=b"00\n\x04"), (waits, 0, b"1 1 0 0 0\n" + NO_SITES, message(TEXT)))
+    expect("nothing typed", at_terminal(typed=b"\x04"), (waits, 0, NO_SITES, b""))
     expect("a file", at_terminal("-x", path), (b"", 0, wanted, b""))
     for words in ([], ["-x"]):
         expect(f"{words}, Ctrl-C", stopped(folder, *words), (-signal.SIGINT, b"", b"", []))
@@ -125,14 +125,14 @@ def on_closed(folder):
             expect(f"{form}>/dev/full, {more}", ends(f"{form}>/dev/full, {more}", f'"$1" {form}"{name}" >/dev/full', **more), b"")
     text = os.path.join(TOP, "drills", "K1.txt")
     expect("K1, <&-", ends("K1, <&-", f'"$1" -x "{text}" <&-'), text_of(text[:-4] + ".out"))
-    expect("no input, <&-", ends("no input, <&-", '"$1" -x <&-'), b"")
+    expect("no input, <&-", ends("no input, <&-", '"$1" -x <&-'), NO_SITES)
     expect("2>&-", ends("2>&-", f'"$1" -x "{text}" 2>&-'), text_of(text[:-4] + ".out"))
-    for form, status in {"": b"0\n", "-x": b"2\n"}.items():
-        expect(f"{form} input that cannot be read", ends(f"{form} input that cannot be read", f'"$1" {form} 0>"{path}.none"; echo $?'), status)
+    for form, said in {"": NO_SITES + b"0\n", "-x": b"2\n"}.items():
+        expect(f"{form} input that cannot be read", ends(f"{form} input that cannot be read", f'"$1" {form} 0>"{path}.none"; echo $?'), said)
     for where in ("2>&-", "2>/dev/full"):
         expect(f"a hint {where}", ends(f"a hint {where}", f'"$1" "{text}" {where}'), straight(text_of(text)))
-        expect(f"a warning {where}", ends(f"a warning {where}", f'echo 00 | "$1" -x {where}'), b"1 1 0 0 0\n")
+        expect(f"a warning {where}", ends(f"a warning {where}", f'echo 00 | "$1" -x {where}'), b"1 1 0 0 0\n" + NO_SITES)
         expect(f"a refusal {where}", ends(f"a refusal {where}", f'echo 0 | "$1" -x {where}; echo $?'), b"2\n")
     expect("a hint that nobody reads", unheard(DRILL, text, given=b""), (0, straight(text_of(text))))
-    expect("a warning that nobody reads", unheard(DRILL, "-x", given=b"00"), (0, b"1 1 0 0 0\n"))
+    expect("a warning that nobody reads", unheard(DRILL, "-x", given=b"00"), (0, b"1 1 0 0 0\n" + NO_SITES))
     return "output that nobody reads, descriptors that are closed"

@@ -6,7 +6,7 @@ OUT = os.path.join(TOP, "target", "definitions")
 CRATES = {
     "codec": ["Lists", "Sets", "Records", "Image", "Messages"],
     "site": ["Presumption", "Cohort", "Step", "Coordinator", "Participant", "Numbers"],
-    "joint": ["State", "Event", "Refusals", "Plan", "Run", "Drill", "Safety", "Screen"],
+    "joint": ["State", "Event", "Refusals", "Plan", "Run", "Safety", "Totals", "Drill", "Screen"],
 }
 # the types and constructors that the equations' support names
 TYPES = {

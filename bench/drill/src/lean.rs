@@ -3,10 +3,11 @@
 use crate::run::{Answer, Run, Transaction, EVENT};
 
 const BYTES: usize = 60_000;
-/// No line of an event, no line of a transaction, and no text is longer.
+/// No line of an event, of a transaction or of a site, and no text is longer.
 const EVENT_LINE: usize = 15;
 const HANDOVER_LINE: usize = 21;
-const TEXT: usize = 139_062;
+const SITE_LINE: usize = 16;
+const TEXT: usize = 139_206;
 
 /// The text so far; what has no room is counted alone.
 struct Text<'a> {
@@ -34,6 +35,27 @@ impl Text<'_> {
             };
         }
         self.put(&line);
+    }
+
+    /// Forces, transactions, quotient and remainder.
+    fn site(&mut self, forces: u64, opened: u64) {
+        let (quotient, remainder) = if opened == 0 { (0, forces) } else { (forces / opened, forces % opened) };
+        self.number(forces, b' ');
+        self.number(opened, b' ');
+        self.number(quotient, b' ');
+        self.number(remainder, b'\n');
+    }
+
+    fn number(&mut self, mut number: u64, end: u8) {
+        let mut digits = [end; 21];
+        let mut from = 19;
+        while number > 9 {
+            digits[from] = b'0' + (number % 10) as u8;
+            number /= 10;
+            from -= 1;
+        }
+        digits[from] = b'0' + number as u8;
+        self.put(&digits[from..]);
     }
 }
 
@@ -84,13 +106,17 @@ fn write(events: &[u8], buffer: &mut [u8]) -> usize {
     for (h, t) in run.transactions.iter().enumerate().filter(|(_, t)| t.members != 0) {
         text.handover(h, t);
     }
+    for (s, site) in run.sites.iter().enumerate() {
+        let with = |t: &&Transaction| if s == 0 { t.members != 0 } else { t.members >> (s - 1) & 1 != 0 };
+        text.site(site.forces, run.transactions.iter().filter(with).count() as u64);
+    }
     text.length
 }
 
 /// The length of the text, or 0 and nothing written where the buffer is too short.
 pub fn drill(events: &[u8], text: &mut [u8]) -> usize {
     let events = &events[..events.len().min(BYTES)];
-    let longest = events.len().div_ceil(EVENT) * EVENT_LINE + 8 * HANDOVER_LINE;
+    let longest = events.len().div_ceil(EVENT) * EVENT_LINE + 8 * HANDOVER_LINE + 9 * SITE_LINE;
     if text.len() < longest.min(TEXT) && write(events, &mut []) > text.len() {
         return 0;
     }

@@ -31,8 +31,7 @@ extern "C" fn lean_drill(events: *const u8, len: usize, text: *mut u8, text_len:
 
 const EVENTS: usize = 10_000;
 const LISTS: usize = 4;
-/// Room for every text, as include/dpr.h names it and the drill program lends it. With less the lines are measured first.
-const ROOM: usize = 220_168;
+const HEADER: &str = include_str!("../../../include/dpr.h");
 const MIXES: [&str; 4] = ["protocol", "crashes", "wild", "steady"];
 
 /// The lists of a mix. In `protocol` and `crashes` eight transactions are opened one after another over a whole list.
@@ -87,6 +86,12 @@ fn steady(rng: &mut Rng) -> Vec<u8> {
     list.concat()
 }
 
+/// Room for every text, as include/dpr.h names it and the drill program lends it. With less the lines are measured first.
+fn room() -> usize {
+    let found = HEADER.lines().find_map(|line| line.strip_prefix("#define DPR_DRILL_TEXT_MAX "));
+    found.and_then(|rest| rest.split(' ').next()?.parse().ok()).expect("a number of include/dpr.h")
+}
+
 type Drill = unsafe extern "C" fn(*const u8, usize, *mut u8, usize) -> usize;
 
 fn text(call: Drill, events: &[u8], room: usize) -> Vec<u8> {
@@ -116,7 +121,7 @@ fn check() {
         let (mut accepted, mut with_effects) = (0.0, 0.0);
         for events in lists_of(mix) {
             let expected: String = drill(&events).iter().flat_map(|line| [line, "\n"]).collect();
-            for room in [ROOM, expected.len()] {
+            for room in [room(), expected.len()] {
                 assert!(text(lean_drill, &events, room) == expected.as_bytes(), "{mix}: the drill in plain Rust");
                 assert!(text(dpr_drill, &events, room) == expected.as_bytes(), "{mix}: libdrill_text.a");
             }
@@ -126,12 +131,12 @@ fn check() {
         }
         println!("{mix}: the texts agree; {accepted:.0} % of the events are accepted, {with_effects:.0} % have effects");
     }
-    // the drill in plain Rust on more lists, also broken ones
+    // the drill in plain Rust on more lists, also broken ones and one without an event
     let mut rng = Rng::new(7);
     for i in 0..3_000 {
         let length = 1 + rng.below(400);
         let mut events = list(&mut rng, &lists::STYLES[i % lists::STYLES.len()], length);
-        events.truncate(events.len() - i % 6);
+        events.truncate(if i == 0 { 0 } else { events.len() - i % 6 });
         let expected: String = drill(&events).iter().flat_map(|line| [line, "\n"]).collect();
         assert!(text(lean_drill, &events, expected.len()) == expected.as_bytes(), "the drill in plain Rust: {events:?}");
     }
@@ -140,8 +145,8 @@ fn check() {
 fn measure(mix: &str, count: usize) {
     for events in lists_of(mix) {
         let events = black_box(&events[..6 * count]);
-        let proved = text(dpr_drill, events, ROOM);
-        assert!(text(lean_drill, events, ROOM) == proved);
+        let proved = text(dpr_drill, events, room());
+        assert!(text(lean_drill, events, room()) == proved);
     }
     println!("{}", LISTS * count);
 }

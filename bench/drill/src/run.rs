@@ -50,7 +50,7 @@ impl Transaction {
 }
 
 #[derive(Clone, Copy)]
-struct Site {
+pub struct Site {
     /// The phase of each transaction here.
     phases: [u8; 8],
     /// Kinds of the stable records of each transaction.
@@ -58,12 +58,18 @@ struct Site {
     /// Transaction and bit of the kind, the oldest first. Each transaction has one at most between two events.
     unforced: [(u8, u8); 10],
     count: u8,
+    pub forces: u64,
 }
 
 impl Site {
     fn append(&mut self, h: u8, kind: u8) {
         self.unforced[self.count as usize] = (h, kind);
         self.count += 1;
+    }
+
+    fn force(&mut self) {
+        self.keep(self.count);
+        self.forces = self.forces.saturating_add(1);
     }
 
     /// The oldest unforced records become stable, the others are lost.
@@ -82,7 +88,7 @@ pub struct Run {
     /// The sets that the coordinator waits for, and those that it has taken out.
     waiting: [u8; 8],
     taken_out: [u8; 8],
-    sites: [Site; 9],
+    pub sites: [Site; 9],
 }
 
 fn bit(participant: u8) -> u8 {
@@ -114,7 +120,7 @@ fn effects(row: Step) -> u32 {
 
 impl Run {
     pub fn fresh() -> Run {
-        let site = Site { phases: [UNKNOWN; 8], stable: [0; 8], unforced: [(0, 0); 10], count: 0 };
+        let site = Site { phases: [UNKNOWN; 8], stable: [0; 8], unforced: [(0, 0); 10], count: 0, forces: 0 };
         let transactions = [Transaction::default(); 8];
         Run { up: 0x1FF, transactions, waiting: [0; 8], taken_out: [0; 8], sites: [site; 9] }
     }
@@ -185,8 +191,7 @@ impl Run {
                 if !self.is_up(y) {
                     return Err(5);
                 }
-                let site = &mut self.sites[y as usize];
-                site.keep(site.count);
+                self.sites[y as usize].force();
                 Ok(Answer { forces: 1, ..Answer::default() })
             }
             5 => self.discard(x, y),
@@ -303,7 +308,7 @@ impl Run {
             left -= 1;
         }
         if force && left > 0 {
-            log.keep(log.count);
+            log.force();
             answer.forces += 1;
             left -= 1;
         }

@@ -5,6 +5,7 @@ use reference::joint::{Phase, Plan, Run, Transaction};
 use reference::log::Log;
 use reference::read_only::{met, NAMES, NEVER};
 use reference::step::{CoordinatorPhase, Effect};
+use reference::totals::{self, totals};
 use std::collections::BTreeMap;
 
 /// Answers that an event of each code can get; the last are codes above 8, and events that are not six bytes.
@@ -94,8 +95,12 @@ pub struct Coverage {
     /// By participant, kinds of records, and whether it is cut.
     restarts: BTreeMap<(bool, Vec<u8>, bool), u64>,
     discards: BTreeMap<Vec<u8>, u64>,
-    /// What Job 3 adds, by its name.
+    /// What Job 3 adds, by its name, and what Job 4 counts.
     read_only: BTreeMap<&'static str, u64>,
+    forced: BTreeMap<&'static str, u64>,
+    /// By transactions opened with a site, and by the digits of its forces, its quotient and its remainder.
+    opened: [u64; 9],
+    digits: [[u64; 5]; 3],
     others: BTreeMap<&'static str, u64>,
     /// HANDOVER lines with each letter.
     letters: BTreeMap<u8, u64>,
@@ -119,6 +124,16 @@ impl Coverage {
         self.other("list of 10,000 events", run.events == 10_000);
         self.other("list of more than 60,000 bytes", input.len() > 60_000);
         self.other("list without an event", input.is_empty());
+        for of in totals(&run.history) {
+            let [forces, opened, quotient, remainder] = of.numbers();
+            self.opened[opened as usize] += 1;
+            for (digits, number) in self.digits.iter_mut().zip([forces, quotient, remainder]) {
+                digits[number.checked_ilog10().unwrap_or(0) as usize] += 1;
+            }
+            if let Some(name) = totals::met_by(of.numbers()) {
+                *self.forced.entry(name).or_default() += 1;
+            }
+        }
         for line in text.split(|&b| b == b'\n').filter(|line| line.starts_with(b"HANDOVER")) {
             for letter in [b'C', b'A', b'X', b'-'].into_iter().filter(|letter| line[10..].contains(letter)) {
                 *self.letters.entry(letter).or_default() += 1;
@@ -133,6 +148,9 @@ impl Coverage {
         let code = if event.len() == 6 { event[0].min(9) } else { 9 };
         for name in met(run, event, &judged) {
             *self.read_only.entry(name).or_default() += 1;
+        }
+        if let Some(name) = totals::met(run, event, &judged) {
+            *self.forced.entry(name).or_default() += 1;
         }
         self.answers[code as usize][*judged.as_ref().err().unwrap_or(&0) as usize] += 1;
         match judged {
@@ -301,6 +319,23 @@ impl Coverage {
         for name in NAMES {
             least(*self.read_only.get(name).unwrap_or(&0), 100, name.to_string());
         }
+        for name in totals::NAMES {
+            least(*self.forced.get(name).unwrap_or(&0), 500, name.to_string());
+        }
+        for (opened, met) in self.opened.into_iter().enumerate() {
+            least(met, 500, format!("a site with {opened} transactions"));
+        }
+        // 10,000 forces leave no event for an opening
+        for ((of, most), digits) in [("forces", 5), ("quotient", 4), ("remainder", 5)].into_iter().zip(self.digits) {
+            for (met, n) in digits.into_iter().zip(1..) {
+                let what = format!("a site with {of} of {n} digits");
+                if n <= most {
+                    least(met, 5, what);
+                } else {
+                    assert_eq!(met, 0, "{what} cannot be");
+                }
+            }
+        }
         for name in NEVER {
             assert_eq!(self.read_only.get(name), None, "{name} cannot be");
         }
@@ -325,5 +360,7 @@ impl Coverage {
         println!("transactions restarted {}, and in a cut restart {}", sum(uncut), sum(cut));
         let added = NAMES.map(|name| format!("{name} {}", self.read_only.get(name).unwrap_or(&0)));
         println!("of Job 3: {}", added.join("; "));
+        let counted = totals::NAMES.map(|name| format!("{name} {}", self.forced.get(name).unwrap_or(&0)));
+        println!("of Job 4: {}", counted.join("; "));
     }
 }

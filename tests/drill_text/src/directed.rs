@@ -87,6 +87,22 @@ pub fn late_votes(rng: &mut Rng) -> Vec<u8> {
     list.concat()
 }
 
+/// So many events: so many transactions are opened somewhere among forces, most of which are of one site; without a
+/// transaction all are.
+pub fn many_forces(rng: &mut Rng, transactions: usize, length: usize) -> Vec<u8> {
+    let (often, share) = (rng.below(9) as u8, if transactions == 0 { 100 } else { 90 });
+    let mut list: Vec<Event> = vec![];
+    while list.len() < length - transactions {
+        let site = if rng.percent(share) { often } else { rng.below(9) as u8 };
+        list.push([4, 0, site, 0, NO_CUT, 0]);
+    }
+    for h in 0..transactions as u8 {
+        let members = rng.byte().max(1);
+        list.insert(rng.below(list.len() + 1), [0, h, members, members & rng.byte(), NO_CUT, 0]);
+    }
+    list.concat()
+}
+
 /// Logs as long as they can be: each transaction has all its records at every site. Then they are trimmed record by
 /// record, in any order, between crashes and restarts.
 pub fn full_logs(rng: &mut Rng, commits: usize) -> Vec<u8> {

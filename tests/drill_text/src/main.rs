@@ -10,7 +10,7 @@ mod library;
 mod lists;
 
 use coverage::Coverage;
-use directed::{full_logs, late_votes, long_restarts, many_unforced, only_read};
+use directed::{full_logs, late_votes, long_restarts, many_forces, many_unforced, only_read};
 use fenced::SPACE;
 use library::{fail, text_of, Library};
 use lists::{list, Style, STYLES};
@@ -88,7 +88,6 @@ fn vectors(trial: &mut Trial) {
                 continue;
             }
             "after" => continue,
-            "whole" if rest.is_empty() => (0, text.is_empty()),
             "whole" => (0, text == rest.replace(" | ", "\n") + "\n"),
             "line" => (1, text.lines().any(|line| line == rest)),
             "none" => (2, !text.lines().any(|line| line.starts_with(rest))),
@@ -99,7 +98,7 @@ fn vectors(trial: &mut Trial) {
             fail(&format!("vectors: not '{}'", line.trim()), &input, SPACE);
         }
     }
-    assert_eq!((trial.coverage.lists, claims), (183, [113, 87, 2]), "vectors: lists and claims");
+    assert_eq!((trial.coverage.lists, claims), (232, [162, 87, 2]), "vectors: lists and claims");
 }
 
 /// Lists whose last event is broken, at every length; no event at all.
@@ -130,14 +129,18 @@ fn limit(trial: &mut Trial) {
         trial.library.compare(&long, &text, text.len() - 1);
         trial.library.compare(&long, &text, SPACE);
     }
-    assert!(drill(&vec![0; BYTES + 3]).len() == 10_000);
+    assert!(drill(&vec![0; BYTES + 3]).len() == 10_000 + 9);
 }
 
 /// Restarts with all that there can be to do, crashes with many unforced records, votes that come late, full logs, members
-/// that only read.
+/// that only read, sites that are forced many times.
 fn deep(trial: &mut Trial) {
     for i in 0..60 {
         let input = long_restarts(&mut trial.rng, i % 2 == 0);
+        trial.list(&input, i);
+    }
+    for i in 0..180 {
+        let input = many_forces(&mut trial.rng, i % 9, [20, 150, 1_500, 10_000][i % 4]);
         trial.list(&input, i);
     }
     for i in 0..1_200 {

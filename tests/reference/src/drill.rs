@@ -2,6 +2,7 @@
 
 use crate::codec::*;
 use crate::joint::*;
+use crate::totals::{totals, Totals};
 
 /// The drill looks at the first 60,000 bytes and cuts them in sixes.
 pub fn drill_events(input: &[u8]) -> std::slice::Chunks<'_, u8> {
@@ -23,6 +24,7 @@ pub fn watched_drill(input: &[u8], mut watch: impl FnMut(&Run, &[u8])) -> (Vec<S
         lines.push(format!("{} {} {} {} {}", i + 1, a.number, a.records, a.forces, a.sends));
     }
     lines.extend(run.handover_lines());
+    lines.extend(run.site_lines());
     (lines, run)
 }
 
@@ -67,5 +69,11 @@ impl Run {
             format!("HANDOVER {} {}", t.names.transaction, letters)
         };
         self.transactions.iter().flatten().map(line).collect()
+    }
+
+    /// Forces, transactions, quotient and remainder of the sites 0 to 8.
+    pub fn site_lines(&self) -> Vec<String> {
+        let line = |of: Totals| of.numbers().map(|number| number.to_string()).join(" ");
+        totals(&self.history).map(line).to_vec()
     }
 }

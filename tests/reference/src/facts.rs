@@ -6,6 +6,7 @@ use crate::joint::*;
 use crate::log::Log;
 use crate::monitor::rebuild;
 use crate::step::*;
+use crate::totals::{count, Totals};
 
 type Fact = Result<(), String>;
 
@@ -19,28 +20,48 @@ fn fact(holds: bool, what: &str, transaction: u8, site: u8) -> Fact {
 }
 
 /// What the list has done so far.
+#[derive(Default)]
 struct Past {
     logs: [Log; 9],
     /// Transactions whose Commit record was stable at some moment.
     commit_was_stable: [bool; 8],
+    totals: [Totals; 9],
+    /// The forces that the events' answers tell, by the site of the event.
+    told: [u64; 9],
 }
 
 pub fn facts(input: &[u8]) -> Fact {
     let mut run = Run::fresh();
-    let mut past = Past { logs: Default::default(), commit_was_stable: [false; 8] };
+    let mut past = Past::default();
     for (i, event) in drill_events(input).enumerate() {
-        let seen = run.history.len();
-        run.event(event);
-        let new = run.history[seen..].iter().try_for_each(|happening| past.happen(happening));
-        let now = new.and_then(|()| past.facts_now(&run));
-        now.map_err(|what| format!("after event {}: {what}", i + 1))?;
+        past.event(&mut run, event).map_err(|what| format!("after event {}: {what}", i + 1))?;
     }
     Ok(())
 }
 
+/// The site at which an event's effects happen.
+fn site_of(event: &[u8]) -> u8 {
+    match *event {
+        [2, _, b, kind, ..] if goes_to_participant(kind) => b,
+        [3 | 4 | 7, _, site, ..] => site,
+        _ => COORDINATOR,
+    }
+}
+
 impl Past {
+    fn event(&mut self, run: &mut Run, event: &[u8]) -> Fact {
+        let seen = run.history.len();
+        let Answer { number, forces, .. } = run.event(event);
+        if number == 0 {
+            self.told[site_of(event) as usize] += forces as u64;
+        }
+        run.history[seen..].iter().try_for_each(|happening| self.happen(happening))?;
+        self.facts_now(run)
+    }
+
     fn happen(&mut self, happening: &Happening) -> Fact {
         rebuild(&mut self.logs, happening);
+        count(&mut self.totals, happening);
         if let Happening::Did { site, .. } | Happening::Down { site, .. } | Happening::Dropped { site, .. } = *happening
         {
             facts_of_log(site, &self.logs[site as usize])?;
@@ -57,6 +78,9 @@ impl Past {
             fact(run.up[site as usize] || log.unforced() == 0, "a down site has unforced records", 0, site)?;
             fact(log.records[log.stable..].iter().all(|r| r.kind() != 5), "an unforced vote", 0, site)?;
             fact(log == &self.logs[site as usize], "a log that the history does not tell", 0, site)?;
+            let with_it = |t: &&Transaction| site == COORDINATOR || has(t.names.members, site);
+            let opened = run.transactions.iter().flatten().filter(with_it).count() as u64;
+            facts_of_totals(site, self.totals[site as usize].numbers(), self.told[site as usize], opened)?;
         }
         for t in run.transactions.iter().flatten() {
             let view = View { run, t, commit_was_stable: self.commit_was_stable[t.names.transaction as usize] };
@@ -65,6 +89,17 @@ impl Past {
         }
         Ok(())
     }
+}
+
+/// Of a site's four numbers, beside the forces that answers tell and the transactions with it that are opened.
+fn facts_of_totals(site: u8, numbers: [u64; 4], told: u64, with_it: u64) -> Fact {
+    let [forces, opened, quotient, remainder] = numbers;
+    let fact = |holds, what| fact(holds, what, 0, site);
+    fact(forces == told, "other forces than its answers tell")?;
+    fact(opened == with_it, "other transactions than those opened with it")?;
+    fact(forces == quotient * opened + remainder, "quotient and remainder are not the forces")?;
+    let exact = if opened == 0 { quotient == 0 } else { remainder < opened };
+    fact(exact, "a remainder too large, or a quotient without transactions")
 }
 
 /// Of the whole log and of its stable part, at any moment.
@@ -215,12 +250,12 @@ mod tests {
     /// After these events and a change of the run some fact fails.
     fn fails(events: &[[u8; 4]], by: &str, change: impl FnOnce(&mut Run)) {
         let mut run = Run::fresh();
+        let mut past = Past::default();
         for &[code, x, y, z] in events {
-            assert_eq!(run.event(&[code, x, y, z, NO_CUT, 0]).number, 0);
+            let event = [code, x, y, z, NO_CUT, 0];
+            assert!(run.judge(&event).is_ok());
+            assert_eq!(past.event(&mut run, &event), Ok(()));
         }
-        let mut past = Past { logs: Default::default(), commit_was_stable: [false; 8] };
-        run.history.iter().try_for_each(|happening| past.happen(happening)).unwrap();
-        assert_eq!(past.facts_now(&run), Ok(()));
         change(&mut run);
         past.logs = run.logs.clone();
         let found = past.facts_now(&run);
@@ -271,6 +306,28 @@ mod tests {
         fails(&aborting, "Aborting: waiting", wait(CoordinatorPhase::Aborting, 2));
         fails(&aborting, "taken out: no member, or awaited", wait(CoordinatorPhase::Aborting, 5));
         fails(&aborting, "Init alone", |run| first(run).coordinator.phase = CoordinatorPhase::Unknown);
+    }
+
+    #[test]
+    fn facts_of_totals_may_fail() {
+        fails(&COLLECTING, "other transactions", |run| first(run).names.members = 15);
+        fails(&COLLECTING, "other transactions", |run| run.transactions[1] = run.transactions[0].clone());
+        for (numbers, by) in [
+            ([8, 2, 4, 0], "other forces"),
+            ([6, 2, 3, 0], "other forces"),
+            ([7, 1, 7, 0], "other transactions"),
+            ([7, 0, 0, 7], "other transactions"),
+            ([7, 2, 3, 0], "are not the forces"),
+            ([7, 2, 2, 3], "a remainder too large"),
+            ([7, 2, 0, 7], "a remainder too large"),
+        ] {
+            let found = facts_of_totals(1, numbers, 7, 2);
+            assert!(found.as_ref().is_err_and(|what| what.contains(by)), "{found:?} instead of: {by}");
+        }
+        assert_eq!(facts_of_totals(1, [7, 2, 3, 1], 7, 2), Ok(()));
+        assert_eq!(facts_of_totals(1, [7, 0, 0, 7], 7, 0), Ok(()));
+        assert!(facts_of_totals(1, [7, 0, 7, 7], 7, 0).is_err_and(|what| what.contains("a quotient without")));
+        assert!(facts_of_totals(1, [7, 0, 0, 0], 7, 0).is_err_and(|what| what.contains("are not the forces")));
     }
 
     #[test]

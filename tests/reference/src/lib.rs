@@ -1,4 +1,4 @@
-//! Reference model of document 01 and Jobs 1 and 3 of document 02 for tests, with the readings that docs/DECISIONS.md
+//! Reference model of document 01 and Jobs 1, 3 and 4 of document 02 for tests, with the readings that docs/DECISIONS.md
 //! chooses. It was written from the text and from no Rattle file, so that the two can be compared.
 //! 01's words in the field's names: hub = coordinator, box = participant, handover = transaction, PC = presume_commit.
 
@@ -16,3 +16,4 @@ pub mod random_steps;
 pub mod read_only;
 pub mod restart;
 pub mod step;
+pub mod totals;

@@ -10,6 +10,8 @@ use reference::random::*;
 use reference::random_images::*;
 use reference::random_steps::*;
 use reference::read_only;
+use reference::totals;
+use std::collections::BTreeMap;
 use std::io::{self, BufRead, BufWriter, Write};
 
 const USAGE: &str = "usage: reference drill|dump|read|write|step|message|safe|facts|met
@@ -134,13 +136,24 @@ fn answer_lines(answer: impl Fn(&str) -> Option<String>) -> io::Result<()> {
     out.flush()
 }
 
-/// What of Job 3 all the lists meet: `can count name`, and `cannot count name` for what none can meet.
+/// What of Jobs 3 and 4 all the lists meet: `can count name`, and `cannot count name` for what none can meet.
 fn answer_met() -> io::Result<()> {
-    let lines: Vec<String> = io::stdin().lock().lines().collect::<io::Result<_>>()?;
-    let lists: Vec<Vec<u8>> = lines.iter().filter_map(|line| hex(line)).collect();
-    for (name, can, count) in read_only::counted(lists.iter().map(Vec::as_slice)) {
-        println!("{} {count} {name}", if can { "can" } else { "cannot" });
+    let mut counts: BTreeMap<&str, usize> = BTreeMap::new();
+    for line in io::stdin().lock().lines() {
+        let mut found = Vec::new();
+        let (_, run) = watched_drill(&hex(&line?).unwrap_or_default(), |run, event| {
+            let judged = run.judge(event);
+            found.extend(read_only::met(run, event, &judged));
+            found.extend(totals::met(run, event, &judged));
+        });
+        found.extend(totals::totals(&run.history).into_iter().filter_map(|of| totals::met_by(of.numbers())));
+        found.into_iter().for_each(|name| *counts.entry(name).or_default() += 1);
     }
+    let names = [("can", &read_only::NAMES[..]), ("can", &totals::NAMES), ("cannot", &read_only::NEVER)];
+    for (can, names) in names {
+        names.iter().for_each(|name| println!("{can} {} {name}", counts.remove(name).unwrap_or(0)));
+    }
+    assert!(counts.is_empty(), "names that no list of names has: {counts:?}");
     Ok(())
 }
 

@@ -304,17 +304,3 @@ impl Step<'_> {
         }
     }
 }
-
-/// How often lists meet each name, and whether it is one that none can meet.
-pub fn counted<'a>(lists: impl Iterator<Item = &'a [u8]>) -> Vec<(&'static str, bool, usize)> {
-    let mut counts: Vec<(&str, bool, usize)> = NAMES.iter().map(|&name| (name, true, 0)).collect();
-    counts.extend(NEVER.iter().map(|&name| (name, false, 0)));
-    for list in lists {
-        crate::drill::watched_drill(list, |run, event| {
-            for name in met(run, event, &run.judge(event)) {
-                counts.iter_mut().find(|(other, ..)| *other == name).expect("a name of the list").2 += 1;
-            }
-        });
-    }
-    counts
-}
