@@ -26,8 +26,10 @@ use Rattle.joint.specs.Run.{isSend, count, eventParsed, answerOf}
 use Rattle.joint.specs.Drill.{chunks}
 use Rattle.joint.specs.laws.Events.{bytesOf}
 use Rattle.joint.specs.Safety.{history}
-use Rattle.joint.specs.Answers.{siteFrom, partIn, transactionsIn, answerIn, runIn, forcesIn, Seen, seen}
+use Rattle.joint.specs.Answers.{siteFrom, partIn, transactionsIn, refusalNumber, answerIn, runIn, forcesIn, Seen, seen}
 use Rattle.joint.specs.Program.{hasRoom, Adds}
+use Rattle.joint.specs.declared.answers.Answer.{Answer}
+use Rattle.joint.specs.declared.answers.Answer.the-variants as answer
 use Rattle.joint.specs.declared.sites.Site.{Site}
 use Rattle.joint.specs.declared.rows.Then.{Then}
 use Rattle.joint.specs.declared.rows.Then.the-variants as follows
@@ -243,9 +245,22 @@ InRange (events.Restart e) = e .site ≤ 8
 
 -- ---- changes
 
+-- a refusal. An acceptance in its place would be 10, which no event answers
+abbrev pub refusal : Answer → run.Answer
+refusal (answer.Accepted c) = refusalNumber 10
+refusal answer.Malformed = answerIn answer.Malformed
+refusal answer.OpenedBefore = answerIn answer.OpenedBefore
+refusal answer.NeverOpened = answerIn answer.NeverOpened
+refusal answer.NoMember = answerIn answer.NoMember
+refusal answer.SiteDown = answerIn answer.SiteDown
+refusal answer.SiteUp = answerIn answer.SiteUp
+refusal answer.NeverSent = answerIn answer.NeverSent
+refusal answer.NotAllowed = answerIn answer.NotAllowed
+refusal answer.CutTooFar = answerIn answer.CutTooFar
+
 -- in run w, of site s and transaction t
 unfoldable pub changeIn : plain.Run → ℕ → ℕ → Change → Seen
-changeIn w s t (change.Refused a) = record { answer = answerIn a; run = w }
+changeIn w s t (change.Refused a) = record { answer = refusal a; run = w }
 changeIn w s t (change.Happens x) = seen (run.carry w (planIn s t x) none)
 
 -- ---- restart

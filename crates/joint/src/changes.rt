@@ -1,6 +1,5 @@
 // What an event at one site in one transaction does: it is refused, or a row happens. Nothing is stored here.
 use crate::answers::Answer;
-use crate::answers::Counts;
 use crate::events::Discarding;
 use crate::events::Input;
 use crate::events::Marking;
@@ -29,7 +28,7 @@ ghost use Rattle.site.specs.Answers.{effectsIn};
 ghost use Rattle.joint.specs.State as plain;
 ghost use Rattle.joint.specs.Event as event;
 ghost use Rattle.joint.specs.Run as run;
-ghost use Rattle.joint.specs.Answers.{siteFrom, noSite, transactionIn, answerIn, seen};
+ghost use Rattle.joint.specs.Answers.{siteFrom, noSite, transactionIn, seen};
 ghost use Rattle.joint.specs.Inside.{planIn, changeIn, Here, Fits, Asks, inputEvent, cutFrom, taken};
 ghost use Rattle.joint.specs.Program.{roomFor};
 
@@ -37,21 +36,6 @@ ghost use Rattle.joint.specs.Program.{roomFor};
 pub enum Change {
     Refused(Answer),
     Happens(Row),
-}
-
-impl Change {
-    // The answer to its event.
-    pub(crate) fn answer(self) -> Answer
-        ensures { λ r. ⌜ ((w : plain.Run) (s t : ℕ) → answerIn r ≡ changeIn w s t self .answer) ⌝ }
-    {
-        match self {
-            Change::Refused(answer) => answer,
-            Change::Happens(row) => {
-                let effects = row.effects;
-                Answer::Accepted(Counts::of(effects))
-            }
-        }
-    }
 }
 
 // A row; or, up to the cut, the first effects of it, and then the site goes down.

@@ -1,5 +1,6 @@
 // Events run one after the other: a list of them from the fresh run, or one.
 use crate::answers::Answer;
+use crate::answers::Counts;
 use crate::changes::Change;
 use crate::changes::crash;
 use crate::changes::discard;
@@ -76,8 +77,8 @@ fn go(run: Run, bytes: &[u8], answers: &mut [u8], events: usize) -> Ran
                 let next = restart(site, records, transactions, e);
                 last = next.answer;
                 store(last, answers, out);
-                run.forces[s] = add_held(run.forces[s], last.forces());
-                if let Answer::Accepted(_) = last {
+                if let Answer::Accepted(counts) = last {
+                    run.forces[s] = add_held(run.forces[s], counts.forces);
                     let changed = next.site;
                     run.sites[s] = changed;
                     let changed = next.transactions;
@@ -103,27 +104,34 @@ fn go(run: Run, bytes: &[u8], answers: &mut [u8], events: usize) -> Ran
                     Step::Crash(e) => crash(site, e.keep),
                     Step::Mark(e) => mark(site, transaction, e),
                 };
-                last = change.answer();
-                store(last, answers, out);
-                run.forces[s] = add_held(run.forces[s], last.forces());
-                if let Change::Happens(row) = change {
-                    let effects = row.effects;
-                    let then = row.then;
-                    let after = transaction.after(s as u8, effects);
-                    run.transactions[t] = after.settle(s as u8, then);
-                    if row.writes() {
-                        let records = run.records[s];
-                        let log = records.after(site, t as u8, row);
-                        let changed = log.site;
-                        run.sites[s] = changed;
-                        let changed = log.records;
-                        run.records[s] = changed;
-                    } else {
-                        run.sites[s] = site.settle(row);
+                match change {
+                    Change::Refused(answer) => {
+                        last = answer;
+                        store(last, answers, out);
                     }
-                    if row.goes_down() {
-                        let transactions = run.transactions;
-                        run.transactions = forget_all(transactions, s);
+                    Change::Happens(row) => {
+                        let effects = row.effects;
+                        let then = row.then;
+                        let counts = Counts::of(effects);
+                        last = Answer::Accepted(counts);
+                        store(last, answers, out);
+                        run.forces[s] = add_held(run.forces[s], counts.forces);
+                        let after = transaction.after(s as u8, effects);
+                        run.transactions[t] = after.settle(s as u8, then);
+                        if row.writes() {
+                            let records = run.records[s];
+                            let log = records.after(site, t as u8, row);
+                            let changed = log.site;
+                            run.sites[s] = changed;
+                            let changed = log.records;
+                            run.records[s] = changed;
+                        } else {
+                            run.sites[s] = site.settle(row);
+                        }
+                        if row.goes_down() {
+                            let transactions = run.transactions;
+                            run.transactions = forget_all(transactions, s);
+                        }
                     }
                 }
             }

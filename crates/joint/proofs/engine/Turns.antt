@@ -1,6 +1,6 @@
 -- One turn of the loop over events: an event more is read, decided, and stored in the run's arrays.
 use Prim.Native.Nat.{ℕ, zero, suc, _+_, _*_, _≤_, _<_}
-use mathlib.Core.Path.{_≡_, refl, sym, ap, _∙_}
+use mathlib.Core.Path.{_≡_, refl, sym, ap, subst, _∙_}
 use mathlib.Core.Bool.{Bool, true, false, cond, not, _||_}
 use mathlib.Core.List.{List, [], _∷_}
 use mathlib.Core.Option.{Option, none, some}
@@ -29,7 +29,7 @@ use Rattle.joint.specs.Totals as totals
 use Rattle.joint.specs.Totals.{forcesAt}
 use Rattle.joint.specs.Program.{hasRoom, roomParsed, roomFor, roomForPlan, Adds}
 use Rattle.joint.specs.Answers.{siteFrom, noSite, noRecords, transactionsIn, runIn, forcesIn, answerIn, refusalNumber, Seen, seen}
-use Rattle.joint.specs.Inside.{transactionAfter, counted, size, Fits, thenIn, thenTransaction, goesDown, rowSite, planIn, Asks, begins, delivers, times, taken, changeIn, Here, stepIn, stepSite, stepTransaction, StepInRange, restartedIn}
+use Rattle.joint.specs.Inside.{transactionAfter, counted, size, Fits, thenIn, thenTransaction, goesDown, rowSite, planIn, Asks, begins, delivers, times, taken, refusal, changeIn, Here, stepIn, stepSite, stepTransaction, StepInRange, restartedIn}
 use Rattle.joint.specs.declared.answers.Answer.{Answer}
 use Rattle.joint.specs.declared.answers.Counts.{Counts}
 use Rattle.joint.specs.declared.answers.Answer.the-variants as answer
@@ -39,14 +39,13 @@ use Rattle.joint.specs.declared.records.SiteLog.{SiteLog}
 use Rattle.joint.specs.declared.transactions.Transaction.{Transaction}
 use Rattle.joint.specs.declared.rows.Row.{Row}
 use Rattle.joint.specs.declared.changes.Change.{Change}
-use Rattle.joint.specs.declared.changes.Change.the-variants as change
 use Rattle.joint.specs.declared.events.Step.{Step}
 use Rattle.joint.specs.declared.events.Step.the-variants as steps
 use Rattle.joint.specs.declared.restarts.Restarted.{Restarted}
 use Rattle.joint.specs.declared.run.Run.{Run}
 use Rattle.joint.proofs.answers.Answer.{the-type}
-use Rattle.joint.proofs.changes.Change as changes
-use Rattle.joint.proofs.base.Lists.{select-take, among}
+use Rattle.joint.proofs.base.Lists.{Each, select-take, among}
+use Rattle.joint.proofs.base.History.{refusal-acts}
 use Rattle.joint.proofs.base.Plans.{All, siteOf}
 use Rattle.joint.proofs.base.Forces.{held-sum, none-forced, event-forces}
 use Rattle.joint.proofs.engine.Placed.{run-path, acting-counted}
@@ -95,13 +94,13 @@ going-next g n next x now f h e k s = record { full = f; ahead = ahead-next (g .
 
 -- ---- its forces
 
--- none in the answer, and nothing is counted
-pub turned-same : (run : Run) (x : List ℕ) (n : Answer) → answerIn n .forces ≡ 0 → record { answer = answerIn n; run = runIn run } ≡ seen (event (runIn run) x) → Turned run x n run
-unfolding seen forcesIn
-turned-same run x n h e = (
-  e,
-  λ s. sym (ap (λ (k : ℕ). totals.held (forcesIn run s + k)) (none-forced (runIn run) x s (sym (ap (λ (v : Seen). v .answer .forces) e) ∙ h)) ∙ held-none (getD (run .forces) s 0)),
-)
+-- a refusal makes none, and nothing is counted
+pub turned-refused : (run : Run) (x : List ℕ) (n : Answer) (k : ℕ) → answerIn n .number ≡ suc k → record { answer = answerIn n; run = runIn run } ≡ seen (event (runIn run) x) → Turned run x n run
+unfolding seen forcesIn answerOf
+turned-refused run x n k h e =
+    let acts = refusal-acts (runIn run) x k (sym (ap (λ (v : Seen). v .answer .number) e) ∙ h) in
+    let unforced : answerOf (event (runIn run) x) .forces ≡ 0 = ap (count isForce) acts ∙ unfold count select in refl in
+    (e, λ s. sym (ap (λ (k : ℕ). totals.held (forcesIn run s + k)) (none-forced (runIn run) x s unforced) ∙ held-none (getD (run .forces) s 0)))
   where
     held-none : (n : ℕ) → totals.held (totals.held n + 0) ≡ totals.held n
     held-none n = unfold totals.held in omega arith
@@ -215,16 +214,25 @@ module _ (w : plain.Run) (s : ℕ) (small : size (w .site s) ≤ 24) where
 -- ---- a row happens: what is stored
 
 module _ (w : plain.Run) (s t : ℕ) (x : Row) where
-  pub happens-seen : (n : Answer) (f : ℕ → plain.Site) (g : ℕ → plain.Transaction)
-      → answerIn n ≡ answerOf (carry w (planIn s t x) none)
+  pub happens-seen : (n : Counts) (f : ℕ → plain.Site) (g : ℕ → plain.Transaction)
+      → (n .records ≡ counted isAppend (effectsIn (x .effects))) × ((n .forces ≡ counted isForce (effectsIn (x .effects))) × (n .sends ≡ counted isSend (effectsIn (x .effects))))
       → f ≡ update s (λ _. rowSite t x (w .site s)) (w .site)
       → g ≡ forgottenIf (goesDown (x .then)) s (update t (λ _. thenTransaction s (x .then) (transactionAfter s (effectsIn (x .effects)) (w .transaction t))) (w .transaction))
-      → _≡_ {A = Seen} (record { answer = answerIn n; run = record { site = f; transaction = g } }) (seen (carry w (planIn s t x) none))
-  unfolding seen carry rowSite
+      → _≡_ {A = Seen} (record { answer = answerIn (answer.Accepted n); run = record { site = f; transaction = g } }) (seen (carry w (planIn s t x) none))
+  unfolding answerIn seen answerOf carry rowSite
   happens-seen n f g c p q =
       let es = effectsIn (x .effects) in
       let same : _≡_ {A = plain.Run} (record { site = f; transaction = g }) (thenIn s t (x .then) (performAll s (acting t es) w)) = run-path p q ∙ sym (row-happens s t (x .then) es w) in
-      λ i. record { answer = c i; run = same i }
+      λ i. record {
+        answer =
+            record {
+              number = 0;
+              records = (c .0 ∙ sym (acting-counted t isAppend es)) i;
+              forces = (c .1 .0 ∙ sym (acting-counted t isForce es)) i;
+              sends = (c .1 .1 ∙ sym (acting-counted t isSend es)) i;
+            };
+        run = same i;
+      }
 
 -- ---- where an event's plan is
 
@@ -290,12 +298,67 @@ module _ (r : Run) (f : Full r) (s : ℕ) (low : s ≤ 8) (d : Site) (e : Record
 
 -- ---- what is decided of an event at one site, by the kind of event
 
--- a change that is refused leaves the run
-pub refused-seen : (w : plain.Run) (s t : ℕ) (x : Change) (n : Answer) → OneOf (0 ∷ []) (tagOf changes.the-type x) → answerIn n ≡ changeIn w s t x .answer
-    → _≡_ {A = Seen} (record { answer = answerIn n; run = w }) (changeIn w s t x)
-unfolding changeIn
-refused-seen w s t (change.Refused a) n k e = λ i. record { answer = e i; run = w }
-refused-seen w s t (change.Happens y) n k e = absurd (miss (0 ∷ []) 1 tt k)
+-- no event answers more than 9
+first-low : (l : List (ℕ × Bool)) → Each (λ c. c .0 ≤ 9) l → first l ≤ 9
+unfolding first
+first-low [] h = omega arith
+first-low (c ∷ l) h = go (c .1) (first-low l (h .1))
+  where
+    go : (b : Bool) → first l ≤ 9 → cond b (c .0) (first l) ≤ 9
+    go true k = h .0
+    go false k = k
+
+refusals-low : (w : plain.Run) (e : events.Event) → Each (λ c. c .0 ≤ 9) (refusals w e)
+unfolding refusals
+refusals-low w (events.opening t M C) = (omega arith, (omega arith, tt))
+refusals-low w (events.beginning t) = (omega arith, (omega arith, tt))
+refusals-low w (events.delivery t p m) = (omega arith, (omega arith, (omega arith, (omega arith, tt))))
+refusals-low w (events.timeout t s) = (omega arith, (omega arith, (omega arith, tt)))
+refusals-low w (events.forcing s) = (omega arith, tt)
+refusals-low w (events.discarding t s) = (omega arith, (omega arith, (omega arith, tt)))
+refusals-low w (events.crash s) = (omega arith, tt)
+refusals-low w (events.restart s) = (omega arith, tt)
+refusals-low w (events.marking t p) = (omega arith, (omega arith, (omega arith, tt)))
+
+taken-low : (w : plain.Run) (e : events.Event) (c : Option (ℕ × ℕ)) → taken w e c .answer .number ≤ 9
+unfolding taken eventParsed seen answerOf carryUnless carryPlan carry cutShort refuse
+taken-low w e c = unless (first (refusals w e)) (first-low (refusals w e) (refusals-low w e))
+  where
+    cut-low : (b : Bool) (p : Plan) (a k : ℕ) → cutShort b w p a k .answer ≤ 9
+    cut-low true p a k = omega arith
+    cut-low false p a k = omega arith
+
+    carried : (p : Plan) (c : Option (ℕ × ℕ)) → carry w p c .answer ≤ 9
+    carried p none = omega arith
+    carried p (some c) = cut-low (canCut w p (c .0) (c .1)) p (c .0) (c .1)
+
+    planned : (o : Option Plan) → carryPlan w o c .answer ≤ 9
+    planned none = omega arith
+    planned (some p) = carried p c
+
+    unless : (m : ℕ) → m ≤ 9 → carryUnless m w (record { event = e; cut = c }) .answer ≤ 9
+    unless zero h = planned (plan w e)
+    unless (suc m) h = h
+
+-- so what a refused change holds is a refusal
+is-refusal : (a : Answer) → refusal a .number ≤ 9 → (answerIn a ≡ refusal a) × ((n : ℕ) × (answerIn a .number ≡ suc n))
+unfolding answerIn refusalNumber
+is-refusal (answer.Accepted c) h = absurd (omega (arith, h))
+is-refusal answer.Malformed h = (refl, (0, refl))
+is-refusal answer.OpenedBefore h = (refl, (1, refl))
+is-refusal answer.NeverOpened h = (refl, (2, refl))
+is-refusal answer.NoMember h = (refl, (3, refl))
+is-refusal answer.SiteDown h = (refl, (4, refl))
+is-refusal answer.SiteUp h = (refl, (5, refl))
+is-refusal answer.NeverSent h = (refl, (6, refl))
+is-refusal answer.NotAllowed h = (refl, (7, refl))
+is-refusal answer.CutTooFar h = (refl, (8, refl))
+
+pub refused-change : (w : plain.Run) (e : events.Event) (c : Option (ℕ × ℕ)) (a : Answer) → record { answer = refusal a; run = w } ≡ taken w e c
+    → (_≡_ {A = Seen} (record { answer = answerIn a; run = w }) (taken w e c)) × ((n : ℕ) × (answerIn a .number ≡ suc n))
+refused-change w e c a h =
+    let x = is-refusal a (subst (λ (v : Seen). v .answer .number ≤ 9) (sym h) (taken-low w e c)) in
+    ((λ i. record { answer = x .0 i; run = w }) ∙ h, x .1)
 
 pub decided-as : (w : plain.Run) {e f : Step} {s t : ℕ} {a b : Change} → e ≡ f → s ≡ stepSite e → t ≡ stepTransaction e → a ≡ b
     → changeIn w (stepSite f) (stepTransaction f) b ≡ taken w (stepIn f .event) (stepIn f .cut) → changeIn w s t a ≡ taken w (stepIn e .event) (stepIn e .cut)

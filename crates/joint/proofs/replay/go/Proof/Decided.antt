@@ -11,13 +11,13 @@ use Rattle.site.specs.Answers.{effectsIn}
 use Rattle.joint.specs.State as plain
 use Rattle.joint.specs.State.{update}
 use Rattle.joint.specs.Plan.{plan}
-use Rattle.joint.specs.Run.{event, carry, answerOf}
+use Rattle.joint.specs.Run.{event, carry}
 use Rattle.joint.specs.Program.{hasRoom, roomFor}
 use Rattle.joint.specs.Answers.{siteFrom, transactionIn, transactionsIn, runIn, answerIn, seen}
 use Rattle.joint.specs.Inside.{stepSite, stepTransaction, stepIn, changeIn, taken, rowSite, planIn, Fits, thenTransaction, transactionAfter}
-use Rattle.joint.specs.declared.answers.Answer.{Answer}
+use Rattle.joint.specs.declared.answers.Answer.the-variants as variants
+use Rattle.joint.specs.declared.answers.Counts.{Counts}
 use Rattle.joint.specs.declared.events.Step.{Step}
-use Rattle.joint.specs.declared.changes.Change.{Change}
 use Rattle.joint.specs.declared.rows.Row.{Row}
 use Rattle.joint.specs.declared.transactions.Transaction.{Transaction}
 use Rattle.joint.specs.declared.run.Run.{Run}
@@ -97,10 +97,10 @@ logged c = search length-shown
 -- its answer is stored, and its forces are counted
 module _ (c : tie.After-add-held2 Inv-loop μ-loop) where
   abbrev pub taking : tie.At-match3-came Inv-loop μ-loop
-  taking = c .before .before .before .before .before .before .before .before
+  taking = c .before .before .before .before .before .before .before .before .before .before .before
 
-  abbrev pub answer : Answer
-  answer = c .before .before .before .before .before .before .before .answer .result
+  abbrev pub counts : Counts
+  counts = c .before .before .before .before .before .before .of .result
 
   abbrev pub counted : List ℕ
   counted = set (before taking .forces) (number taking) (c .add-held2 .result)
@@ -108,33 +108,27 @@ module _ (c : tie.After-add-held2 Inv-loop μ-loop) where
   pub its-site : number taking ≡ siteOf (stepIn (step-of (found taking)) .event)
   its-site = at-site taking ∙ step-site (step-of (found taking)) (in-range (found taking))
 
-  pub turned : (next : Run) → next .forces ≡ counted → record { answer = answerIn answer; run = runIn next } ≡ seen (event (runIn (before taking)) (x (step-read (found taking))))
-      → Turned (before taking) (x (step-read (found taking))) answer next
+  pub turned : (next : Run) → next .forces ≡ counted → record { answer = answerIn (variants.Accepted counts); run = runIn next } ≡ seen (event (runIn (before taking)) (x (step-read (found taking))))
+      → Turned (before taking) (x (step-read (found taking))) (variants.Accepted counts) next
+  unfolding answerIn
   turned next e =
-      turned-at (before taking) next (x (step-read (found taking))) answer _ (step-parsed (found taking)) (number taking) (omega (arith, low taking, full (step-read (found taking)) .counters)) its-site
-      _ _ (e ∙ ap (set (before taking .forces) (number taking)) (c .add-held2 .ensures)) (c .before .forces2 .ensures)
+      turned-at (before taking) next (x (step-read (found taking))) (variants.Accepted counts) _ (step-parsed (found taking)) (number taking) (omega (arith, low taking, full (step-read (found taking)) .counters)) its-site
+      _ _ (e ∙ ap (set (before taking .forces) (number taking)) (c .add-held2 .ensures)) refl
 
 -- a row happens
 module _ (c : tie.After-settle Inv-loop μ-loop) where
   abbrev pub answered : tie.After-add-held2 Inv-loop μ-loop
-  answered = c .before .before .before .before .before .before
+  answered = c .before .before
 
   abbrev pub came : tie.At-match3-came Inv-loop μ-loop
   came = taking answered
 
   abbrev pub row : Row
-  row = c .before .before .before .before .change .given .0 .0
+  row = c .before .before .before .before .before .before .before .before .before .before .before .change2 .given .0 .0
 
   pub row-seen : hasRoom (runIn (before came)) (x (step-read (found came))) ≡ true → seen (carry (runIn (before came)) (planIn (number came) (transaction came) row) none) ≡ seen (event (runIn (before came)) (x (step-read (found came))))
   unfolding changeIn
-  row-seen h = sym (ap (changeIn (runIn (before came)) (number came) (transaction came)) (c .before .before .before .before .change .given .1)) ∙ decided came h ∙ parsed-seen (runIn (before came)) (x (step-read (found came))) _ (step-parsed (found came))
-
-  pub row-answer : answerIn (answer answered) ≡ answerOf (carry (runIn (before came)) (planIn (number came) (transaction came) row) none)
-  unfolding changeIn seen
-  row-answer =
-      let v = runIn (before came) in
-      (answered .before .before .before .before .before .before .before .answer .ensures v (number came) (transaction came))
-      ∙ ap (λ (y : Change). changeIn v (number came) (transaction came) y .answer) (c .before .before .before .before .change .given .1)
+  row-seen h = sym (ap (changeIn (runIn (before came)) (number came) (transaction came)) (c .before .before .before .before .before .before .before .before .before .before .before .change2 .given .1)) ∙ decided came h ∙ parsed-seen (runIn (before came)) (x (step-read (found came))) _ (step-parsed (found came))
 
   pub fits : hasRoom (runIn (before came)) (x (step-read (found came))) ≡ true → Fits (effectsIn (row .effects)) (runIn (before came) .site (number came))
   unfolding changeIn
@@ -142,7 +136,7 @@ module _ (c : tie.After-settle Inv-loop μ-loop) where
       let k = found came in
       let v = runIn (before came) in
       row-fits v (number came) (held (before came) (full (step-read k)) (number came) (low came)) (transaction came) row (stepIn (step-of k) .event) (stepIn (step-of k) .cut)
-      (sym (ap (changeIn v (number came) (transaction came)) (c .before .before .before .before .change .given .1)) ∙ decided came h)
+      (sym (ap (changeIn v (number came) (transaction came)) (c .before .before .before .before .before .before .before .before .before .before .before .change2 .given .1)) ∙ decided came h)
       (subst (λ (s : ℕ). All (λ p. p .site ≡ s) (plan v (stepIn (step-of k) .event))) (sym (its-site answered)) (plan-site v (stepIn (step-of k) .event))) (room-for came h)
 
   abbrev pub put : List Transaction

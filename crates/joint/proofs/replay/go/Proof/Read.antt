@@ -18,6 +18,7 @@ use Rattle.joint.specs.Program.{hasRoom}
 use Rattle.joint.specs.Answers.{runIn, forcesIn, answerIn, seen}
 use Rattle.joint.specs.Inside.{stepIn, StepInRange, eventIn, cutFrom, taken}
 use Rattle.joint.specs.declared.answers.Answer.{Answer}
+use Rattle.joint.specs.declared.answers.Answer.the-variants as variants
 use Rattle.joint.specs.declared.events.Step.{Step}
 use Rattle.joint.specs.declared.events.Restart.{Restart}
 use Rattle.joint.specs.declared.run.Run.{Run}
@@ -90,21 +91,29 @@ module _ (k : tie.After-event Inv-loop μ-loop) where
 -- its answer is stored, and its forces are counted
 module _ (c : tie.After-add-held Inv-loop μ-loop) where
   abbrev pub restarted : tie.After-restart Inv-loop μ-loop
-  restarted = c .before .before .before .before .before .before .before
+  restarted = c .before .before .before .before .before .before .before .before .before
 
   abbrev pub restart-of : tie.After-event Inv-loop μ-loop
-  restart-of = c .before .before .before .before .before .before .before .before .before .before .before .before .before
+  restart-of = c .before .before .before .before .before .before .before .before .before .before .before .before .before .before .before
 
   abbrev pub restart-counted : List ℕ
   restart-counted = set (run (read-of restart-of) .forces) (restarting restart-of .site) (c .add-held .result)
 
+  abbrev pub accepted : restarted .restart .result .answer ≡ variants.Accepted (c .before .before .before .last .given .0 .0)
+  accepted = c .before .before .before .last .given .1
+
+  abbrev pub restart-answer : Answer
+  restart-answer = variants.Accepted (c .before .before .before .last .given .0 .0)
+
   pub restart-turned : (next : Run) → next .forces ≡ restart-counted
       → record { answer = answerIn (restarted .restart .result .answer); run = runIn next } ≡ seen (event (w (read-of restart-of)) (x (read-of restart-of)))
-      → Turned (run (read-of restart-of)) (x (read-of restart-of)) (restarted .restart .result .answer) next
-  restart-turned next e =
+      → Turned (run (read-of restart-of)) (x (read-of restart-of)) restart-answer next
+  unfolding answerIn
+  restart-turned next e s =
       let k = restart-of in
-      turned-at (run (read-of k)) next (x (read-of k)) _ _ (restart-parsed k) (restarting k .site) (omega (arith, restart-low k, full (read-of k) .counters)) refl
-      _ _ (e ∙ ap (set (run (read-of k) .forces) (restarting k .site)) (c .add-held .ensures)) (c .before .forces .ensures)
+      turned-at (run (read-of k)) next (x (read-of k)) restart-answer _ (restart-parsed k) (restarting k .site) (omega (arith, restart-low k, full (read-of k) .counters)) refl
+      _ _ (e ∙ ap (set (run (read-of k) .forces) (restarting k .site)) (c .add-held .ensures)) refl
+      (ap (λ (a : Answer). record { answer = answerIn a; run = runIn next }) (sym accepted) ∙ s)
 
 -- an event at one site
 module _ (k : tie.After-event2 Inv-loop μ-loop) where

@@ -1,7 +1,7 @@
 use mathlib.Core.Path.{refl}
 use Rattle.joint.specs.Answers.{runIn, forcesIn, nextIn, answerIn, refusalNumber}
 use Rattle.joint.specs.declared.answers.Answer.the-variants as answer
-use Rattle.joint.proofs.engine.Turns.{turned-same, malformed-seen}
+use Rattle.joint.proofs.engine.Turns.{turned-refused, malformed-seen}
 use Rattle.joint.proofs.engine.Replays.{parse-short, one-event}
 use borrow.Author.Needs.{needs}
 use Rattle.joint.proofs.run.Run.event.Statement.{statement}
@@ -12,7 +12,7 @@ unfolding nextIn answerIn refusalNumber
 returns c =
     λ room.
     let a = c .before .before .args in
-    turned-same (a .self) (a .event .now) answer.Malformed refl (malformed-seen (runIn (a .self)) (a .event .now) (parse-short (a .event .now) (c .if1 .taken)))
+    turned-refused (a .self) (a .event .now) answer.Malformed 0 refl (malformed-seen (runIn (a .self)) (a .event .now) (parse-short (a .event .now) (c .if1 .taken)))
 
 returns-2 : tie.Need-returns-2
 unfolding nextIn
