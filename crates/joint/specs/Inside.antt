@@ -26,7 +26,7 @@ use Rattle.joint.specs.Run.{isSend, count, eventParsed, answerOf}
 use Rattle.joint.specs.Drill.{chunks}
 use Rattle.joint.specs.laws.Events.{bytesOf}
 use Rattle.joint.specs.Safety.{history}
-use Rattle.joint.specs.Answers.{siteFrom, partIn, transactionsIn, refusalNumber, answerIn, runIn, forcesIn, Seen, seen}
+use Rattle.joint.specs.Answers.{siteFrom, partIn, transactionsIn, answerIn, runIn, forcesIn, Seen, seen}
 use Rattle.joint.specs.Program.{hasRoom, Adds}
 use Rattle.joint.specs.declared.answers.Answer.{Answer}
 use Rattle.joint.specs.declared.answers.Answer.the-variants as answer
@@ -245,9 +245,9 @@ InRange (events.Restart e) = e .site ≤ 8
 
 -- ---- changes
 
--- a refusal. An acceptance in its place would be 10, which no event answers
+-- a refusal. An acceptance in its place would be refused with a record counted, which no event is
 abbrev pub refusal : Answer → run.Answer
-refusal (answer.Accepted c) = refusalNumber 10
+refusal (answer.Accepted c) = record { number = 1; records = 1; forces = 0; sends = 0 }
 refusal answer.Malformed = answerIn answer.Malformed
 refusal answer.OpenedBefore = answerIn answer.OpenedBefore
 refusal answer.NeverOpened = answerIn answer.NeverOpened

@@ -119,7 +119,7 @@ module _ (s t : ℕ) where
   case-with : (r : Run) (e : List ℕ) {z : Result} → EventCase r e z → (b : Bool) → opens e ≡ b → Became r e z b
   unfolding refuse carry cutShort partly every
   case-with r e (refused n) b o = rw (ne-eqb (suc n) 0 (λ q. absurd (omega (arith, q))), and-false, and-false) (sym (or-false (isWith r)))
-  case-with r e (whole a c) true o = rw and-true (set r e a o)
+  case-with r e (whole a c) true o = rw (and-true (names (getD e 2 0) s)) (set r e a o)
   case-with r e (whole a c) false o = kept r e a o ∙ sym (or-false (isWith r))
   case-with r e (cut {x} n k a c h) true o = absurd (never-cut 0 (unfold any in refl) refl e x (a .parsed) n k c (opens-code e o))
   case-with r e (cut {p = q} n k a c h) false o =

@@ -1,15 +1,16 @@
 -- One turn of the loop over events: an event more is read, decided, and stored in the run's arrays.
 use Prim.Native.Nat.{ℕ, zero, suc, _+_, _*_, _≤_, _<_}
-use mathlib.Core.Path.{_≡_, refl, sym, ap, subst, _∙_}
+use mathlib.Core.Path.{_≡_, refl, sym, ap, _∙_}
 use mathlib.Core.Bool.{Bool, true, false, cond, not, _||_}
 use mathlib.Core.List.{List, [], _∷_}
+use mathlib.Core.Logic.{⊎-elim}
 use mathlib.Core.Option.{Option, none, some}
 use lib.ListN.{length, take, getD, set, length-take}
 use lib.Seq.{getD-set-same, getD-set-other}
 use lib.Dec.{eqb}
 use native.Mathlib.Omega.{arith}
 use denote.Enum.Declared.{tagOf}
-use types.Run.{OneOf, miss}
+use types.Run.{OneOf}
 use borrow.Author.Tests.{eqb-true, eqb-false, leb-true}
 use Rattle.codec.specs.Lists.{first, select}
 use Rattle.codec.specs.Image.{stored}
@@ -44,14 +45,14 @@ use Rattle.joint.specs.declared.events.Step.the-variants as steps
 use Rattle.joint.specs.declared.restarts.Restarted.{Restarted}
 use Rattle.joint.specs.declared.run.Run.{Run}
 use Rattle.joint.proofs.answers.Answer.{the-type}
-use Rattle.joint.proofs.base.Lists.{Each, select-take, among}
+use Rattle.joint.proofs.base.Lists.{select-take, among}
 use Rattle.joint.proofs.base.History.{refusal-acts}
 use Rattle.joint.proofs.base.Plans.{All, siteOf}
 use Rattle.joint.proofs.base.Forces.{held-sum, none-forced, event-forces}
 use Rattle.joint.proofs.engine.Placed.{run-path, acting-counted}
 use Rattle.joint.proofs.engine.Reads.{siteAt, getD-within, site-read, counts-stored, site-stored}
 use Rattle.joint.proofs.engine.Sites.{log-counted}
-use Rattle.joint.proofs.engine.Refused.{refusedBy, refuse-seen}
+use Rattle.joint.proofs.engine.Refused.{answer-case, refused-number, refusedBy, refuse-seen}
 use Rattle.joint.proofs.engine.Rows.{forgottenIf, row-happens}
 use Rattle.joint.proofs.engine.Replays.{Ahead, ahead-next, eventAt}
 
@@ -260,19 +261,6 @@ step-low (steps.Mark e) h = (h .1, h .0)
 
 -- ---- a restart: one site's counts and all transactions are stored, if it is accepted
 
-pub refused-number : (a : Answer) → OneOf (1 ∷ 2 ∷ 3 ∷ 4 ∷ 5 ∷ 6 ∷ 7 ∷ 8 ∷ 9 ∷ []) (tagOf the-type a) → (n : ℕ) × (answerIn a .number ≡ suc n)
-unfolding answerIn refusalNumber
-refused-number (answer.Accepted c) k = absurd (miss (1 ∷ 2 ∷ 3 ∷ 4 ∷ 5 ∷ 6 ∷ 7 ∷ 8 ∷ 9 ∷ []) 0 tt k)
-refused-number answer.Malformed k = (0, refl)
-refused-number answer.OpenedBefore k = (1, refl)
-refused-number answer.NeverOpened k = (2, refl)
-refused-number answer.NoMember k = (3, refl)
-refused-number answer.SiteDown k = (4, refl)
-refused-number answer.SiteUp k = (5, refl)
-refused-number answer.NeverSent k = (6, refl)
-refused-number answer.NotAllowed k = (7, refl)
-refused-number answer.CutTooFar k = (8, refl)
-
 module _ (r : Run) (f : Full r) (s : ℕ) (low : s ≤ 8) (d : Site) (e : Records) (c : Restarted) (ev : events.Event) (cut : Option (ℕ × ℕ))
     (promise : (x : plain.Run) → siteFrom (getD (r .sites) s d) (getD (r .records) s e .of) ≡ x .site s → transactionsIn (r .transactions) ≡ x .transaction
     → restartedIn s x (getD (r .records) s e .of) c ≡ taken x ev cut) where
@@ -298,67 +286,17 @@ module _ (r : Run) (f : Full r) (s : ℕ) (low : s ≤ 8) (d : Site) (e : Record
 
 -- ---- what is decided of an event at one site, by the kind of event
 
--- no event answers more than 9
-first-low : (l : List (ℕ × Bool)) → Each (λ c. c .0 ≤ 9) l → first l ≤ 9
-unfolding first
-first-low [] h = omega arith
-first-low (c ∷ l) h = go (c .1) (first-low l (h .1))
-  where
-    go : (b : Bool) → first l ≤ 9 → cond b (c .0) (first l) ≤ 9
-    go true k = h .0
-    go false k = k
-
-refusals-low : (w : plain.Run) (e : events.Event) → Each (λ c. c .0 ≤ 9) (refusals w e)
-unfolding refusals
-refusals-low w (events.opening t M C) = (omega arith, (omega arith, tt))
-refusals-low w (events.beginning t) = (omega arith, (omega arith, tt))
-refusals-low w (events.delivery t p m) = (omega arith, (omega arith, (omega arith, (omega arith, tt))))
-refusals-low w (events.timeout t s) = (omega arith, (omega arith, (omega arith, tt)))
-refusals-low w (events.forcing s) = (omega arith, tt)
-refusals-low w (events.discarding t s) = (omega arith, (omega arith, (omega arith, tt)))
-refusals-low w (events.crash s) = (omega arith, tt)
-refusals-low w (events.restart s) = (omega arith, tt)
-refusals-low w (events.marking t p) = (omega arith, (omega arith, (omega arith, tt)))
-
-taken-low : (w : plain.Run) (e : events.Event) (c : Option (ℕ × ℕ)) → taken w e c .answer .number ≤ 9
-unfolding taken eventParsed seen answerOf carryUnless carryPlan carry cutShort refuse
-taken-low w e c = unless (first (refusals w e)) (first-low (refusals w e) (refusals-low w e))
-  where
-    cut-low : (b : Bool) (p : Plan) (a k : ℕ) → cutShort b w p a k .answer ≤ 9
-    cut-low true p a k = omega arith
-    cut-low false p a k = omega arith
-
-    carried : (p : Plan) (c : Option (ℕ × ℕ)) → carry w p c .answer ≤ 9
-    carried p none = omega arith
-    carried p (some c) = cut-low (canCut w p (c .0) (c .1)) p (c .0) (c .1)
-
-    planned : (o : Option Plan) → carryPlan w o c .answer ≤ 9
-    planned none = omega arith
-    planned (some p) = carried p c
-
-    unless : (m : ℕ) → m ≤ 9 → carryUnless m w (record { event = e; cut = c }) .answer ≤ 9
-    unless zero h = planned (plan w e)
-    unless (suc m) h = h
-
--- so what a refused change holds is a refusal
-is-refusal : (a : Answer) → refusal a .number ≤ 9 → (answerIn a ≡ refusal a) × ((n : ℕ) × (answerIn a .number ≡ suc n))
-unfolding answerIn refusalNumber
-is-refusal (answer.Accepted c) h = absurd (omega (arith, h))
-is-refusal answer.Malformed h = (refl, (0, refl))
-is-refusal answer.OpenedBefore h = (refl, (1, refl))
-is-refusal answer.NeverOpened h = (refl, (2, refl))
-is-refusal answer.NoMember h = (refl, (3, refl))
-is-refusal answer.SiteDown h = (refl, (4, refl))
-is-refusal answer.SiteUp h = (refl, (5, refl))
-is-refusal answer.NeverSent h = (refl, (6, refl))
-is-refusal answer.NotAllowed h = (refl, (7, refl))
-is-refusal answer.CutTooFar h = (refl, (8, refl))
-
-pub refused-change : (w : plain.Run) (e : events.Event) (c : Option (ℕ × ℕ)) (a : Answer) → record { answer = refusal a; run = w } ≡ taken w e c
-    → (_≡_ {A = Seen} (record { answer = answerIn a; run = w }) (taken w e c)) × ((n : ℕ) × (answerIn a .number ≡ suc n))
-refused-change w e c a h =
-    let x = is-refusal a (subst (λ (v : Seen). v .answer .number ≤ 9) (sym h) (taken-low w e c)) in
-    ((λ i. record { answer = x .0 i; run = w }) ∙ h, x .1)
+-- a refused change holds a refusal: nothing happens in an event that is refused
+pub refused-change : (w : plain.Run) (x : List ℕ) (a : Answer) → record { answer = refusal a; run = w } ≡ seen (event w x)
+    → (_≡_ {A = Seen} (record { answer = answerIn a; run = w }) (seen (event w x))) × ((n : ℕ) × (answerIn a .number ≡ suc n))
+unfolding seen answerOf count select refusalNumber
+refused-change w x a h =
+    ⊎-elim
+    (λ c.
+    let e = ap (λ (a : Answer). record { answer = refusal a; run = w }) (sym (c .1)) ∙ h in
+    absurd (omega (arith, ap (λ (v : Seen). v .answer .records) e, ap (count isAppend) (refusal-acts w x 0 (sym (ap (λ (v : Seen). v .answer .number) e))))))
+    (λ n. ((λ i. record { answer = sym (n .1 .1) i; run = w }) ∙ h, (n .0, ap (λ (v : answers.Answer). v .number) (n .1 .0))))
+    (answer-case a)
 
 pub decided-as : (w : plain.Run) {e f : Step} {s t : ℕ} {a b : Change} → e ≡ f → s ≡ stepSite e → t ≡ stepTransaction e → a ≡ b
     → changeIn w (stepSite f) (stepTransaction f) b ≡ taken w (stepIn f .event) (stepIn f .cut) → changeIn w s t a ≡ taken w (stepIn e .event) (stepIn e .cut)

@@ -15,7 +15,8 @@ use Rattle.joint.specs.declared.run.Run.{Run}
 use Rattle.joint.proofs.engine.Arrays.{length-shown}
 use Rattle.joint.proofs.engine.Whole.{run-whole}
 use Rattle.joint.proofs.engine.Replays.{ahead-start, ahead-ends}
-use Rattle.joint.proofs.engine.Turns.{Full, turned-refused, malformed-seen, parsed-seen, restart-stored, restart-refused, happens-seen, refused-number, refused-change}
+use Rattle.joint.proofs.engine.Turns.{Full, turned-refused, malformed-seen, parsed-seen, restart-stored, restart-refused, happens-seen, refused-change}
+use Rattle.joint.proofs.engine.Refused.{refused-number}
 use Rattle.joint.proofs.replay.go.Statement.{statement}
 use Rattle.joint.proofs.replay.go.Tie as tie
 use Rattle.joint.proofs.replay.go.Proof.Read.{Inv-loop, μ-loop, sub-rest, ended, top, run, w, x, full, room, next, restarting, read-of, restart-low, restart-parsed, restarted, restart-of, restart-counted, accepted, restart-answer, restart-turned, step-read, in-range, step-parsed, site-low, transaction-low}
@@ -143,8 +144,8 @@ loop-again-4 c =
     let a = given .0 .0 in
     next r a (run r) _ (full r)
     (λ h.
-    let q = refused-change (w r) _ _ a (sym (ap (changeIn (w r) (number d) (transaction d)) (given .1)) ∙ decided d h) in
-    turned-refused (run r) (x r) a (q .1 .0) (q .1 .1) (q .0 ∙ parsed-seen (w r) (x r) _ (step-parsed (found d))))
+    let q = refused-change (w r) (x r) a (sym (ap (changeIn (w r) (number d) (transaction d)) (given .1)) ∙ decided d h ∙ parsed-seen (w r) (x r) _ (step-parsed (found d))) in
+    turned-refused (run r) (x r) a (q .1 .0) (q .1 .1) (q .0))
     (c .before .before .store3 .ensures)
 
 store-requires-4 : tie.Need-store-requires-4 Inv-loop μ-loop
