@@ -2,7 +2,7 @@
 use Prim.Native.Nat.{ℕ, zero, suc, _+_, _*_, _/_, _%_, _≤_, _<_}
 use mathlib.Core.Path.{_≡_, refl, sym, ap, ap₂, subst, _∙_, fun-ext}
 use mathlib.Core.Bool.{Bool, true, false, cond}
-use mathlib.Core.List.{List, [], _∷_, _++_, map, map-append}
+use mathlib.Core.List.{List, [], _∷_, _++_, map, map-append, append-assoc}
 use mathlib.Core.Option.{Option, none, some}
 use native.Mathlib.Nat.{mod-add-div', mod-lt, mul-one}
 use native.Mathlib.Omega.{arith}
@@ -17,12 +17,11 @@ use Rattle.joint.specs.State.{Run, fresh}
 use Rattle.joint.specs.Event.{eventOf, ranges, bytesInRange, Parsed, parse}
 use Rattle.joint.specs.Run.{Answer, refuse, eventParsed, event, after, answers, answerOf, count}
 use Rattle.joint.specs.Safety.{Moment, happened, history}
-use Rattle.joint.specs.Totals.{forcesAt, totalsOf, totals, sum, EveryTotal}
+use Rattle.joint.specs.Totals.{highest, held, forcesAt, totalsOf, totals, sum, EveryTotal}
 use Rattle.joint.proofs.base.Ranges.{only-some}
-use Rattle.joint.proofs.base.History.{by-events, history-snoc}
+use Rattle.joint.proofs.base.History.{by-events, answers-snoc, history-snoc}
 use Rattle.joint.proofs.base.Plans.{siteOf}
 use Rattle.joint.proofs.base.Forces.{forces-append, none-forced, event-forces}
-use Rattle.joint.proofs.engine.Replays.{answers-snoc}
 
 -- ---- the division
 
@@ -35,6 +34,28 @@ below : (f n : ℕ) → let x = totalsOf f n in (x .handovers ≡ 0 → ⊥) →
 unfolding totalsOf
 below f zero h = absurd (h refl)
 below f (suc n) h = mod-lt f (omega arith)
+
+-- ---- a total at its highest value
+
+forces-of : (f n : ℕ) → totalsOf f n .forces ≡ f
+unfolding totalsOf
+forces-of f zero = refl
+forces-of f (suc n) = refl
+
+history-append : (r : Run) (es later : List (List ℕ)) → history r (es ++ later) ≡ history r es ++ history (after r es) later
+unfolding history after
+history-append r [] later = refl
+history-append r (e ∷ es) later = rw (history-append (event r e .run) es later, append-assoc)
+
+stays : (es later : List (List ℕ)) (s : ℕ) → totals es s .forces ≡ highest → totals (es ++ later) s .forces ≡ highest
+unfolding totals held highest
+stays es later s h =
+    forces-of _ _
+    ∙ omega (
+      arith,
+      sym (forces-of _ _) ∙ h,
+      ap (forcesAt s) (history-append fresh es later) ∙ forces-append s (history fresh es) (history (after fresh es) later),
+    )
 
 -- ---- sums
 
@@ -138,4 +159,4 @@ counted =
 
 pub every-total : EveryTotal
 unfolding totals
-every-total es = record { divided = λ s. divided _ _; below = λ s. below _ _; counted = counted es }
+every-total es = record { divided = λ s. divided _ _; below = λ s. below _ _; stays = stays es; counted = counted es }

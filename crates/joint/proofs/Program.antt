@@ -8,18 +8,18 @@ use Rattle.joint.specs.State as plain
 use Rattle.joint.specs.State.{fresh}
 use Rattle.joint.specs.Run as run
 use Rattle.joint.specs.Safety.{happened, history}
-use Rattle.joint.specs.Totals.{held, forcesAt}
+use Rattle.joint.specs.Totals.{highest, held, forcesAt}
 use Rattle.joint.specs.Answers.{runIn, forcesIn, answerIn, Seen, seen, nextIn}
 use Rattle.joint.specs.Program.{Takes, Adds, Execution, begun, goes, Demand3OfProgram}
 use Rattle.joint.specs.declared.answers.Answer.{Answer}
 use Rattle.joint.specs.declared.run.Run.{Run}
 use Rattle.joint.specs.declared.run.Next.{Next}
-use Rattle.joint.proofs.base.History.{after-snoc, history-snoc}
+use Rattle.joint.proofs.base.History.{after-snoc, answers-snoc, history-snoc}
 use Rattle.joint.proofs.base.Forces.{held-sum, forces-append}
 use Rattle.joint.proofs.base.Recorded.{entries-happened, messages-happened}
 use Rattle.joint.proofs.Demand3.{demand3}
 use Rattle.joint.proofs.Reachable.{images-read}
-use Rattle.joint.proofs.engine.Replays.{answers-snoc, totals-of}
+use Rattle.joint.proofs.engine.Replays.{totals-of}
 use Rattle.joint.proofs.engine.Rooms.{has-room}
 
 -- in a run that events reach the logs have room, and so the promise of `Run::event` has no condition left
@@ -44,7 +44,7 @@ same-answers (goes {es} {given} {r} x bytes next h) =
 
 -- what it counts are the forces of the history
 same-forces : {es : List (List ℕ)} {given : List Answer} {r : Run} → Execution es given r → (s : ℕ) → forcesIn r s ≡ held (forcesAt s (history fresh es))
-unfolding history held forcesAt select
+unfolding history held highest forcesAt select
 same-forces (begun b) s = b .1 s
 same-forces (goes {es} {given} {r} x bytes next h) s =
     takes-always es r bytes next (same-run x) h .1 s

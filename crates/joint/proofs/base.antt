@@ -10,4 +10,3 @@ pub mod EventMoments
 pub mod Recorded
 pub mod Looked
 pub mod Forces
-pub mod Openings

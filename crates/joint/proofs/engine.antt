@@ -19,6 +19,7 @@ pub mod Restarts
 pub mod Resuming
 pub mod Restarted
 pub mod Whole
+pub mod Openings
 pub mod Replays
 pub mod Turns
 pub mod Rooms

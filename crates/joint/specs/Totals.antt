@@ -2,7 +2,7 @@
 use Prim.Native.Nat.{ℕ, zero, suc, _+_, _*_, _/_, _%_, _<_, min}
 use mathlib.Core.Path.{_≡_}
 use mathlib.Core.Bool.{Bool}
-use mathlib.Core.List.{List, [], _∷_, map}
+use mathlib.Core.List.{List, [], _∷_, _++_, map}
 use lib.ListN.{length, take, getD}
 use lib.Dec.{eqb}
 use Rattle.codec.specs.Lists.{select, every, same}
@@ -11,9 +11,13 @@ use Rattle.joint.specs.State.{Run, fresh, names}
 use Rattle.joint.specs.Run.{isForce, answers}
 use Rattle.joint.specs.Safety.{Moment, history, steps, accepts}
 
+-- 2 ^ 64 - 1
+unfoldable pub highest : ℕ
+highest = 18446744073709551615
+
 -- a total is 64 bits wide and stays at its highest value once there
 unfoldable pub held : ℕ → ℕ
-held n = min n 18446744073709551615
+held n = min n highest
 
 -- a force at site s
 unfoldable pub isForceAt : ℕ → Moment → Bool
@@ -58,6 +62,8 @@ pub record ToTheLast (es : List (List ℕ)) : Type 0 where
   pub divided : (s : ℕ) → let x = totals es s in x .forces ≡ x .quotient * x .handovers + x .remainder
   -- the remainder is below the handovers, unless there are none
   pub below : (s : ℕ) → let x = totals es s in (x .handovers ≡ 0 → ⊥) → x .remainder < x .handovers
+  -- forces at their highest value stay there, whatever events follow
+  pub stays : (later : List (List ℕ)) (s : ℕ) → totals es s .forces ≡ highest → totals (es ++ later) s .forces ≡ highest
   -- the forces that the answers count are those of the sites 0 to 8
   pub counted : sum (map (λ a. a .forces) (answers fresh es)) ≡ sum (map (λ s. forcesAt s (history fresh es)) (0 ∷ participants))
 

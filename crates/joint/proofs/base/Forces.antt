@@ -13,14 +13,14 @@ use Rattle.joint.specs.Event.{Parsed, parse}
 use Rattle.joint.specs.Plan.{Plan, plan}
 use Rattle.joint.specs.Run.{Result, refuse, carry, cutShort, event, isForce, count, answerOf}
 use Rattle.joint.specs.Safety.{Moment, moments, happened}
-use Rattle.joint.specs.Totals.{held, isForceAt, forcesAt}
+use Rattle.joint.specs.Totals.{highest, held, isForceAt, forcesAt}
 use Rattle.joint.proofs.base.Lists.{select-append}
 use Rattle.joint.proofs.base.History.{Accepted, EventCase, refused, whole, cut, event-case}
 use Rattle.joint.proofs.base.Plans.{All, siteOf, plan-site}
 
 -- held after each addition, or once for all
 pub held-sum : (a b : ℕ) → held (held a + b) ≡ held (a + b)
-unfolding held
+unfolding held highest
 held-sum a b = omega arith
 
 pub forces-append : (s : ℕ) (h k : List Moment) → forcesAt s (h ++ k) ≡ forcesAt s h + forcesAt s k

@@ -10,7 +10,7 @@ use Rattle.joint.specs.State.{Run, fresh}
 use Rattle.joint.specs.Event.{Parsed, parse}
 use Rattle.joint.specs.Refusals.{refusals}
 use Rattle.joint.specs.Plan.{Plan, plan}
-use Rattle.joint.specs.Run.{Result, refuse, canCut, cutShort, carry, carryPlan, carryUnless, eventParsed, event, after}
+use Rattle.joint.specs.Run.{Result, refuse, canCut, cutShort, carry, carryPlan, carryUnless, eventParsed, event, after, Answer, answerOf, answers}
 use Rattle.joint.specs.Safety.{happened, history, leaves, along, commitStable}
 use Rattle.joint.proofs.base.Lists.{any-append}
 
@@ -88,6 +88,11 @@ pub after-snoc : (r : Run) (es : List (List ℕ)) (e : List ℕ) → after r (es
 unfolding after
 after-snoc r [] e = refl
 after-snoc r (x ∷ es) e = after-snoc (event r x .run) es e
+
+pub answers-snoc : (r : Run) (es : List (List ℕ)) (e : List ℕ) → answers r (es ++ (e ∷ [])) ≡ answers r es ++ (answerOf (event (after r es) e) ∷ [])
+unfolding after answers
+answers-snoc r [] e = refl
+answers-snoc r (x ∷ es) e = ap (λ (l : List Answer). answerOf (event r x) ∷ l) (answers-snoc (event r x .run) es e)
 
 pub history-snoc : (r : Run) (es : List (List ℕ)) (e : List ℕ) → history r (es ++ (e ∷ [])) ≡ history r es ++ happened (after r es) e
 unfolding after history

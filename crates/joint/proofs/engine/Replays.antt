@@ -27,9 +27,9 @@ use Rattle.joint.specs.Inside.{roomAlong, Goes}
 use Rattle.joint.specs.declared.answers.Answer as prog
 use Rattle.joint.specs.declared.run.Run as program
 use Rattle.joint.specs.declared.replay.Ran.{Ran}
-use Rattle.joint.proofs.base.History.{after-snoc, history-snoc}
+use Rattle.joint.proofs.base.History.{after-snoc, answers-snoc, history-snoc}
 use Rattle.joint.proofs.base.Forces.{held-sum, forces-append}
-use Rattle.joint.proofs.base.Openings.{handovers-few, openings-counted}
+use Rattle.joint.proofs.engine.Openings.{handovers-few, openings-counted}
 
 -- an answer, byte by byte
 pub answer-stored : (buffer : List ℕ) (at : ℕ) (x : Answer) {a b c d : ℕ} → at + 4 ≤ length buffer
@@ -63,11 +63,6 @@ event-at n bytes end h e =
 
 -- ---- answers
 
-pub answers-snoc : (r : Run) (es : List (List ℕ)) (e : List ℕ) → answers r (es ++ (e ∷ [])) ≡ answers r es ++ (answerOf (event (after r es) e) ∷ [])
-unfolding after answers
-answers-snoc r [] e = refl
-answers-snoc r (x ∷ es) e = ap (λ (l : List Answer). answerOf (event r x) ∷ l) (answers-snoc (event r x .run) es e)
-
 bytes-snoc : (r : Run) (es : List (List ℕ)) (e : List ℕ) → bytesOf (answers r (es ++ (e ∷ []))) ≡ bytesOf (answers r es) ++ answerBytes (answerOf (event (after r es) e))
 unfolding flatten
 bytes-snoc r es e = rw (answers-snoc, bytes-append, append-nil)
@@ -95,7 +90,7 @@ pub record Ahead (r : Run) (before : ℕ → ℕ) (bytes start : List ℕ) (even
 
 -- none is counted where nothing happens
 adds-none : (f : ℕ → ℕ) → ((s : ℕ) → totals.held (f s) ≡ f s) → Adds f [] f
-unfolding totals.held forcesAt select
+unfolding totals.held totals.highest forcesAt select
 adds-none f h s = omega (arith, h s)
 
 -- what happened and what happens next
@@ -179,7 +174,7 @@ totals-of es r e f s =
     ap₂ totalsOf (f s) (ap (λ (w : Run). handoversIn w s) e ∙ sym (few (handovers-few (after fresh es) s)) ∙ ap totals.held (openings-counted es s))
   where
     few : {n : ℕ} → n ≤ 8 → totals.held n ≡ n
-    few {n} h = unfold totals.held in omega (arith, h)
+    few {n} h = unfold totals.held totals.highest in omega (arith, h)
 
 -- from a fresh run, in which none is counted
 pub totals-from : (es : List (List ℕ)) (r b : program.Run) → runIn r ≡ after fresh es → ((s : ℕ) → forcesIn b s ≡ 0) → Adds (forcesIn b) (history fresh es) (forcesIn r) → totalsIn r ≡ totals.totals es
@@ -191,7 +186,7 @@ replay-none bytes buffer x h n e =
     rw (lt-leb (length (bytesOf (answers fresh (eventsOf bytes)))) (length buffer) (omega (arith, h, length-events bytes)), n, totals-from [] (x .run) (x .run) (e .0) (e .1) (λ s. adds-fresh s), e .0)
   where
     adds-fresh : (s : ℕ) → forcesIn (x .run) s ≡ totals.held (forcesIn (x .run) s + forcesAt s (history fresh []))
-    adds-fresh s = unfold history totals.held forcesAt select in omega (arith, e .1 s)
+    adds-fresh s = unfold history totals.held totals.highest forcesAt select in omega (arith, e .1 s)
 
 pub replay-all : (bytes start now : List ℕ) (b : program.Run) (x : Ran) → 4 * eventsFor bytes ≤ length start → roomAlong fresh (eventsOf bytes) ≡ true
     → Begins b → Goes (runIn b) (forcesIn b) (eventsFor bytes) bytes start now x

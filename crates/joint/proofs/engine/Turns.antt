@@ -104,7 +104,7 @@ turned-refused run x n k h e =
     (e, λ s. sym (ap (λ (k : ℕ). totals.held (forcesIn run s + k)) (none-forced (runIn run) x s unforced) ∙ held-none (getD (run .forces) s 0)))
   where
     held-none : (n : ℕ) → totals.held (totals.held n + 0) ≡ totals.held n
-    held-none n = unfold totals.held in omega arith
+    held-none n = unfold totals.held totals.highest in omega arith
 
 -- those in the answer are counted at the event's site
 pub turned-at : (run next : Run) (x : List ℕ) (n : Answer) (p : Parsed) → parse x ≡ some p → (z : ℕ) → z < length (run .forces) → z ≡ siteOf (p .event)
@@ -122,8 +122,8 @@ turned-at run next x n p parsed z low own d m counted forces e = (e, adds)
         go : (b : Bool) → eqb z s ≡ b → totals.held (getD (next .forces) s 0) ≡ totals.held (totals.held (getD (run .forces) s 0) + forcesAt s (happened (runIn run) x))
         go true q =
             rw (there, q, counted, ← eqb-true z s q, getD-set-same (run .forces) z _ 0 low, getD-within (run .forces) z 0 d low, held-sum)
-            (unfold totals.held in omega arith)
-        go false q = rw (there, q, counted, getD-set-other (run .forces) z s _ 0 (λ h. eqb-false z s q (sym h)), held-sum) (unfold totals.held in omega arith)
+            (unfold totals.held totals.highest in omega arith)
+        go false q = rw (there, q, counted, getD-set-other (run .forces) z s _ 0 (λ h. eqb-false z s q (sym h)), held-sum) (unfold totals.held totals.highest in omega arith)
 
 -- ---- an event read
 

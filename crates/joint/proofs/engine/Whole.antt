@@ -17,7 +17,7 @@ use denote.Struct.Struct.{Struct}
 use denote.Struct.Declared.{row, shape}
 use Rattle.codec.specs.Answers.{recordIn}
 use Rattle.joint.specs.State as plain
-use Rattle.joint.specs.Totals.{held}
+use Rattle.joint.specs.Totals.{highest, held}
 use Rattle.joint.specs.Answers.{runIn}
 use Rattle.joint.specs.Inside.{stableOf}
 use Rattle.joint.specs.declared.sites.Site.{Site}
@@ -51,7 +51,7 @@ run-whole r vs p i d h =
     (subst (λ x. shadow (R .own x (one .0 ∷ []))) (List·getD-map to (r .records) i d) (one .1))
 
 pub run-held : (r : Run) (vs : List Val) → Is (row run.the-type) r vs → (s : ℕ) → getD (r .forces) s 0 ≡ held (getD (r .forces) s 0)
-unfolding held
+unfolding held highest
 run-held r vs p s = go (ltb s (length (r .forces))) refl
   where
     go : (b : Bool) → ltb s (length (r .forces)) ≡ b → getD (r .forces) s 0 ≡ held (getD (r .forces) s 0)

@@ -33,7 +33,7 @@ whole-run s =
     }
 
 wide : (r : Run) (s : ℕ) → totals.held (forcesIn r s) ≡ forcesIn r s
-unfolding forcesIn totals.held
+unfolding forcesIn totals.held totals.highest
 wide r s = omega arith
 
 loop-holds : tie.Need-loop-holds Inv-loop μ-loop

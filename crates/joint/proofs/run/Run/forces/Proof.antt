@@ -2,7 +2,7 @@ use mathlib.Core.Path.{_≡_, refl, sym, ap, _∙_}
 use lib.ListN.{length}
 use native.Mathlib.Omega.{arith}
 use borrow.Author.Needs.{needs}
-use Rattle.joint.specs.Totals.{held}
+use Rattle.joint.specs.Totals.{highest, held}
 use Rattle.joint.specs.Answers.{forcesIn}
 use Rattle.joint.proofs.engine.Arrays.{length-shown, getD-past}
 use Rattle.joint.proofs.engine.Reads.{getD-within}
@@ -17,7 +17,7 @@ returns : tie.Need-returns
 unfolding forcesIn
 returns c =
     let a = c .before .args in
-    sym (ap held (getD-past (a .t1 .forces) (a .site) 0 (omega (arith, counters (c .before), c .if1 .taken))) ∙ unfold held in refl)
+    sym (ap held (getD-past (a .t1 .forces) (a .site) 0 (omega (arith, counters (c .before), c .if1 .taken))) ∙ unfold held highest in refl)
 
 returns-2 : tie.Need-returns-2
 unfolding forcesIn

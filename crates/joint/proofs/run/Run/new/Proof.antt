@@ -9,7 +9,7 @@ use Rattle.codec.specs.laws.Members.{high-bits, none-in}
 use Rattle.site.specs.Presumption.{Outcome, commit, abort}
 use Rattle.site.specs.Answers.{participantIn, hasKind}
 use Rattle.joint.specs.State.{unknownPart, fresh}
-use Rattle.joint.specs.Totals.{held}
+use Rattle.joint.specs.Totals.{highest, held}
 use Rattle.joint.specs.Answers.{siteFrom, noSite, noRecords, enteredIn, noHeld, transactionIn, noTransaction, runIn, forcesIn}
 use Rattle.joint.specs.declared.sites.Site.{Site}
 use Rattle.joint.specs.declared.records.Records.{Records}
@@ -50,7 +50,7 @@ run-fresh =
 
 returns : tie.Need-returns
 unfolding forcesIn
-returns c = (rw (c .before .new .ensures, c .new2 .ensures) run-fresh, λ s. ap held (all-default 9 s 0) ∙ unfold held in refl)
+returns c = (rw (c .before .new .ensures, c .new2 .ensures) run-fresh, λ s. ap held (all-default 9 s 0) ∙ unfold held highest in refl)
 
 pub new-spec : {M : Type 1} → statement M
 new-spec = tie.close (tie.spec (λ c κs. search needs) (λ c κs. search needs) returns)
