@@ -248,10 +248,10 @@ uint64_t dpr_site_step(uint8_t site, uint8_t kind, uint8_t handover, uint8_t box
  * entered), A (abort), X (both) or - (none). No such line has an X, and none has both a C and an A: that is proved for all
  * bytes. Last, each of the sites 0 to 8 has a line of four numbers: the forces that happened there so far, in cut events
  * up to their cut; how many handovers were opened with it (site 0: all); the first divided by the second; and what is
- * left over. So the first is the second times the third plus the fourth, and the fourth is below the second; a site
- * without handovers has 0 and then its forces. The numbers are decimal, with one space between. Forces and handovers are
- * counted in 64 bits, and a count stays at its highest value once there. Every line ends with a newline, and no zero byte
- * follows the text.
+ * left over. So the first is the second times the third plus the fourth, and the fourth is below the second; at a site
+ * with which no handover was opened the third is 0, and all forces are left over. The numbers are decimal, with one space
+ * between. Forces and handovers are counted in 64 bits, and a count stays at its highest value once there. Every line ends
+ * with a newline, and no zero byte follows the text.
  *
  * Returns the length of the text, which has been written; the bytes of the buffer behind it are as they were.
  * Returns 0 where `text_len` is under that length, and then nothing has been written. Without events the text is the nine
