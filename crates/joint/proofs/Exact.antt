@@ -2,24 +2,26 @@
 use Prim.Native.Nat.{ℕ, zero, suc, _+_, _*_, _/_, _%_, _≤_, _<_}
 use mathlib.Core.Path.{_≡_, refl, sym, ap, ap₂, subst, _∙_, fun-ext}
 use mathlib.Core.Bool.{Bool, true, false, cond}
-use mathlib.Core.List.{List, [], _∷_, _++_, map, map-append, append-assoc}
+use mathlib.Core.List.{List, [], _∷_, _++_, map, map-append}
 use mathlib.Core.Option.{Option, none, some}
 use native.Mathlib.Nat.{mod-add-div', mod-lt, mul-one}
 use native.Mathlib.Omega.{arith}
 use lib.ListN.{length, getD}
 use lib.Dec.{eqb}
-use borrow.Author.Tests.{eqb-true, leb-true}
+use borrow.Author.Tests.{leb-true}
 use Rattle.codec.specs.Lists.{select}
 use Rattle.codec.specs.Sets.{participants}
-use Rattle.codec.specs.laws.Tests.{true-of, every-at, below-at}
+use Rattle.codec.specs.laws.Tests.{every-at}
 use Rattle.site.specs.Step.{Message, prepare, voteYes, voteNo, readOnly, tell, ack, receiver, coordinatorOf, messages}
 use Rattle.joint.specs.State.{Run, fresh}
 use Rattle.joint.specs.Event.{eventOf, ranges, bytesInRange, Parsed, parse}
 use Rattle.joint.specs.Run.{Answer, refuse, eventParsed, event, after, answers, answerOf, count}
 use Rattle.joint.specs.Safety.{Moment, happened, history}
 use Rattle.joint.specs.Totals.{highest, held, forcesAt, totalsOf, totals, sum, EveryTotal}
+use Rattle.joint.specs.laws.Numbered.{once}
+use Rattle.joint.proofs.base.Booleans.{eqb-sym}
 use Rattle.joint.proofs.base.Ranges.{only-some}
-use Rattle.joint.proofs.base.History.{by-events, answers-snoc, history-snoc}
+use Rattle.joint.proofs.base.History.{by-events, answers-snoc, history-append, history-snoc}
 use Rattle.joint.proofs.base.Plans.{siteOf}
 use Rattle.joint.proofs.base.Forces.{forces-append, none-forced, event-forces}
 
@@ -41,11 +43,6 @@ forces-of : (f n : ℕ) → totalsOf f n .forces ≡ f
 unfolding totalsOf
 forces-of f zero = refl
 forces-of f (suc n) = refl
-
-history-append : (r : Run) (es later : List (List ℕ)) → history r (es ++ later) ≡ history r es ++ history (after r es) later
-unfolding history after
-history-append r [] later = refl
-history-append r (e ∷ es) later = rw (history-append (event r e .run) es later, append-assoc)
 
 stays : (es later : List (List ℕ)) (s : ℕ) → totals es s .forces ≡ highest → totals (es ++ later) s .forces ≡ highest
 unfolding totals held highest
@@ -74,19 +71,15 @@ sum-both f g [] = refl
 sum-both f g (s ∷ l) = omega (arith, sum-both f g l)
 
 -- n at z, and 0 elsewhere
-sum-at : (z n : ℕ) (l : List ℕ) → sum (map (λ s. cond (eqb z s) n 0) l) ≡ n * length (select (eqb z) l)
+sum-at : (z n : ℕ) (l : List ℕ) → sum (map (λ s. cond (eqb s z) n 0) l) ≡ n * length (select (λ s. eqb s z) l)
 unfolding sum select
 sum-at z n [] = omega arith
-sum-at z n (s ∷ l) = go (sum-at z n l) (eqb z s)
+sum-at z n (s ∷ l) = go (sum-at z n l) (eqb s z)
   where
-    go : sum (map (λ s. cond (eqb z s) n 0) l) ≡ n * length (select (eqb z) l) → (b : Bool)
-        → cond b n 0 + sum (map (λ s. cond (eqb z s) n 0) l) ≡ n * length (cond b (s ∷ select (eqb z) l) (select (eqb z) l))
+    go : sum (map (λ s. cond (eqb s z) n 0) l) ≡ n * length (select (λ s. eqb s z) l) → (b : Bool)
+        → cond b n 0 + sum (map (λ s. cond (eqb s z) n 0) l) ≡ n * length (cond b (s ∷ select (λ s. eqb s z) l) (select (λ s. eqb s z) l))
     go h true = rw h (omega arith)
     go h false = rw h (omega arith)
-
-sites-once : (z : ℕ) → z ≤ 8 → length (select (eqb z) (0 ∷ participants)) ≡ 1
-unfolding participants select
-sites-once z h = eqb-true _ 1 (true-of _ (below-at 9 (λ z. eqb (length (select (eqb z) (0 ∷ participants))) 1) tt z (omega (arith, h))))
 
 -- ---- an event happens at one of the sites 0 to 8
 
@@ -133,9 +126,9 @@ event-sum r e = go (parse e) refl
         ap (λ (f : ℕ → ℕ). sum (map f (0 ∷ participants))) (fun-ext (λ s. none-forced r e s unforced)) ∙ sym unforced
     go (some p) h =
         let n = answerOf (event r e) .forces in
-        ap (λ (f : ℕ → ℕ). sum (map f (0 ∷ participants))) (fun-ext (λ s. event-forces r e p h s))
+        ap (λ (f : ℕ → ℕ). sum (map f (0 ∷ participants))) (fun-ext (λ s. event-forces r e p h s ∙ ap (λ (b : Bool). cond b n 0) (eqb-sym (siteOf (p .event)) s)))
         ∙ sum-at (siteOf (p .event)) n (0 ∷ participants)
-        ∙ ap (n *_) (sites-once (siteOf (p .event)) (event-low e p h))
+        ∙ ap (n *_) (once (0 ∷ participants) tt (siteOf (p .event)) (omega (arith, event-low e p h)))
         ∙ mul-one n
 
 counted : (es : List (List ℕ)) → sum (map (λ a. a .forces) (answers fresh es)) ≡ sitesOf (history fresh es)

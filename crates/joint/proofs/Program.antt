@@ -1,5 +1,5 @@
 -- Demand 3 of the program: by its promises every execution is the plain run's, which is safe.
-use Prim.Native.Nat.{ℕ, _+_, _≤_}
+use Prim.Native.Nat.{ℕ, _≤_}
 use mathlib.Core.Path.{_≡_, refl, sym, ap, subst, _∙_}
 use mathlib.Core.List.{List, map, map-append}
 use Rattle.codec.specs.Lists.{select}
@@ -7,7 +7,7 @@ use Rattle.codec.specs.Image.{accepted, readImage}
 use Rattle.joint.specs.State as plain
 use Rattle.joint.specs.State.{fresh}
 use Rattle.joint.specs.Run as run
-use Rattle.joint.specs.Safety.{happened, history}
+use Rattle.joint.specs.Safety.{Moment, happened, history}
 use Rattle.joint.specs.Totals.{highest, held, forcesAt}
 use Rattle.joint.specs.Answers.{runIn, forcesIn, answerIn, Seen, seen, nextIn}
 use Rattle.joint.specs.Program.{Takes, Adds, Execution, begun, goes, Demand3OfProgram}
@@ -15,11 +15,10 @@ use Rattle.joint.specs.declared.answers.Answer.{Answer}
 use Rattle.joint.specs.declared.run.Run.{Run}
 use Rattle.joint.specs.declared.run.Next.{Next}
 use Rattle.joint.proofs.base.History.{after-snoc, answers-snoc, history-snoc}
-use Rattle.joint.proofs.base.Forces.{held-sum, forces-append}
 use Rattle.joint.proofs.base.Recorded.{entries-happened, messages-happened}
 use Rattle.joint.proofs.Demand3.{demand3}
 use Rattle.joint.proofs.Reachable.{images-read}
-use Rattle.joint.proofs.engine.Replays.{totals-of}
+use Rattle.joint.proofs.engine.Replays.{adds-more, totals-from}
 use Rattle.joint.proofs.engine.Rooms.{has-room}
 
 -- in a run that events reach the logs have room, and so the promise of `Run::event` has no condition left
@@ -43,14 +42,12 @@ same-answers (goes {es} {given} {r} x bytes next h) =
     rw (map-append, same-answers x, one, answers-snoc)
 
 -- what it counts are the forces of the history
-same-forces : {es : List (List ℕ)} {given : List Answer} {r : Run} → Execution es given r → (s : ℕ) → forcesIn r s ≡ held (forcesAt s (history fresh es))
+same-forces : {es : List (List ℕ)} {given : List Answer} {r : Run} → Execution es given r → Adds (λ _. 0) (history fresh es) (forcesIn r)
 unfolding history held highest forcesAt select
-same-forces (begun b) s = b .1 s
-same-forces (goes {es} {given} {r} x bytes next h) s =
-    takes-always es r bytes next (same-run x) h .1 s
-    ∙ ap (λ (n : ℕ). held (n + forcesAt s (happened (run.after fresh es) bytes))) (same-forces x s)
-    ∙ held-sum (forcesAt s (history fresh es)) (forcesAt s (happened (run.after fresh es) bytes))
-    ∙ ap held (sym (forces-append s (history fresh es) (happened (run.after fresh es) bytes)) ∙ ap (forcesAt s) (sym (history-snoc fresh es bytes)))
+same-forces (begun b) = b .1
+same-forces (goes {es} {given} {r} x bytes next h) =
+    subst (λ (m : List Moment). Adds (λ _. 0) m (forcesIn (next .run))) (sym (history-snoc fresh es bytes))
+    (adds-more (λ _. 0) (forcesIn r) (forcesIn (next .run)) (history fresh es) (happened (run.after fresh es) bytes) (same-forces x) (takes-always es r bytes next (same-run x) h .1))
 
 pub program : Demand3OfProgram
 program es given r x =
@@ -60,7 +57,7 @@ program es given r x =
       run = stands;
       entries = λ t s o. ap (λ (p : plain.Run). p .transaction t .entered s o) stands ∙ entries-happened es t s o;
       messages = λ t p k. ap (λ (y : plain.Run). y .transaction t .sent p k) stands ∙ messages-happened es t p k;
-      totals = totals-of es r stands (same-forces x);
+      totals = totals-from es r (λ _. 0) (λ s. refl) stands (same-forces x);
       safe = demand3 es;
     }
 

@@ -1,6 +1,6 @@
 -- One event: refused, carried out whole, or cut; and one event more: what it adds to the run, to its history and to the runs passed through.
 use Prim.Native.Nat.{ℕ, zero, suc}
-use mathlib.Core.Path.{_≡_, refl, ap}
+use mathlib.Core.Path.{_≡_, refl, ap, _∙_}
 use mathlib.Core.Bool.{Bool, true, false, _||_}
 use mathlib.Core.List.{List, [], _∷_, _++_, map, append-assoc, append-nil}
 use mathlib.Core.Option.{Option, none, some}
@@ -94,10 +94,13 @@ unfolding after answers
 answers-snoc r [] e = refl
 answers-snoc r (x ∷ es) e = ap (λ (l : List Answer). answerOf (event r x) ∷ l) (answers-snoc (event r x .run) es e)
 
-pub history-snoc : (r : Run) (es : List (List ℕ)) (e : List ℕ) → history r (es ++ (e ∷ [])) ≡ history r es ++ happened (after r es) e
+pub history-append : (r : Run) (es later : List (List ℕ)) → history r (es ++ later) ≡ history r es ++ history (after r es) later
 unfolding after history
-history-snoc r [] e = append-nil (happened r e)
-history-snoc r (x ∷ es) e = rw (history-snoc (event r x .run) es e, append-assoc)
+history-append r [] later = refl
+history-append r (x ∷ es) later = rw (history-append (event r x .run) es later, append-assoc)
+
+pub history-snoc : (r : Run) (es : List (List ℕ)) (e : List ℕ) → history r (es ++ (e ∷ [])) ≡ history r es ++ happened (after r es) e
+history-snoc r es e = history-append r es (e ∷ []) ∙ ap (history r es ++_) (unfold history in append-nil (happened (after r es) e))
 
 -- the runs that an event passes through, and the one that it leaves
 unfoldable pub passed : Run → List ℕ → List Run

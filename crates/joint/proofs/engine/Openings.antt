@@ -11,7 +11,7 @@ use lib.Dec.{eqb}
 use borrow.Author.Tests.{eq-eqb, ne-eqb, eqb-true}
 use Rattle.codec.specs.Lists.{select, any, every, same, first}
 use Rattle.codec.specs.Sets.{empty, listed}
-use Rattle.codec.specs.laws.Tests.{true-of, every-at, same-list, below-at}
+use Rattle.codec.specs.laws.Tests.{every-at, same-list}
 use Rattle.site.specs.Cohort.{Cohort}
 use Rattle.joint.specs.State.{Run, Transaction, fresh, update, atTransaction, names, opened, takesPart, withMarked, performAll}
 use Rattle.joint.specs.Event.{Event, opening, beginning, delivery, timeout, forcing, discarding, crash, restart, marking, eventOf, Parsed, parse}
@@ -21,7 +21,7 @@ use Rattle.joint.specs.Run.{Result, refuse, carry, cutShort, partly, eve
 use Rattle.joint.specs.Safety.{steps, accepts}
 use Rattle.joint.specs.Totals.{isOpeningWith, openingsWith}
 use Rattle.joint.specs.Answers.{handoversIn}
-use Rattle.joint.proofs.base.Booleans.{is-false}
+use Rattle.joint.specs.laws.Numbered.{once}
 use Rattle.joint.proofs.base.Lists.{select-length, select-append}
 use Rattle.joint.proofs.base.Ranges.{only-some, parse-range}
 use Rattle.joint.proofs.base.History.{Accepted, EventCase, refused, whole, cut, event-case, by-events, after-snoc}
@@ -151,11 +151,6 @@ module _ (f : ℕ → Bool) (u : ℕ) (no : f u ≡ false) where
       by h false p true q = omega (arith, h)
       by h false p false q = omega (arith, h)
 
--- each stands in the list once
-once : (u : ℕ) → u < 8 → length (select (λ t. eqb t u) transactions) ≡ 1
-unfolding transactions select
-once u h = eqb-true _ 1 (true-of _ (below-at 8 (λ u. eqb (length (select (λ t. eqb t u) transactions)) 1) tt u h))
-
 -- there are eight at most
 pub handovers-few : (r : Run) (s : ℕ) → handoversIn r s ≤ 8
 unfolding handoversIn transactions
@@ -169,7 +164,7 @@ event-handovers s r e = ap (λ (f : ℕ → Bool). length (select f transactions
         → length (select (λ t. isWith s t r || (b && eqb t (getD e 1 0))) transactions) ≡ length (select (λ t. isWith s t r) transactions) + cond b 1 0
     go true h =
         let x = was-unopened s r e h in
-        more-pass (λ t. isWith s t r) (getD e 1 0) (rw (x .1) refl) transactions ∙ ap (length (select (λ t. isWith s t r) transactions) +_) (once (getD e 1 0) (x .0))
+        more-pass (λ t. isWith s t r) (getD e 1 0) (rw (x .1) refl) transactions ∙ ap (length (select (λ t. isWith s t r) transactions) +_) (unfold transactions select in once transactions tt (getD e 1 0) (x .0))
     go false h = ap (λ (f : ℕ → Bool). length (select f transactions)) (fun-ext (λ t. or-false (isWith s t r))) ∙ omega arith
 
 -- for every list of events

@@ -88,24 +88,24 @@ pub record Ahead (r : Run) (before : ℕ → ℕ) (bytes start : List ℕ) (even
   pub answered : roomAlong r (chunks count bytes) ≡ true → (m : ℕ) → count ≡ suc m → answerIn last ≡ answerOf (event (after r (chunks m bytes)) (eventAt m bytes))
   pub adds : roomAlong r (chunks count bytes) ≡ true → Adds before (history r (chunks count bytes)) forces
 
--- none is counted where nothing happens
-adds-none : (f : ℕ → ℕ) → ((s : ℕ) → totals.held (f s) ≡ f s) → Adds f [] f
-unfolding totals.held totals.highest forcesAt select
-adds-none f h s = omega (arith, h s)
+-- where no force happens a run counts what it did
+pub adds-none : (r : program.Run) (h : List Moment) → ((s : ℕ) → forcesAt s h ≡ 0) → Adds (forcesIn r) h (forcesIn r)
+unfolding forcesIn totals.held totals.highest
+adds-none r h none-forced s = omega (arith, none-forced s)
 
 -- what happened and what happens next
-adds-more : (f g k : ℕ → ℕ) (a b : List Moment) → Adds f a g → Adds g b k → Adds f (a ++ b) k
+pub adds-more : (f g k : ℕ → ℕ) (a b : List Moment) → Adds f a g → Adds g b k → Adds f (a ++ b) k
 adds-more f g k a b p q s =
     q s
     ∙ ap (λ (n : ℕ). totals.held (n + forcesAt s b)) (p s)
     ∙ held-sum (f s + forcesAt s a) (forcesAt s b)
     ∙ ap totals.held (add-assoc (f s) (forcesAt s a) (forcesAt s b) ∙ ap (f s +_) (sym (forces-append s a b)))
 
-pub ahead-start : (r : Run) (forces : ℕ → ℕ) (bytes start : List ℕ) (events : ℕ) (last : prog.Answer) → 4 * events ≤ length start → ((s : ℕ) → totals.held (forces s) ≡ forces s)
+pub ahead-start : (r : Run) (forces : ℕ → ℕ) (bytes start : List ℕ) (events : ℕ) (last : prog.Answer) → 4 * events ≤ length start → Adds forces [] forces
     → Ahead r forces bytes start events start r forces last 0
 unfolding chunks after answers flatten stored history
-ahead-start r forces bytes start events last h wide =
-    record { room = h; passed = omega arith; kept = refl; ran = λ _. refl; held = λ _. refl; answered = λ _ m e. absurd (omega (arith, e)); adds = λ _. adds-none forces wide }
+ahead-start r forces bytes start events last h same =
+    record { room = h; passed = omega arith; kept = refl; ran = λ _. refl; held = λ _. refl; answered = λ _ m e. absurd (omega (arith, e)); adds = λ _. same }
 
 module _ {r : Run} {before : ℕ → ℕ} {bytes start : List ℕ} {events : ℕ} {buffer : List ℕ} {run : Run} {forces : ℕ → ℕ} {last : prog.Answer} {count : ℕ}
     (a : Ahead r before bytes start events buffer run forces last count) where
@@ -166,27 +166,23 @@ module _ {r : Run} {before : ℕ → ℕ} {bytes start : List ℕ} {events : ℕ
 length-events : (bytes : List ℕ) → length (bytesOf (answers fresh (eventsOf bytes))) ≡ 4 * eventsFor bytes
 length-events bytes = length-all fresh (eventsOf bytes) ∙ ap (4 *_) (events-count bytes)
 
--- what a run counts is what happened in the events that it comes from
-pub totals-of : (es : List (List ℕ)) (r : program.Run) → runIn r ≡ after fresh es → ((s : ℕ) → forcesIn r s ≡ totals.held (forcesAt s (history fresh es))) → (s : ℕ)
+-- from no force counted, what a run counts is what happened in the events that it comes from
+pub totals-from : (es : List (List ℕ)) (r : program.Run) (f : ℕ → ℕ) → ((s : ℕ) → f s ≡ 0) → runIn r ≡ after fresh es → Adds f (history fresh es) (forcesIn r) → (s : ℕ)
     → totalsIn r s ≡ totals.totals es s
 unfolding totalsIn totals.totals
-totals-of es r e f s =
-    ap₂ totalsOf (f s) (ap (λ (w : Run). handoversIn w s) e ∙ sym (few (handovers-few (after fresh es) s)) ∙ ap totals.held (openings-counted es s))
+totals-from es r f none-yet e h s =
+    ap₂ totalsOf
+    (h s ∙ ap totals.held (ap (_+ forcesAt s (history fresh es)) (none-yet s) ∙ zero-add (forcesAt s (history fresh es))))
+    (ap (λ (w : Run). handoversIn w s) e ∙ sym (few (handovers-few (after fresh es) s)) ∙ ap totals.held (openings-counted es s))
   where
     few : {n : ℕ} → n ≤ 8 → totals.held n ≡ n
     few {n} h = unfold totals.held totals.highest in omega (arith, h)
 
--- from a fresh run, in which none is counted
-pub totals-from : (es : List (List ℕ)) (r b : program.Run) → runIn r ≡ after fresh es → ((s : ℕ) → forcesIn b s ≡ 0) → Adds (forcesIn b) (history fresh es) (forcesIn r) → totalsIn r ≡ totals.totals es
-totals-from es r b e begun h = fun-ext (totals-of es r e (λ s. h s ∙ ap (λ (n : ℕ). totals.held (n + forcesAt s (history fresh es))) (begun s) ∙ ap totals.held (zero-add (forcesAt s (history fresh es)))))
-
 pub replay-none : (bytes buffer : List ℕ) (x : Ran) → length buffer < 4 * eventsFor bytes → x .count ≡ 0 → Begins (x .run) → replayIn x buffer ≡ replayed bytes buffer
-unfolding replayIn replayed after
+unfolding replayIn replayed after history
 replay-none bytes buffer x h n e =
-    rw (lt-leb (length (bytesOf (answers fresh (eventsOf bytes)))) (length buffer) (omega (arith, h, length-events bytes)), n, totals-from [] (x .run) (x .run) (e .0) (e .1) (λ s. adds-fresh s), e .0)
-  where
-    adds-fresh : (s : ℕ) → forcesIn (x .run) s ≡ totals.held (forcesIn (x .run) s + forcesAt s (history fresh []))
-    adds-fresh s = unfold history totals.held totals.highest forcesAt select in omega (arith, e .1 s)
+    let same = adds-none (x .run) [] (λ s. unfold forcesAt select in refl) in
+    rw (lt-leb (length (bytesOf (answers fresh (eventsOf bytes)))) (length buffer) (omega (arith, h, length-events bytes)), n, fun-ext (totals-from [] (x .run) (forcesIn (x .run)) (e .1) (e .0) same), e .0)
 
 pub replay-all : (bytes start now : List ℕ) (b : program.Run) (x : Ran) → 4 * eventsFor bytes ≤ length start → roomAlong fresh (eventsOf bytes) ≡ true
     → Begins b → Goes (runIn b) (forcesIn b) (eventsFor bytes) bytes start now x
@@ -194,7 +190,7 @@ pub replay-all : (bytes start now : List ℕ) (b : program.Run) (x : Ran) → 4 
 unfolding replayIn replayed eventsOf eventLength
 replay-all bytes start now b x h k e gone =
     let g : Goes fresh (forcesIn b) (eventsFor bytes) bytes start now x = subst (λ (w : Run). Goes w (forcesIn b) (eventsFor bytes) bytes start now x) (e .0) gone in
-    rw (le-leb (length (bytesOf (answers fresh (eventsOf bytes)))) (length start) (omega (arith, h, length-events bytes)), length-chunks, g .count, totals-from (eventsOf bytes) (x .run) b (g .leaves k) (e .1) (g .adds k), g .leaves k, g .answers k)
+    rw (le-leb (length (bytesOf (answers fresh (eventsOf bytes)))) (length start) (omega (arith, h, length-events bytes)), length-chunks, g .count, fun-ext (totals-from (eventsOf bytes) (x .run) (forcesIn b) (e .1) (g .leaves k) (g .adds k)), g .leaves k, g .answers k)
 
 -- ---- one event
 

@@ -54,7 +54,7 @@ use Rattle.joint.proofs.engine.Reads.{siteAt, getD-within, site-read, c
 use Rattle.joint.proofs.engine.Sites.{log-counted}
 use Rattle.joint.proofs.engine.Refused.{answer-case, refused-number, refusedBy, refuse-seen}
 use Rattle.joint.proofs.engine.Rows.{forgottenIf, row-happens}
-use Rattle.joint.proofs.engine.Replays.{Ahead, ahead-next, eventAt}
+use Rattle.joint.proofs.engine.Replays.{Ahead, adds-none, ahead-next, eventAt}
 
 -- ---- the run's arrays are whole
 
@@ -97,14 +97,11 @@ going-next g n next x now f h e k s = record { full = f; ahead = ahead-next (g .
 
 -- a refusal makes none, and nothing is counted
 pub turned-refused : (run : Run) (x : List ℕ) (n : Answer) (k : ℕ) → answerIn n .number ≡ suc k → record { answer = answerIn n; run = runIn run } ≡ seen (event (runIn run) x) → Turned run x n run
-unfolding seen forcesIn answerOf
+unfolding seen answerOf
 turned-refused run x n k h e =
     let acts = refusal-acts (runIn run) x k (sym (ap (λ (v : Seen). v .answer .number) e) ∙ h) in
     let unforced : answerOf (event (runIn run) x) .forces ≡ 0 = ap (count isForce) acts ∙ unfold count select in refl in
-    (e, λ s. sym (ap (λ (k : ℕ). totals.held (forcesIn run s + k)) (none-forced (runIn run) x s unforced) ∙ held-none (getD (run .forces) s 0)))
-  where
-    held-none : (n : ℕ) → totals.held (totals.held n + 0) ≡ totals.held n
-    held-none n = unfold totals.held totals.highest in omega arith
+    (e, adds-none run (happened (runIn run) x) (λ s. none-forced (runIn run) x s unforced))
 
 -- those in the answer are counted at the event's site
 pub turned-at : (run next : Run) (x : List ℕ) (n : Answer) (p : Parsed) → parse x ≡ some p → (z : ℕ) → z < length (run .forces) → z ≡ siteOf (p .event)

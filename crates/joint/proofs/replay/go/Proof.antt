@@ -2,19 +2,20 @@ mod Read
 mod Decided
 use Prim.Native.Nat.{ℕ, _-_}
 use mathlib.Core.Path.{_≡_, refl, sym, ap, _∙_}
+use mathlib.Core.List.{[]}
 use lib.ListN.{length, set, length-set}
+use Rattle.codec.specs.Lists.{select}
 use native.Mathlib.Omega.{arith}
 use borrow.Author.Needs.{needs}
 use Rattle.joint.specs.State as plain
 use Rattle.joint.specs.State.{forgotten}
-use Rattle.joint.specs.Totals as totals
+use Rattle.joint.specs.Totals.{forcesAt}
 use Rattle.joint.specs.Answers.{noRecords, transactionsIn, runIn, forcesIn, answerIn, refusalNumber}
 use Rattle.joint.specs.Inside.{eventIn, changeIn}
 use Rattle.joint.specs.declared.answers.Answer.the-variants as variants
-use Rattle.joint.specs.declared.run.Run.{Run}
 use Rattle.joint.proofs.engine.Arrays.{length-shown}
 use Rattle.joint.proofs.engine.Whole.{run-whole}
-use Rattle.joint.proofs.engine.Replays.{ahead-start, ahead-ends}
+use Rattle.joint.proofs.engine.Replays.{adds-none, ahead-start, ahead-ends}
 use Rattle.joint.proofs.engine.Turns.{Full, turned-refused, malformed-seen, parsed-seen, restart-stored, restart-refused, happens-seen, refused-change}
 use Rattle.joint.proofs.engine.Refused.{refused-number}
 use Rattle.joint.proofs.replay.go.Statement.{statement}
@@ -32,14 +33,10 @@ whole-run s =
       counters = search length-shown;
     }
 
-wide : (r : Run) (s : ℕ) → totals.held (forcesIn r s) ≡ forcesIn r s
-unfolding forcesIn totals.held totals.highest
-wide r s = omega arith
-
 loop-holds : tie.Need-loop-holds Inv-loop μ-loop
 loop-holds c =
     let a = c .before .before in
-    record { full = whole-run a; ahead = ahead-start (runIn (a .args .run)) (forcesIn (a .args .run)) _ _ _ _ (a .pre .0) (wide (a .args .run)) }
+    record { full = whole-run a; ahead = ahead-start (runIn (a .args .run)) (forcesIn (a .args .run)) _ _ _ _ (a .pre .0) (adds-none (a .args .run) [] (λ s. unfold forcesAt select in refl)) }
 
 add-end : tie.Need-add-end Inv-loop μ-loop
 add-end c = omega (arith, ended (c .before), sub-rest (c .before .before))
