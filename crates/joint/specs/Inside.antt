@@ -159,11 +159,11 @@ writesLog x = not (eqb (x .effects .appended) 0) || not (eqb (x .effects .last) 
 
 -- a site after a row of transaction t
 unfoldable pub rowSite : ℕ → Row → plain.Site → plain.Site
-rowSite t x a = thenSite t (x .then) (siteAfter t (effectsIn (x .effects)) a)
+rowSite t x a = thenSite t (x .then) (siteAfter t (effectsIn t (x .effects)) a)
 
 -- the plan that a row of site s in transaction t is
 abbrev pub planIn : ℕ → ℕ → Row → Plan
-planIn s t x = record { site = s; acts = acting t (effectsIn (x .effects)); settle = thenIn s t (x .then) }
+planIn s t x = record { site = s; acts = acting t (effectsIn t (x .effects)); settle = thenIn s t (x .then) }
 
 unfoldable pub foundIn : ℕ → ℕ → Found → Option Plan
 foundIn s t (found.Row x) = some (planIn s t x)

@@ -40,7 +40,7 @@ planned s t g (some row) = some (rowPlan s t g row)
 unfoldable pub step : Run → ℕ → ℕ → Input → Option Plan
 step r t zero i =
     let x = r .transaction t in
-    planned 0 t (withCoordinator 0) (coordinatorStep (cohortAt x 0) i (coordinatorAt x 0))
+    planned 0 t (withCoordinator 0) (coordinatorStep t (cohortAt x 0) i (coordinatorAt x 0))
 step r t (suc n) i =
     let x = r .transaction t in
     planned (suc n) t (withParticipant (suc n))
@@ -114,7 +114,7 @@ transactions = 0 ∷ 1 ∷ 2 ∷ 3 ∷ 4 ∷ 5 ∷ 6 ∷ 7 ∷ []
 unfoldable pub restarting : Run → ℕ → ℕ → Plan
 restarting r zero t =
     let log = r .site 0 .stable in
-    rowPlan 0 t (withCoordinator 0) (coordinatorRestart (λ k. holds t k log) (λ k. recordedCohort t k log))
+    rowPlan 0 t (withCoordinator 0) (coordinatorRestart t (λ k. holds t k log) (λ k. recordedCohort t k log))
 restarting r (suc n) t =
     let x = r .transaction t in
     rowPlan (suc n) t (withParticipant (suc n))

@@ -40,7 +40,7 @@ pub enum Change {
 
 // A row; or, up to the cut, the first effects of it, and then the site goes down.
 fn carry(site: Site, row: Row, cut: u8, keep: u8) -> Change
-    ensures { λ r. ⌜ ((w : plain.Run) (s t : ℕ) → Here site w s → Fits (effectsIn (row .effects)) (w .site s) → changeIn w s t r ≡ seen (run.carry w (planIn s t row) (cutFrom cut keep))) ⌝ }
+    ensures { λ r. ⌜ ((w : plain.Run) (s t : ℕ) → Here site w s → Fits (effectsIn t (row .effects)) (w .site s) → changeIn w s t r ≡ seen (run.carry w (planIn s t row) (cutFrom cut keep))) ⌝ }
 {
     if cut == Run::NO_CUT {
         return Change::Happens(row);

@@ -114,7 +114,7 @@ impl Records {
 
     // After a row of a transaction, with the counts of its site.
     pub(crate) fn after(self, site: Site, transaction: u8, row: Row) -> SiteLog
-        ensures { λ r. ⌜ (Fits (effectsIn (row .effects)) (siteFrom site (self .of)) → siteFrom (r .site) (r .records .of) ≡ rowSite transaction row (siteFrom site (self .of))) ⌝ }
+        ensures { λ r. ⌜ (Fits (effectsIn transaction (row .effects)) (siteFrom site (self .of)) → siteFrom (r .site) (r .records .of) ≡ rowSite transaction row (siteFrom site (self .of))) ⌝ }
     {
         let effects = row.effects;
         let then = row.then;

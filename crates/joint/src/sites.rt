@@ -94,7 +94,7 @@ impl Site {
 
     // With a row's records and its force.
     pub(crate) fn after(self, effects: Effects) -> Site
-        ensures { λ r. ⌜ ((rs : List Record) (t : ℕ) → length rs ≡ 24 → Fits (effectsIn effects) (siteFrom self rs) → siteFrom r (putRow (countOf self) t effects rs) ≡ siteAfter t (effectsIn effects) (siteFrom self rs)) ⌝ }
+        ensures { λ r. ⌜ ((rs : List Record) (t : ℕ) → length rs ≡ 24 → Fits (effectsIn t effects) (siteFrom self rs) → siteFrom r (putRow (countOf self) t effects rs) ≡ siteAfter t (effectsIn t effects) (siteFrom self rs)) ⌝ }
     {
         let first = self.append(effects.appended);
         let forced = first.force_if(effects.forced);

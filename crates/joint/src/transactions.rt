@@ -204,7 +204,7 @@ impl Transaction {
 
     // A message of each participant in a set. What is no kind of message is not sent.
     fn send(self, kind: u8, to: u8) -> Transaction
-        ensures { λ r. ⌜ ((s owing : ℕ) → transactionIn r ≡ transactionAfter s (sending kind owing to) (transactionIn self)) ⌝ }
+        ensures { λ r. ⌜ ((s t owing : ℕ) → transactionIn r ≡ transactionAfter s (sending t kind owing to) (transactionIn self)) ⌝ }
     {
         let mut transaction = self;
         if (to != 0) & (kind <= Parts::LAST_KIND) {
@@ -217,7 +217,7 @@ impl Transaction {
     // With a row's entry and messages at a site.
     pub(crate) fn after(self, site: u8, effects: Effects) -> Transaction
         requires { ⌜ site ≤ 8 ⌝ }
-        ensures { λ r. ⌜ transactionIn r ≡ transactionAfter site (effectsIn effects) (transactionIn self) ⌝ }
+        ensures { λ r. ⌜ ((t : ℕ) → transactionIn r ≡ transactionAfter site (effectsIn t effects) (transactionIn self)) ⌝ }
     {
         let entered = self.enter(site, effects.entered);
         entered.send(effects.message, effects.to)

@@ -78,7 +78,7 @@ module _ (a : Arguments) where
   pub coordinator-taken : (named && fits) ≡ true
       → coordinatorNumbers a
       ≡ coordinatorResult (a .phase) (a .waiting) (a .takenOut)
-      (coordinatorAnswer (a .cohort) (a .kind) (a .participant) (record { phase = coordinatorFrom (a .phase) (a .waiting); takenOut = a .takenOut }))
+      (coordinatorAnswer (a .transaction) (a .cohort) (a .kind) (a .participant) (record { phase = coordinatorFrom (a .phase) (a .waiting); takenOut = a .takenOut }))
   unfolding stepAt coordinatorAnswer
   coordinator-taken e = split ∙ rw e (result-if _ (a .phase) (a .waiting) (a .takenOut) _)
 
@@ -135,12 +135,12 @@ module _ (a : Arguments) where
       → siteStep a ≡ cond (leb (a .site) 8 && (receives (a .site) (a .kind) && inRangeAt (a .site) a)) (stepAt (a .site) a) refusal
   call-passed h e = whole h ∙ rw e refl
 
--- at the coordinator: the transaction plays no part any more
+-- at the coordinator
 pub call-coordinator : (a : Arguments) → a .cohort .members < 256 → wrong a ≡ false → a .site ≡ 0
     → siteStep a ≡ coordinatorNumbers (record {
       site = 0;
       kind = a .kind;
-      transaction = 0;
+      transaction = a .transaction;
       participant = a .participant;
       presumption = a .presumption;
       phase = a .phase;

@@ -18,21 +18,21 @@ use Rattle.site.specs.declared.participant.Participant.{Participant}
 
 -- ---- the coordinator's
 
-module _ (x : Coordinator) (kind p : ℕ) where
+module _ (t : ℕ) (x : Coordinator) (kind p : ℕ) where
   -- a message of what is no member
-  pub coordinator-stranger : leb 16 kind ≡ false → member p (x .members) ≡ false → refused ≡ coordinatorAnswer (cohortIn x) kind p (coordinatorStateIn x)
+  pub coordinator-stranger : leb 16 kind ≡ false → member p (x .members) ≡ false → refused ≡ coordinatorAnswer t (cohortIn x) kind p (coordinatorStateIn x)
   unfolding coordinatorAnswer answerIf
   coordinator-stranger k m = rw (k, m, and-false (receives 0 kind))
 
   -- a kind k that is received
   pub coordinator-takes : (k : ℕ) → kind ≡ k → (receives 0 k && (leb 16 k || member p (x .members))) ≡ true
-      → answered (coordinatorStep (cohortIn x) (inputOf k p) (coordinatorStateIn x)) ≡ coordinatorAnswer (cohortIn x) kind p (coordinatorStateIn x)
+      → answered (coordinatorStep t (cohortIn x) (inputOf k p) (coordinatorStateIn x)) ≡ coordinatorAnswer t (cohortIn x) kind p (coordinatorStateIn x)
   unfolding coordinatorAnswer answerIf
-  coordinator-takes k e t = rw (e, t)
+  coordinator-takes k e r = rw (e, r)
 
-pub coordinator-never : (x : Coordinator) (kind p : ℕ) → receives 0 kind ≡ false → refused ≡ coordinatorAnswer (cohortIn x) kind p (coordinatorStateIn x)
+pub coordinator-never : (t : ℕ) (x : Coordinator) (kind p : ℕ) → receives 0 kind ≡ false → refused ≡ coordinatorAnswer t (cohortIn x) kind p (coordinatorStateIn x)
 unfolding coordinatorAnswer answerIf
-coordinator-never x kind p r = rw r
+coordinator-never t x kind p r = rw r
 
 -- none of the kinds received
 pub not-received : (kind : ℕ) → (kind ≡ 1 → ⊥) → (kind ≡ 2 → ⊥) → (kind ≡ 5 → ⊥) → (kind ≡ 6 → ⊥) → (kind ≡ 7 → ⊥) → (kind ≡ 16 → ⊥) → (kind ≡ 17 → ⊥)

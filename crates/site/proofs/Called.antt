@@ -80,7 +80,7 @@ sender a h r e = by (eqb (a .kind) 16) (eqb (a .kind) 17) (leb 16 (a .kind)) ref
     by false false false d f g q = member-numbered (a .participant) (a .cohort .members) h (and-eq-true-iff (member (a .participant) (a .cohort .members)) _ .0 q .0)
 
 pub coordinator-call : (a : Arguments) → argumentsInRange a ≡ true → a .site ≡ 0 → (r : Row Coordinator)
-    → coordinatorStep (a .cohort) (inputOf (a .kind) (a .participant)) (record { phase = coordinatorFrom (a .phase) (a .waiting); takenOut = a .takenOut }) ≡ some r
+    → coordinatorStep (a .transaction) (a .cohort) (inputOf (a .kind) (a .participant)) (record { phase = coordinatorFrom (a .phase) (a .waiting); takenOut = a .takenOut }) ≡ some r
     → done a (siteStep a) ≡ r .effects
 unfolding inRangeAt siteStep stepAt coordinatorResult coordinatorValues answered answerNumber
 coordinator-call a ok z r e =

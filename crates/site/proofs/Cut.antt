@@ -50,13 +50,13 @@ entry-one (suc (suc (suc k))) e =
     let h : suc (suc (suc k)) ≤ 2 = ltb-false 2 (suc (suc (suc k))) (or-none (ltb (suc (suc (suc k))) 1) (ltb 2 (suc (suc (suc k)))) e .1) in
     absurd (omega (arith, h))
 
-pub no-sends : (kind owing to : ℕ) → 7 < kind → 0 ≡ length (sending kind owing to)
+pub no-sends : (t kind owing to : ℕ) → 7 < kind → 0 ≡ length (sending t kind owing to)
 unfolding sending given
-no-sends kind owing to h = rw (lt-leb kind 7 h)
+no-sends t kind owing to h = rw (lt-leb kind 7 h)
 
-pub sending-length : (kind owing to : ℕ) → kind ≤ 7 → length (sending kind owing to) ≡ length (listed to)
+pub sending-length : (t kind owing to : ℕ) → kind ≤ 7 → length (sending t kind owing to) ≡ length (listed to)
 unfolding sending given
-sending-length kind owing to h = rw (le-leb kind 7 h, length-map) (order-length owing to)
+sending-length t kind owing to h = rw (le-leb kind 7 h, length-map) (order-length t owing to)
 
 -- ---- the first of each
 
@@ -89,35 +89,35 @@ take-map f zero l = refl
 take-map f (suc n) [] = refl
 take-map {A} {B} f (suc n) (x ∷ l) = ap (λ (m : List B). f x ∷ m) (take-map f n l)
 
-pub sending-cut : (n kind owing to to′ : ℕ) → ordered owing to′ ≡ take n (ordered owing to) → take n (sending kind owing to) ≡ sending kind owing to′
+pub sending-cut : (t n kind owing to to′ : ℕ) → ordered t owing to′ ≡ take n (ordered t owing to) → take n (sending t kind owing to) ≡ sending t kind owing to′
 unfolding sending given
-sending-cut n kind owing to to′ e = by (leb kind 7)
+sending-cut t n kind owing to to′ e = by (leb kind 7)
   where
-    by : (b : Bool) → take n (cond b (map (send (getD messages kind prepare)) (ordered owing to)) []) ≡ cond b (map (send (getD messages kind prepare)) (ordered owing to′)) []
-    by true = take-map (send (getD messages kind prepare)) n (ordered owing to) ∙ ap (map (send (getD messages kind prepare))) (sym e)
+    by : (b : Bool) → take n (cond b (map (send (getD messages kind prepare)) (ordered t owing to)) []) ≡ cond b (map (send (getD messages kind prepare)) (ordered t owing to′)) []
+    by true = take-map (send (getD messages kind prepare)) n (ordered t owing to) ∙ ap (map (send (getD messages kind prepare))) (sym e)
     by false = take-nil n
 
 -- ---- of a row
 
-pub count-law : (e : Effects) (a f x s l : ℕ)
+pub count-law : (t : ℕ) (e : Effects) (a f x s l : ℕ)
     → a ≡ cond (not (eqb (e .appended) 0)) 1 0 → f ≡ cond (e .forced) 1 0 → x ≡ length (entryOf (e .entered))
-    → s ≡ length (sending (e .message) (e .owing) (e .to)) → l ≡ cond (not (eqb (e .last) 0)) 1 0
-    → a + f + x + s + l ≡ length (effectsIn e)
-count-law e a f x s l ea ef ex es el =
-    rw (five e) (simp (length-append, appending-length, given-length) (omega (arith, ea, ef, ex, es, el)))
+    → s ≡ length (sending t (e .message) (e .owing) (e .to)) → l ≡ cond (not (eqb (e .last) 0)) 1 0
+    → a + f + x + s + l ≡ length (effectsIn t e)
+count-law t e a f x s l ea ef ex es el =
+    rw (five t e) (simp (length-append, appending-length, given-length) (omega (arith, ea, ef, ex, es, el)))
 
 parts-taken : {A : Type 0} (n n₁ n₂ n₃ n₄ : ℕ) (a f e m l : List A)
     → n₁ ≡ n - length a → n₂ ≡ n₁ - length f → n₃ ≡ n₂ - length e → n₄ ≡ n₃ - length m
     → take n (a ++ (f ++ (e ++ (m ++ l)))) ≡ take n a ++ (take n₁ f ++ (take n₂ e ++ (take n₃ m ++ take n₄ l)))
 parts-taken n n₁ n₂ n₃ n₄ a f e m l q₁ q₂ q₃ q₄ = simp (q₄, q₃, q₂, q₁, take-append)
 
-pub cut-law : (e : Effects) (most forces enters sends closes to : ℕ)
+pub cut-law : (t : ℕ) (e : Effects) (most forces enters sends closes to : ℕ)
     → forces ≡ most - cond (not (eqb (e .appended) 0)) 1 0
     → enters ≡ forces - cond (e .forced) 1 0
     → sends ≡ enters - length (entryOf (e .entered))
-    → closes ≡ sends - length (sending (e .message) (e .owing) (e .to))
-    → ordered (e .owing) to ≡ take sends (ordered (e .owing) (e .to))
-    → effectsIn
+    → closes ≡ sends - length (sending t (e .message) (e .owing) (e .to))
+    → ordered t (e .owing) to ≡ take sends (ordered t (e .owing) (e .to))
+    → effectsIn t
     (record {
       appended = upTo most (e .appended);
       first = e .first;
@@ -129,14 +129,14 @@ pub cut-law : (e : Effects) (most forces enters sends closes to : ℕ)
       owing = e .owing;
       last = upTo closes (e .last);
     })
-    ≡ take most (effectsIn e)
-cut-law e most forces enters sends closes to ef ee es ec eo =
-    five _
+    ≡ take most (effectsIn t e)
+cut-law t e most forces enters sends closes to ef ee es ec eo =
+    five t _
     ∙ ap₂ _++_ (sym (appending-cut most (e .appended) (e .first) (e .second)))
     (ap₂ _++_ (sym (given-cut forces (e .forced)))
     (ap₂ _++_ (sym (entry-cut enters (e .entered)))
-    (ap₂ _++_ (sym (sending-cut sends (e .message) (e .owing) (e .to) to eo)) (sym (appending-cut closes (e .last) 0 0)))))
-    ∙ sym (ap (take most) (five e) ∙ parts-taken most forces enters sends closes _ _ _ _ _
+    (ap₂ _++_ (sym (sending-cut t sends (e .message) (e .owing) (e .to) to eo)) (sym (appending-cut closes (e .last) 0 0)))))
+    ∙ sym (ap (take most) (five t e) ∙ parts-taken most forces enters sends closes _ _ _ _ _
     (ef ∙ ap (λ (k : ℕ). most - k) (sym (appending-length (e .appended) _)))
     (ee ∙ ap (λ (k : ℕ). forces - k) (sym (given-length (e .forced))))
     es ec)

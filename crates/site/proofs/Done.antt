@@ -49,9 +49,9 @@ module _ (a : Arguments) (out : ℕ) where
   by-numbers es d = rw (read-back 0 0 out es (d .1)) (d .0)
 
   -- messages, by their kind and their set
-  back : (m : Message) (ps : List ℕ) → ordered (goFirst (a .cohort) (messageKind m)) (weight ps) ≡ ps
-      → map (send (getD messages (kindOf m ps) prepare)) (ordered (goFirst (a .cohort) (kindOf m ps)) (weight ps)) ≡ map (send m) ps
-  back m [] e = rw (ordered-none (goFirst (a .cohort) 0))
+  back : (m : Message) (ps : List ℕ) → ordered (a .transaction) (goFirst (a .cohort) (messageKind m)) (weight ps) ≡ ps
+      → map (send (getD messages (kindOf m ps) prepare)) (ordered (a .transaction) (goFirst (a .cohort) (kindOf m ps)) (weight ps)) ≡ map (send m) ps
+  back m [] e = rw (ordered-none (a .transaction) (goFirst (a .cohort) 0))
   back m (p ∷ ps) e = rw (e, kind-known m .1)
 
   force-back : (f : Bool) → eqb (cond f 1 0) 1 ≡ f
@@ -62,13 +62,13 @@ module _ (a : Arguments) (out : ℕ) where
   abbrev with-fields : ℕ → Bool → ℕ → Message → List ℕ → ℕ → List Effect
   with-fields k f n m ps l = rowOf k (fieldsOf a out k) f n m ps l (fieldsOf a out l)
 
-  whole : (k : ℕ) (f : Bool) (n : ℕ) (m : Message) (ps : List ℕ) (l : ℕ) → ordered (goFirst (a .cohort) (messageKind m)) (weight ps) ≡ ps
+  whole : (k : ℕ) (f : Bool) (n : ℕ) (m : Message) (ps : List ℕ) (l : ℕ) → ordered (a .transaction) (goFirst (a .cohort) (messageKind m)) (weight ps) ≡ ps
       → doing a out (numbersOf k l f n m ps) ≡ with-fields k f n m ps l
   unfolding doing
   whole k f n m ps l e = rw (force-back f, back m ps e)
 
   numbered-row : (k l : ℕ) → k < 16 → l < 16 → (f : Bool) (n : ℕ) → n < 3 → (m : Message) (ps : List ℕ)
-      → ordered (goFirst (a .cohort) (messageKind m)) (weight ps) ≡ ps → ByNumbers (with-fields k f n m ps l)
+      → ordered (a .transaction) (goFirst (a .cohort) (messageKind m)) (weight ps) ≡ ps → ByNumbers (with-fields k f n m ps l)
   unfolding appending given entryOf
   numbered-row (suc k) l hk hl f n h m ps e = rw (sum-row (suc k) (fieldsOf a out (suc k)) f n h m ps l (fieldsOf a out l)) (whole (suc k) f n m ps l e, hk)
   numbered-row zero l hk hl true n h m ps e = rw (sum-row 0 (fieldsOf a out 0) true n h m ps l (fieldsOf a out l)) (whole 0 true n m ps l e, hk)
@@ -81,33 +81,33 @@ module _ (a : Arguments) (out : ℕ) where
       (whole l false 0 m [] 0 e ∙ append-nil (appending l (fieldsOf a out l)), hl)
 
   row-done : (k l : ℕ) → k < 16 → l < 16 → (f : Bool) (n : ℕ) → n < 3 → (m : Message) (ps : List ℕ)
-      → ordered (goFirst (a .cohort) (messageKind m)) (weight ps) ≡ ps → Does (with-fields k f n m ps l)
+      → ordered (a .transaction) (goFirst (a .cohort) (messageKind m)) (weight ps) ≡ ps → Does (with-fields k f n m ps l)
   row-done k l hk hl f n h m ps e = by-numbers (with-fields k f n m ps l) (numbered-row k l hk hl f n h m ps e)
 
   -- without a last record
   bare-done : (k : ℕ) → k < 16 → (f : Bool) (n : ℕ) → n < 3 → (m : Message) (ps : List ℕ)
-      → ordered (goFirst (a .cohort) (messageKind m)) (weight ps) ≡ ps
+      → ordered (a .transaction) (goFirst (a .cohort) (messageKind m)) (weight ps) ≡ ps
       → Does (appending k (fieldsOf a out k) ++ (given f (force ∷ []) ++ (entryOf n ++ map (send m) ps)))
   unfolding appending
   bare-done k hk f n h m ps e = rw (append-nil (map (send m) ps)) at (row-done k 0 hk (omega arith) f n h m ps e)
 
   -- and without messages
   alone-done : (k : ℕ) → k < 16 → (f : Bool) (n : ℕ) → n < 3 → Does (appending k (fieldsOf a out k) ++ (given f (force ∷ []) ++ (entryOf n ++ [])))
-  alone-done k hk f n h = bare-done k hk f n h prepare [] (ordered-none (goFirst (a .cohort) (messageKind prepare)))
+  alone-done k hk f n h = bare-done k hk f n h prepare [] (ordered-none (a .transaction) (goFirst (a .cohort) (messageKind prepare)))
 
   none-done : Does []
   unfolding appending given entryOf
   none-done = alone-done 0 (omega arith) false 0 (omega arith)
 
   -- the messages' order: to a set, and to one
-  in-turn : (kind first to : ℕ) → to < 256 → ordered (goFirst (a .cohort) kind) to ≡ ordered first to
-      → ordered (goFirst (a .cohort) kind) (weight (ordered first to)) ≡ ordered first to
-  in-turn kind first to h e = rw (weight-ordered first to h) e
+  in-turn : (kind first to : ℕ) → to < 256 → ordered (a .transaction) (goFirst (a .cohort) kind) to ≡ ordered (a .transaction) first to
+      → ordered (a .transaction) (goFirst (a .cohort) kind) (weight (ordered (a .transaction) first to)) ≡ ordered (a .transaction) first to
+  in-turn kind first to h e = rw (weight-ordered (a .transaction) first to h) e
 
-  one-turn : (kind p : ℕ) → Numbered p → ordered (goFirst (a .cohort) kind) (weight (p ∷ [])) ≡ p ∷ []
+  one-turn : (kind p : ℕ) → Numbered p → ordered (a .transaction) (goFirst (a .cohort) kind) (weight (p ∷ [])) ≡ p ∷ []
   one-turn kind p q =
       let first = goFirst (a .cohort) kind in
-      rw (ordered-one first p q) at (in-turn kind first (only p) (only-below p) refl)
+      rw (ordered-one (a .transaction) first p q) at (in-turn kind first (only p) (only-below p) refl)
 
   one-done : (m : Message) (p : ℕ) → Numbered p → Does (send m p ∷ [])
   unfolding appending given entryOf
@@ -133,43 +133,43 @@ module _ (a : Arguments) (out : ℕ) where
   abbrev left : Cohort
   left = remaining (a .cohort) out
 
-  told-done : (o : Outcome) (to : ℕ) → to < 256 → Does a out (tellAll (a .cohort) o to)
+  told-done : (o : Outcome) (to : ℕ) → to < 256 → Does a out (tellAll (a .transaction) (a .cohort) o to)
   unfolding tellAll inOrder appending given entryOf
   told-done o to h =
-      bare-done a out 0 (omega arith) false 0 (omega arith) (tell o) (ordered (owing (a .cohort) o) to)
+      bare-done a out 0 (omega arith) false 0 (omega arith) (tell o) (ordered (a .transaction) (owing (a .cohort) o) to)
       (in-turn a out (messageKind (tell o)) (owing (a .cohort) o) to h (rw (outcome-first (a .cohort) o)))
 
   -- of those that remain the order is that of the masks as passed
   left-turn : (o : Outcome) (to : ℕ) → to < 256 → ((p : ℕ) → Numbered p → member p to ≡ true → member p out ≡ false)
-      → ordered (goFirst (a .cohort) (messageKind (tell o))) (weight (ordered (owing left o) to)) ≡ ordered (owing left o) to
+      → ordered (a .transaction) (goFirst (a .cohort) (messageKind (tell o))) (weight (ordered (a .transaction) (owing left o) to)) ≡ ordered (a .transaction) (owing left o) to
   left-turn o to h s =
-      in-turn a out (messageKind (tell o)) (owing left o) to h (rw (outcome-first (a .cohort) o) (remaining-order (a .cohort) out o to s))
+      in-turn a out (messageKind (tell o)) (owing left o) to h (rw (outcome-first (a .cohort) o) (remaining-order (a .transaction) (a .cohort) out o to s))
 
-  committing-done : Does a out (committing left .effects)
+  committing-done : Does a out (committing (a .transaction) left .effects)
   unfolding committing tellAll inOrder appending fieldsOf given entryOf
   committing-done =
-      bare-done a out 2 (omega arith) true 1 (omega arith) (tell commit) (ordered (owing left commit) (left .members))
+      bare-done a out 2 (omega arith) true 1 (omega arith) (tell commit) (ordered (a .transaction) (owing left commit) (left .members))
       (left-turn commit (left .members) (remaining-below (a .cohort) out .0) (remaining-stays (a .cohort) out))
 
-  preparing-done : a .cohort .members < 256 → (b : Bool) → Does a out (preparing (a .cohort) b .effects)
+  preparing-done : a .cohort .members < 256 → (b : Bool) → Does a out (preparing (a .transaction) (a .cohort) b .effects)
   unfolding preparing appending fieldsOf given entryOf goFirst messageKind
-  preparing-done h b = rw (sym (ordered-by-turn (a .cohort .members))) (by b)
+  preparing-done h b = rw (sym (ordered-by-turn (a .transaction) (a .cohort .members))) (by b)
     where
-      turn : ordered (goFirst (a .cohort) 0) (weight (ordered 0 (a .cohort .members))) ≡ ordered 0 (a .cohort .members)
+      turn : ordered (a .transaction) (goFirst (a .cohort) 0) (weight (ordered (a .transaction) 0 (a .cohort .members))) ≡ ordered (a .transaction) 0 (a .cohort .members)
       turn = in-turn a out 0 0 (a .cohort .members) h refl
 
-      by : (b : Bool) → Does a out (given b (append 1 (masksOf (a .cohort)) ∷ force ∷ []) ++ map (send prepare) (ordered 0 (a .cohort .members)))
-      by true = bare-done a out 1 (omega arith) true 0 (omega arith) prepare (ordered 0 (a .cohort .members)) turn
-      by false = bare-done a out 0 (omega arith) false 0 (omega arith) prepare (ordered 0 (a .cohort .members)) turn
+      by : (b : Bool) → Does a out (given b (append 1 (masksOf (a .cohort)) ∷ force ∷ []) ++ map (send prepare) (ordered (a .transaction) 0 (a .cohort .members)))
+      by true = bare-done a out 1 (omega arith) true 0 (omega arith) prepare (ordered (a .transaction) 0 (a .cohort .members)) turn
+      by false = bare-done a out 0 (omega arith) false 0 (omega arith) prepare (ordered (a .transaction) 0 (a .cohort .members)) turn
 
   aborting-done : (init : Bool) (to : ℕ) → to < 256 → ((p : ℕ) → Numbered p → member p to ≡ true → member p out ≡ false)
-      → Does a out (aborting left init to .effects)
+      → Does a out (aborting (a .transaction) left init to .effects)
   unfolding aborting tellAll inOrder appending fieldsOf given entryOf
   aborting-done init to h s = by (empty (both to (owing left abort)) && init)
     where
-      by : (b : Bool) → Does a out (enter abort ∷ map (send (tell abort)) (ordered (owing left abort) to) ++ given b (append 4 [] ∷ []))
-      by true = row-done a out 0 4 (omega arith) (omega arith) false 2 (omega arith) (tell abort) (ordered (owing left abort) to) (left-turn abort to h s)
-      by false = row-done a out 0 0 (omega arith) (omega arith) false 2 (omega arith) (tell abort) (ordered (owing left abort) to) (left-turn abort to h s)
+      by : (b : Bool) → Does a out (enter abort ∷ map (send (tell abort)) (ordered (a .transaction) (owing left abort) to) ++ given b (append 4 [] ∷ []))
+      by true = row-done a out 0 4 (omega arith) (omega arith) false 2 (omega arith) (tell abort) (ordered (a .transaction) (owing left abort) to) (left-turn abort to h s)
+      by false = row-done a out 0 0 (omega arith) (omega arith) false 2 (omega arith) (tell abort) (ordered (a .transaction) (owing left abort) to) (left-turn abort to h s)
 
   end-record-done : (o : Outcome) → Does a out (append (endRecord o) [] ∷ [])
   unfolding appending fieldsOf given entryOf endRecord
@@ -188,31 +188,31 @@ module _ (a : Arguments) (out : ℕ) where
   nobody-done true = end-record-done a out abort
   nobody-done false = none-done a out
 
-  voted-done : (n b : Bool) (w : ℕ) → Does a out (voted (a .cohort) out n b w .effects)
+  voted-done : (n b : Bool) (w : ℕ) → Does a out (voted (a .transaction) (a .cohort) out n b w .effects)
   unfolding voted
   voted-done true b w = nobody-done (writesInit (a .cohort))
   voted-done false true w = committing-done a out
   voted-done false false w = none-done a out
 
-  yes-done : (p : ℕ) (c : CoordinatorPhase) → Numbered p → (r : Row CoordinatorPhase) → onYes (a .cohort) out p c ≡ some r → Does a out (r .effects)
+  yes-done : (p : ℕ) (c : CoordinatorPhase) → Numbered p → (r : Row CoordinatorPhase) → onYes (a .transaction) (a .cohort) out p c ≡ some r → Does a out (r .effects)
   unfolding onYes telling counting
   yes-done p CoordinatorPhase.initial q r e = cc
   yes-done p (CoordinatorPhase.collecting w) q r e =
-      if-row a out (not (member p out)) (counting (a .cohort) out (without p w)) e (voted-done (empty (remaining (a .cohort) out .members)) (empty (without p w)) (without p w))
+      if-row a out (not (member p out)) (counting (a .transaction) (a .cohort) out (without p w)) e (voted-done (empty (remaining (a .cohort) out .members)) (empty (without p w)) (without p w))
   yes-done p (CoordinatorPhase.awaitingAcks o w) q r e = is-row a out e (one-done a out (tell o) p q)
   yes-done p CoordinatorPhase.unknown q r e = is-row a out e (one-done a out (tell (silence (presumptionOf (a .cohort) p))) p q)
 
-  no-done : (p : ℕ) (c : CoordinatorPhase) (r : Row CoordinatorPhase) → onNo (a .cohort) out p c ≡ some r → Does a out (r .effects)
+  no-done : (p : ℕ) (c : CoordinatorPhase) (r : Row CoordinatorPhase) → onNo (a .transaction) (a .cohort) out p c ≡ some r → Does a out (r .effects)
   unfolding onNo
   no-done p CoordinatorPhase.initial r e = cc
   no-done p (CoordinatorPhase.collecting w) r e =
       let m = remaining (a .cohort) out .members in
-      if-row a out (not (member p out)) (aborting (remaining (a .cohort) out) (writesInit (a .cohort)) (without p m)) e
+      if-row a out (not (member p out)) (aborting (a .transaction) (remaining (a .cohort) out) (writesInit (a .cohort)) (without p m)) e
       (aborting-done a out (writesInit (a .cohort)) (without p m) (without-below p m) (λ q n t. remaining-stays (a .cohort) out q n (within-without q p m n t)))
   no-done p (CoordinatorPhase.awaitingAcks o w) r e = cc
   no-done p CoordinatorPhase.unknown r e = cc
 
-  timer-done : (c : CoordinatorPhase) → waitingSet c < 256 → (r : Row CoordinatorPhase) → coordinatorTimer (a .cohort) out c ≡ some r → Does a out (r .effects)
+  timer-done : (c : CoordinatorPhase) → waitingSet c < 256 → (r : Row CoordinatorPhase) → coordinatorTimer (a .transaction) (a .cohort) out c ≡ some r → Does a out (r .effects)
   unfolding coordinatorTimer waitingSet
   timer-done CoordinatorPhase.initial w r e = cc
   timer-done (CoordinatorPhase.collecting m) w r e =
@@ -237,7 +237,7 @@ module _ (a : Arguments) (out : ℕ) where
   ack-done o p (CoordinatorPhase.awaitingAcks d w) r e = ack-if-done (sameOutcome o d) d (without p w) r e
   ack-done o p CoordinatorPhase.unknown r e = cc
 
-  begin-done : a .cohort .members < 256 → (c : CoordinatorPhase) (r : Row CoordinatorPhase) → onBegin (a .cohort) c ≡ some r → Does a out (r .effects)
+  begin-done : a .cohort .members < 256 → (c : CoordinatorPhase) (r : Row CoordinatorPhase) → onBegin (a .transaction) (a .cohort) c ≡ some r → Does a out (r .effects)
   unfolding onBegin
   begin-done h CoordinatorPhase.initial r e = is-row a out e (preparing-done a out h (writesInit (a .cohort)))
   begin-done h (CoordinatorPhase.collecting w) r e = cc
@@ -245,12 +245,12 @@ module _ (a : Arguments) (out : ℕ) where
   begin-done h CoordinatorPhase.unknown r e = cc
 
 -- a vote that takes p out: the set after it counts
-read-only-done : (a : Arguments) (out p : ℕ) (c : CoordinatorPhase) (r : Row CoordinatorPhase) → onReadOnly (a .cohort) out p c ≡ some r
+read-only-done : (a : Arguments) (out p : ℕ) (c : CoordinatorPhase) (r : Row CoordinatorPhase) → onReadOnly (a .transaction) (a .cohort) out p c ≡ some r
     → Does a (takingOut p out) (r .effects)
 unfolding onReadOnly counting
 read-only-done a out p CoordinatorPhase.initial r e = cc
 read-only-done a out p (CoordinatorPhase.collecting w) r e =
-    if-row a (takingOut p out) (not (member p out)) (counting (a .cohort) (takingOut p out) (without p w)) e
+    if-row a (takingOut p out) (not (member p out)) (counting (a .transaction) (a .cohort) (takingOut p out) (without p w)) e
     (voted-done a (takingOut p out) (empty (remaining (a .cohort) (takingOut p out) .members)) (empty (without p w)) (without p w))
 read-only-done a out p (CoordinatorPhase.awaitingAcks o w) r e = cc
 read-only-done a out p CoordinatorPhase.unknown r e = cc
@@ -269,17 +269,17 @@ leaving-done a out (some x) h r e = by r e (h x refl)
 
 -- each row of the coordinator
 pub coordinator-done : (a : Arguments) → a .cohort .members < 256 → (i : Input) (c : Coordinator) → Sender i → waitingSet (c .phase) < 256
-    → (r : Row Coordinator) → coordinatorStep (a .cohort) i c ≡ some r → Does a (r .phase .takenOut) (r .effects)
+    → (r : Row Coordinator) → coordinatorStep (a .transaction) (a .cohort) i c ≡ some r → Does a (r .phase .takenOut) (r .effects)
 unfolding coordinatorStep
-coordinator-done a h begin c q w r e = leaving-done a (c .takenOut) (onBegin (a .cohort) (c .phase)) (begin-done a (c .takenOut) h (c .phase)) r e
+coordinator-done a h begin c q w r e = leaving-done a (c .takenOut) (onBegin (a .transaction) (a .cohort) (c .phase)) (begin-done a (c .takenOut) h (c .phase)) r e
 coordinator-done a h timer c q w r e =
-    leaving-done a (c .takenOut) (coordinatorTimer (a .cohort) (c .takenOut) (c .phase)) (timer-done a (c .takenOut) (c .phase) w) r e
+    leaving-done a (c .takenOut) (coordinatorTimer (a .transaction) (a .cohort) (c .takenOut) (c .phase)) (timer-done a (c .takenOut) (c .phase) w) r e
 coordinator-done a h (received prepare p) c q w r e = cc
 coordinator-done a h (received voteYes p) c q w r e =
-    leaving-done a (c .takenOut) (onYes (a .cohort) (c .takenOut) p (c .phase)) (yes-done a (c .takenOut) p (c .phase) q) r e
-coordinator-done a h (received voteNo p) c q w r e = leaving-done a (c .takenOut) (onNo (a .cohort) (c .takenOut) p (c .phase)) (no-done a (c .takenOut) p (c .phase)) r e
+    leaving-done a (c .takenOut) (onYes (a .transaction) (a .cohort) (c .takenOut) p (c .phase)) (yes-done a (c .takenOut) p (c .phase) q) r e
+coordinator-done a h (received voteNo p) c q w r e = leaving-done a (c .takenOut) (onNo (a .transaction) (a .cohort) (c .takenOut) p (c .phase)) (no-done a (c .takenOut) p (c .phase)) r e
 coordinator-done a h (received readOnly p) c q w r e =
-    leaving-done a (takingOut p (c .takenOut)) (onReadOnly (a .cohort) (c .takenOut) p (c .phase)) (read-only-done a (c .takenOut) p (c .phase)) r e
+    leaving-done a (takingOut p (c .takenOut)) (onReadOnly (a .transaction) (a .cohort) (c .takenOut) p (c .phase)) (read-only-done a (c .takenOut) p (c .phase)) r e
 coordinator-done a h (received (tell o) p) c q w r e = cc
 coordinator-done a h (received (ack o) p) c q w r e = leaving-done a (c .takenOut) (onAck o p (c .phase)) (ack-done a (c .takenOut) o p (c .phase)) r e
 

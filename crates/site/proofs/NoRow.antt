@@ -17,8 +17,8 @@ use Rattle.site.specs.declared.phases.ParticipantPhase.the-variants as p
 use Rattle.site.proofs.phases.CoordinatorPhase.{the-type}
 use Rattle.site.proofs.phases.ParticipantPhase as participant-phase
 
-module _ (g : Cohort) where
-  pub no-begin : (x : CoordinatorPhase) → OneOf (1 ∷ 2 ∷ 3 ∷ 4 ∷ []) (tagOf the-type x) → onBegin g (coordinatorIn x) ≡ none
+module _ (t : ℕ) (g : Cohort) where
+  pub no-begin : (x : CoordinatorPhase) → OneOf (1 ∷ 2 ∷ 3 ∷ 4 ∷ []) (tagOf the-type x) → onBegin t g (coordinatorIn x) ≡ none
   unfolding onBegin
   no-begin Open k = absurd (miss (1 ∷ 2 ∷ 3 ∷ 4 ∷ []) 0 tt k)
   no-begin (Collecting w) k = refl
@@ -26,7 +26,7 @@ module _ (g : Cohort) where
   no-begin (Aborting w) k = refl
   no-begin Unknown k = refl
 
-  pub no-no : (out p : ℕ) (x : CoordinatorPhase) → OneOf (0 ∷ 2 ∷ 3 ∷ 4 ∷ []) (tagOf the-type x) → onNo g out p (coordinatorIn x) ≡ none
+  pub no-no : (out p : ℕ) (x : CoordinatorPhase) → OneOf (0 ∷ 2 ∷ 3 ∷ 4 ∷ []) (tagOf the-type x) → onNo t g out p (coordinatorIn x) ≡ none
   unfolding onNo
   no-no out p Open k = refl
   no-no out p (Collecting w) k = absurd (miss (0 ∷ 2 ∷ 3 ∷ 4 ∷ []) 1 tt k)
@@ -34,7 +34,7 @@ module _ (g : Cohort) where
   no-no out p (Aborting w) k = refl
   no-no out p Unknown k = refl
 
-  pub no-read-only : (out p : ℕ) (x : CoordinatorPhase) → OneOf (0 ∷ 2 ∷ 3 ∷ 4 ∷ []) (tagOf the-type x) → onReadOnly g out p (coordinatorIn x) ≡ none
+  pub no-read-only : (out p : ℕ) (x : CoordinatorPhase) → OneOf (0 ∷ 2 ∷ 3 ∷ 4 ∷ []) (tagOf the-type x) → onReadOnly t g out p (coordinatorIn x) ≡ none
   unfolding onReadOnly
   no-read-only out p Open k = refl
   no-read-only out p (Collecting w) k = absurd (miss (0 ∷ 2 ∷ 3 ∷ 4 ∷ []) 1 tt k)
@@ -42,7 +42,7 @@ module _ (g : Cohort) where
   no-read-only out p (Aborting w) k = refl
   no-read-only out p Unknown k = refl
 
-  pub no-timer : (out : ℕ) (x : CoordinatorPhase) → OneOf (0 ∷ 4 ∷ []) (tagOf the-type x) → coordinatorTimer g out (coordinatorIn x) ≡ none
+  pub no-timer : (out : ℕ) (x : CoordinatorPhase) → OneOf (0 ∷ 4 ∷ []) (tagOf the-type x) → coordinatorTimer t g out (coordinatorIn x) ≡ none
   unfolding coordinatorTimer
   no-timer out Open k = refl
   no-timer out (Collecting w) k = absurd (miss (0 ∷ 4 ∷ []) 1 tt k)

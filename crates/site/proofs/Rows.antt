@@ -39,14 +39,14 @@ unfolding closing given lengthOf lengths
 abort-closed b last es (inl h) = rw (h .0, h .1)
 abort-closed b last es (inr h) = rw (h .0, h .1) (sym (append-nil es))
 
-module _ (g : Cohort) where
-  pub tell-one : (o : Outcome) (p : ℕ) → Numbered p → tellAll g o (only p) ≡ send (tell o) p ∷ []
+module _ (t : ℕ) (g : Cohort) where
+  pub tell-one : (o : Outcome) (p : ℕ) → Numbered p → tellAll t g o (only p) ≡ send (tell o) p ∷ []
   unfolding tellAll inOrder
-  tell-one o p h = rw (ordered-one (owing g o) p h)
+  tell-one o p h = rw (ordered-one t (owing g o) p h)
 
   -- at restart an outcome is told to all, or to nobody
   pub tell-if : (o : Outcome) (b : Bool) (to : ℕ) → ((b ≡ true) × (to ≡ g .members)) ⊎ ((b ≡ false) × (to ≡ 0))
-      → tellAll g o to ≡ given b (tellAll g o (g .members))
+      → tellAll t g o to ≡ given b (tellAll t g o (g .members))
   unfolding tellAll inOrder given
   tell-if o b to (inl h) = rw (h .0, h .1)
-  tell-if o b to (inr h) = rw (h .0, h .1, ordered-none (owing g o))
+  tell-if o b to (inr h) = rw (h .0, h .1, ordered-none t (owing g o))

@@ -13,7 +13,7 @@ use Rattle.codec.specs.laws.Tests.{below-at, true-of, same-list}
 use Rattle.codec.specs.laws.Members.{none-in, numbered, member-participant}
 use Rattle.site.specs.Presumption.{commit, abort}
 use Rattle.site.specs.Step.{Message, prepare, voteYes, voteNo, readOnly, tell, ack, messages, messageKind, send, given}
-use Rattle.site.specs.Coordinator.{inTurn, ordered}
+use Rattle.site.specs.Coordinator.{round, inTurn, ordered}
 use Rattle.site.specs.Answers.{sending}
 use Rattle.site.specs.laws.Sets.{Numbered, ordered-none}
 
@@ -29,11 +29,11 @@ unfolding select
 select-all f [] h = refl
 select-all f (n ∷ l) h = rw (h n) (ap (n ∷_) (select-all f l h))
 
-pub ordered-by-turn : (to : ℕ) → ordered 0 to ≡ inTurn to
+pub ordered-by-turn : (t to : ℕ) → ordered t 0 to ≡ inTurn t to
 unfolding ordered
-ordered-by-turn to =
-    ap₂ _++_ (select-none (λ p. member p 0) (inTurn to) none-in)
-    (select-all (λ p. not (member p 0)) (inTurn to) (λ p. ap not (none-in p)))
+ordered-by-turn t to =
+    ap₂ _++_ (select-none (λ p. member p 0) (inTurn t to) none-in)
+    (select-all (λ p. not (member p 0)) (inTurn t to) (λ p. ap not (none-in p)))
 
 one-listed : (i : ℕ) → i < 8 → listed (only (suc i)) ≡ suc i ∷ []
 unfolding same listed select only those bits participants member
@@ -45,9 +45,9 @@ one-alone p h =
     let e : p ≡ suc (p - 1) = omega (arith, h .0) in
     subst (λ (q : ℕ). listed (only q) ≡ q ∷ []) (sym e) (one-listed (p - 1) (omega (arith, h .0, h .1)))
 
-pub ordered-one : (first p : ℕ) → Numbered p → ordered first (only p) ≡ p ∷ []
-unfolding ordered inTurn select
-ordered-one first p h = rw (one-alone p h) (by (member p first) refl)
+pub ordered-one : (t first p : ℕ) → Numbered p → ordered t first (only p) ≡ p ∷ []
+unfolding ordered inTurn round listed select
+ordered-one t first p h = rw (one-alone p h) (by (member p first) refl)
   where
     by : (b : Bool) → member p first ≡ b → (select (λ q. member q first) (p ∷ []) ++ select (λ q. not (member q first)) (p ∷ [])) ≡ p ∷ []
     by true e = rw e refl
@@ -71,21 +71,21 @@ kind-known (tell abort) = (refl, refl)
 kind-known (ack commit) = (refl, refl)
 kind-known (ack abort) = (refl, refl)
 
-pub sending-kind : (m : Message) (first to : ℕ) → sending (messageKind m) first to ≡ map (send m) (ordered first to)
+pub sending-kind : (t : ℕ) (m : Message) (first to : ℕ) → sending t (messageKind m) first to ≡ map (send m) (ordered t first to)
 unfolding sending given
-sending-kind m first to = rw (kind-known m .0, kind-known m .1)
+sending-kind t m first to = rw (kind-known m .0, kind-known m .1)
 
 -- ---- a participant's own message
 
-pub own-sent : (m : Message) (p : ℕ) → Numbered p → sending (messageKind m) 0 (only p) ≡ send m p ∷ []
-own-sent m p h = sending-kind m 0 (only p) ∙ ap (map (send m)) (ordered-one 0 p h)
+pub own-sent : (t : ℕ) (m : Message) (p : ℕ) → Numbered p → sending t (messageKind m) 0 (only p) ≡ send m p ∷ []
+own-sent t m p h = sending-kind t m 0 (only p) ∙ ap (map (send m)) (ordered-one t 0 p h)
 
-pub own-sent-if : (m : Message) (p : ℕ) (b : Bool) → Numbered p → sending (messageKind m) 0 (cond b (only p) 0) ≡ given b (send m p ∷ [])
+pub own-sent-if : (t : ℕ) (m : Message) (p : ℕ) (b : Bool) → Numbered p → sending t (messageKind m) 0 (cond b (only p) 0) ≡ given b (send m p ∷ [])
 unfolding given
-own-sent-if m p true h = own-sent m p h
-own-sent-if m p false h = sending-kind m 0 0 ∙ ap (map (send m)) (ordered-none 0)
+own-sent-if t m p true h = own-sent t m p h
+own-sent-if t m p false h = sending-kind t m 0 0 ∙ ap (map (send m)) (ordered-none t 0)
 
 -- by its number
-pub number-sent : (kind p : ℕ) → kind ≤ 7 → Numbered p → sending kind 0 (only p) ≡ send (getD messages kind prepare) p ∷ []
+pub number-sent : (t kind p : ℕ) → kind ≤ 7 → Numbered p → sending t kind 0 (only p) ≡ send (getD messages kind prepare) p ∷ []
 unfolding sending given
-number-sent kind p k h = rw (le-leb kind 7 k, ordered-one 0 p h)
+number-sent t kind p k h = rw (le-leb kind 7 k, ordered-one t 0 p h)

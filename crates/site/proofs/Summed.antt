@@ -14,7 +14,7 @@ use Rattle.codec.specs.Sets.{participants, member, listed}
 use Rattle.codec.specs.laws.Tests.{below-at}
 use Rattle.site.specs.Presumption.{Outcome, commit, abort}
 use Rattle.site.specs.Step.{Message, prepare, messages, messageKind, Effect, append, force, enter, send, given}
-use Rattle.site.specs.Coordinator.{inTurn, ordered}
+use Rattle.site.specs.Coordinator.{round, inTurn, ordered}
 use Rattle.site.specs.Numbers.{appending, Summary, outcomeNumber, summaryBehind, summaryFrom, summary, entryOf, rowValues, rowRead}
 use Rattle.site.specs.Answers.{fieldsBy, sending, effectsIn}
 use Rattle.site.specs.laws.Parts.{five}
@@ -51,9 +51,9 @@ weight-listed : (to : ℕ) → to < 256 → weight (listed to) ≡ to
 unfolding listed select participants member
 weight-listed to h = eqb→eq _ _ (below-at 256 (λ to. eqb (weight (listed to)) to) tt to h)
 
-pub weight-ordered : (first to : ℕ) → to < 256 → weight (ordered first to) ≡ to
-unfolding ordered inTurn
-weight-ordered first to h =
+pub weight-ordered : (t first to : ℕ) → to < 256 → weight (ordered t first to) ≡ to
+unfolding ordered inTurn round listed
+weight-ordered t first to h =
     weight-both (select (λ p. member p first) (listed to)) (select (λ p. not (member p first)) (listed to))
     ∙ weight-split (λ p. member p first) (listed to)
     ∙ weight-listed to h
@@ -127,14 +127,14 @@ abbrev pub sent : ℕ → ℕ → Bool
 sent kind to = not (eqb to 0) && leb kind 7
 
 -- to whom, in order
-abbrev told : ℕ → ℕ → ℕ → List ℕ
-told kind first to = cond (leb kind 7) (ordered first to) []
+abbrev told : ℕ → ℕ → ℕ → ℕ → List ℕ
+told t kind first to = cond (leb kind 7) (ordered t first to) []
 
-sending-told : (kind first to : ℕ) → sending kind first to ≡ map (send (getD messages kind prepare)) (told kind first to)
+sending-told : (t kind first to : ℕ) → sending t kind first to ≡ map (send (getD messages kind prepare)) (told t kind first to)
 unfolding sending given
-sending-told kind first to = by (leb kind 7)
+sending-told t kind first to = by (leb kind 7)
   where
-    by : (b : Bool) → cond b (map (send (getD messages kind prepare)) (ordered first to)) [] ≡ map (send (getD messages kind prepare)) (cond b (ordered first to) [])
+    by : (b : Bool) → cond b (map (send (getD messages kind prepare)) (ordered t first to)) [] ≡ map (send (getD messages kind prepare)) (cond b (ordered t first to) [])
     by true = refl
     by false = refl
 
@@ -144,22 +144,22 @@ listing : (m : Message) (kind to : ℕ) (ps : List ℕ) → messageKind m ≡ ki
 listing m kind to [] k e = rw (sym e) (refl, refl)
 listing m kind to (p ∷ ps) k e = rw (ne-eqb to 0 (λ z. absurd (omega (arith, e, z, pow-pos (p - 1))))) (refl, k)
 
-record Told (kind first to : ℕ) : Type 0 where
-  pub silent : alone 0 false 0 (told kind first to) ≡ not (sent kind to)
-  pub kinds : kindOf (getD messages kind prepare) (told kind first to) ≡ cond (sent kind to) kind 0
-  pub set : weight (told kind first to) ≡ cond (sent kind to) to 0
+record Told (t kind first to : ℕ) : Type 0 where
+  pub silent : alone 0 false 0 (told t kind first to) ≡ not (sent kind to)
+  pub kinds : kindOf (getD messages kind prepare) (told t kind first to) ≡ cond (sent kind to) kind 0
+  pub set : weight (told t kind first to) ≡ cond (sent kind to) to 0
 
-what-told : (kind first to : ℕ) → to < 256 → Told kind first to
-what-told kind first to h = by (leb kind 7) (eqb to 0) refl refl
+what-told : (t kind first to : ℕ) → to < 256 → Told t kind first to
+what-told t kind first to h = by (leb kind 7) (eqb to 0) refl refl
   where
-    by : (b z : Bool) → leb kind 7 ≡ b → eqb to 0 ≡ z → Told kind first to
+    by : (b z : Bool) → leb kind 7 ≡ b → eqb to 0 ≡ z → Told t kind first to
     by true true e d =
-        let w = weight-ordered first to h in
-        let x = listing (getD messages kind prepare) kind to (ordered first to) (message-of kind (omega (arith, leb-true kind 7 e))) w in
+        let w = weight-ordered t first to h in
+        let x = listing (getD messages kind prepare) kind to (ordered t first to) (message-of kind (omega (arith, leb-true kind 7 e))) w in
         record { silent = rw (e, d) (x .0 ∙ d); kinds = rw (e, d) (x .1 ∙ rw d refl); set = rw (e, d) (w ∙ eqb-true to 0 d) }
     by true false e d =
-        let w = weight-ordered first to h in
-        let x = listing (getD messages kind prepare) kind to (ordered first to) (message-of kind (omega (arith, leb-true kind 7 e))) w in
+        let w = weight-ordered t first to h in
+        let x = listing (getD messages kind prepare) kind to (ordered t first to) (message-of kind (omega (arith, leb-true kind 7 e))) w in
         record { silent = rw (e, d) (x .0 ∙ d); kinds = rw (e, d) (x .1 ∙ rw d refl); set = rw (e, d) w }
     by false z e d = record { silent = rw (e, d) (sym (silence z)); kinds = rw (e, d) (sym (nothing z kind)); set = rw (e, d) (sym (nothing z to)) }
       where
@@ -194,8 +194,8 @@ alone-tests zero false zero [] = refl
 abbrev pub onlyLast : Effects → Bool
 onlyLast e = ((eqb (e .appended) 0 && not (e .forced)) && (eqb (e .entered) 0 || not (leb (e .entered) 2))) && not (sent (e .message) (e .to))
 
-pub summed : (e : Effects) → e .to < 256
-    → summary (effectsIn e)
+pub summed : (t : ℕ) (e : Effects) → e .to < 256
+    → summary (effectsIn t e)
     ≡ record {
       first = cond (onlyLast e) (e .last) (e .appended);
       last = cond (onlyLast e) 0 (e .last);
@@ -204,15 +204,15 @@ pub summed : (e : Effects) → e .to < 256
       message = cond (sent (e .message) (e .to)) (e .message) 0;
       to = cond (sent (e .message) (e .to)) (e .to) 0;
     }
-summed e h =
-    let t = what-told (e .message) (e .owing) (e .to) h in
+summed t e h =
+    let w = what-told t (e .message) (e .owing) (e .to) h in
     let n = entry-of (e .entered) in
-    let ps = told (e .message) (e .owing) (e .to) in
+    let ps = told t (e .message) (e .owing) (e .to) in
     let a : alone (e .appended) (e .forced) (outcomeIs (e .entered)) ps ≡ onlyLast e =
-    alone-tests (e .appended) (e .forced) (outcomeIs (e .entered)) ps ∙ rw (n .2, t .silent) refl in
-    ap summary (five e ∙ rw (n .0, sending-told (e .message) (e .owing) (e .to)) refl)
+    alone-tests (e .appended) (e .forced) (outcomeIs (e .entered)) ps ∙ rw (n .2, w .silent) refl in
+    ap summary (five t e ∙ rw (n .0, sending-told t (e .message) (e .owing) (e .to)) refl)
     ∙ sum-row (e .appended) (fieldsBy (e .appended) (e .first) (e .second)) (e .forced) (outcomeIs (e .entered)) (n .1) (getD messages (e .message) prepare) ps (e .last) (fieldsBy (e .last) 0 0)
-    ∙ rw (a, t .kinds, t .set) refl
+    ∙ rw (a, w .kinds, w .set) refl
 
 -- the program looks only where there is a last record
 pub looked-last : (e : Effects) (a : Bool) → ((e .last ≡ 0) × (a ≡ false)) ⊎ (a ≡ onlyLast e)

@@ -65,11 +65,11 @@ cohortIn c = record { members = c .members; presumeCommit = c .«presume_commit�
 unfoldable pub hasKind : ℕ → ℕ → Bool
 hasKind kinds k = eqb (kinds / 2 ^ k % 2) 1
 
--- ---- the effects that a row's numbers stand for, in their order: 0 is none, and what is no outcome or message has no effect.
+-- ---- the effects that a row's numbers stand for in transaction t, in their order: 0 is none, and what is no outcome or message has no effect.
 -- There is no message where the set is empty. The order of sends is the definitions' own, `ordered`: whoever performs a row keeps to it
 
-unfoldable pub sending : ℕ → ℕ → ℕ → List Effect
-sending kind owing to = given (leb kind 7) (map (send (getD messages kind prepare)) (ordered owing to))
+unfoldable pub sending : ℕ → ℕ → ℕ → ℕ → List Effect
+sending t kind owing to = given (leb kind 7) (map (send (getD messages kind prepare)) (ordered t owing to))
 
 -- a record has as many of two fields as its kind
 abbrev pub fieldsBy : ℕ → ℕ → ℕ → List ℕ
@@ -79,31 +79,31 @@ unfoldable pub closing : ℕ → List Effect → List Effect
 closing zero es = es
 closing (suc k) es = es ++ append (suc k) (fieldsBy (suc k) 0 0) ∷ []
 
-unfoldable pub effectsIn : Effects → List Effect
-effectsIn e =
+unfoldable pub effectsIn : ℕ → Effects → List Effect
+effectsIn t e =
     numbers.appending (e .appended) (fieldsBy (e .appended) (e .first) (e .second))
-    ++ (given (e .forced) (force ∷ []) ++ (numbers.entryOf (e .entered) ++ closing (e .last) (sending (e .message) (e .owing) (e .to))))
+    ++ (given (e .forced) (force ∷ []) ++ (numbers.entryOf (e .entered) ++ closing (e .last) (sending t (e .message) (e .owing) (e .to))))
 
 abbrev pub summaryIn : Summary → numbers.Summary
 summaryIn x = record { first = x .first; last = x .last; forced = x .forced; entered = x .entered; message = x .message; to = x .to }
 
 -- ---- rows and answers
 
-abbrev pub coordinatorRowIn : CoordinatorRow → Row coordinator-step.Coordinator
-coordinatorRowIn r = record { effects = effectsIn (r .effects); phase = record { phase = coordinatorIn (r .phase); takenOut = r .«taken_out» } }
+abbrev pub coordinatorRowIn : ℕ → CoordinatorRow → Row coordinator-step.Coordinator
+coordinatorRowIn t r = record { effects = effectsIn t (r .effects); phase = record { phase = coordinatorIn (r .phase); takenOut = r .«taken_out» } }
 
-abbrev pub participantRowIn : ParticipantRow → Row participant-step.ParticipantPhase
-participantRowIn r = record { effects = effectsIn (r .effects); phase = participantIn (r .phase) }
+abbrev pub participantRowIn : ℕ → ParticipantRow → Row participant-step.ParticipantPhase
+participantRowIn t r = record { effects = effectsIn t (r .effects); phase = participantIn (r .phase) }
 
-abbrev pub coordinatorAnswerIn : CoordinatorAnswer → Answer coordinator-step.Coordinator
-coordinatorAnswerIn (coordinator-answer.Row r) = row (coordinatorRowIn r)
-coordinatorAnswerIn coordinator-answer.NoRow = noRow
-coordinatorAnswerIn coordinator-answer.Refused = refused
+abbrev pub coordinatorAnswerIn : ℕ → CoordinatorAnswer → Answer coordinator-step.Coordinator
+coordinatorAnswerIn t (coordinator-answer.Row r) = row (coordinatorRowIn t r)
+coordinatorAnswerIn t coordinator-answer.NoRow = noRow
+coordinatorAnswerIn t coordinator-answer.Refused = refused
 
-abbrev pub participantAnswerIn : ParticipantAnswer → Answer participant-step.ParticipantPhase
-participantAnswerIn (participant-answer.Row r) = row (participantRowIn r)
-participantAnswerIn participant-answer.NoRow = noRow
-participantAnswerIn participant-answer.Refused = refused
+abbrev pub participantAnswerIn : ℕ → ParticipantAnswer → Answer participant-step.ParticipantPhase
+participantAnswerIn t (participant-answer.Row r) = row (participantRowIn t r)
+participantAnswerIn t participant-answer.NoRow = noRow
+participantAnswerIn t participant-answer.Refused = refused
 
 -- ---- the call's arguments
 

@@ -4,7 +4,7 @@ use mathlib.Core.Bool.{Bool, true, false, cond, not, _&&_}
 use mathlib.Core.List.{List, [], _∷_, _++_, map}
 use mathlib.Core.Option.{Option, none, some}
 use Rattle.codec.specs.Lists.{select, onlyIf}
-use Rattle.codec.specs.Sets.{member, empty, listed, only, without, both, either}
+use Rattle.codec.specs.Sets.{participants, member, empty, only, without, both, either}
 use Rattle.site.specs.Presumption.{Outcome, commit, abort, sameOutcome, silence}
 use Rattle.site.specs.Cohort.{Cohort, remaining, masksOf, writesInit, presumptionOf, owing}
 use Rattle.site.specs.Step.{prepare, voteYes, voteNo, readOnly, tell, ack, Input, begin, timer, received, Effect, append, force, enter, send, Row, given}
@@ -34,20 +34,24 @@ untilAcked o w = cond (empty w) unknown (awaitingAcks o w)
 unfoldable pub telling : Outcome → ℕ → CoordinatorPhase → Row CoordinatorPhase
 telling o p c = record { effects = send (tell o) p ∷ []; phase = c }
 
--- the order of sending among ties: the lowest first
-unfoldable pub inTurn : ℕ → List ℕ
-inTurn to = listed to
+-- the order of sending among ties, of transaction t: the lowest first
+unfoldable pub round : ℕ → List ℕ
+round t = participants
+
+-- those of a set, in that order
+unfoldable pub inTurn : ℕ → ℕ → List ℕ
+inTurn t to = select (λ p. member p to) (round t)
 
 -- the order of sending to a set: first those that are in `first`
-unfoldable pub ordered : ℕ → ℕ → List ℕ
-ordered first to = select (λ p. member p first) (inTurn to) ++ select (λ p. not (member p first)) (inTurn to)
+unfoldable pub ordered : ℕ → ℕ → ℕ → List ℕ
+ordered t first to = select (λ p. member p first) (inTurn t to) ++ select (λ p. not (member p first)) (inTurn t to)
 
--- ---- rows from parts, of a cohort: as opened, that remains, or that a record tells
+-- ---- rows from parts, of transaction t and a cohort: as opened, that remains, or that a record tells
 
-module _ (g : Cohort) where
+module _ (t : ℕ) (g : Cohort) where
   -- the order of sending an outcome: first those that owe an ack for it
   unfoldable pub inOrder : Outcome → ℕ → List ℕ
-  inOrder o to = ordered (owing g o) to
+  inOrder o to = ordered t (owing g o) to
 
   unfoldable pub tellAll : Outcome → ℕ → List Effect
   tellAll o to = map (send (tell o)) (inOrder o to)
@@ -56,7 +60,7 @@ module _ (g : Cohort) where
   unfoldable pub preparing : Bool → Row CoordinatorPhase
   preparing init =
       record {
-        effects = given init (append 1 (masksOf g) ∷ force ∷ []) ++ map (send prepare) (inTurn (g .members));
+        effects = given init (append 1 (masksOf g) ∷ force ∷ []) ++ map (send prepare) (inTurn t (g .members));
         phase = collecting (g .members);
       }
 
@@ -81,21 +85,21 @@ module _ (g : Cohort) where
   unfoldable pub resuming : Outcome → Bool → Row CoordinatorPhase
   resuming o tells = record { effects = enter o ∷ given tells (tellAll o (g .members)); phase = untilAcked o (owing g o) }
 
-unfoldable pub onBegin : Cohort → CoordinatorPhase → Option (Row CoordinatorPhase)
-onBegin g initial = some (preparing g (writesInit g))
-onBegin g (collecting w) = none
-onBegin g (awaitingAcks o w) = none
-onBegin g unknown = none
+  unfoldable pub onBegin : CoordinatorPhase → Option (Row CoordinatorPhase)
+  onBegin initial = some (preparing (writesInit g))
+  onBegin (collecting w) = none
+  onBegin (awaitingAcks o w) = none
+  onBegin unknown = none
 
 -- ---- votes and the timer: of the cohort g as opened the set `out` is taken out
 
-module _ (g : Cohort) (out : ℕ) where
+module _ (t : ℕ) (g : Cohort) (out : ℕ) where
   -- ---- Yes and the read-only vote
 
   -- votes of w are missing. Whether nobody remains: nothing is entered, and AbortEnd is appended exactly if Init was. Else whether no vote is missing
   unfoldable pub voted : Bool → Bool → ℕ → Row CoordinatorPhase
   voted true b w = record { effects = given (writesInit g) (append 4 [] ∷ []); phase = unknown }
-  voted false true w = committing (remaining g out)
+  voted false true w = committing t (remaining g out)
   voted false false w = record { effects = []; phase = collecting w }
 
   -- a vote came, and votes of w are still missing
@@ -113,25 +117,25 @@ module _ (g : Cohort) (out : ℕ) where
 
   unfoldable pub onNo : ℕ → CoordinatorPhase → Option (Row CoordinatorPhase)
   onNo p initial = none
-  onNo p (collecting w) = onlyIf (not (member p out)) (aborting (remaining g out) (writesInit g) (without p (remaining g out .members)))
+  onNo p (collecting w) = onlyIf (not (member p out)) (aborting t (remaining g out) (writesInit g) (without p (remaining g out .members)))
   onNo p (awaitingAcks o w) = none
   onNo p unknown = none
 
   unfoldable pub coordinatorTimer : CoordinatorPhase → Option (Row CoordinatorPhase)
   coordinatorTimer initial = none
-  coordinatorTimer (collecting w) = some (aborting (remaining g out) (writesInit g) (remaining g out .members))
-  coordinatorTimer (awaitingAcks o w) = some (record { effects = tellAll g o w; phase = awaitingAcks o w })
+  coordinatorTimer (collecting w) = some (aborting t (remaining g out) (writesInit g) (remaining g out .members))
+  coordinatorTimer (awaitingAcks o w) = some (record { effects = tellAll t g o w; phase = awaitingAcks o w })
   coordinatorTimer unknown = none
 
 -- a read-only vote of p, which is taken out from now on
 unfoldable pub takingOut : ℕ → ℕ → ℕ
 takingOut p out = either out (only p)
 
-unfoldable pub onReadOnly : Cohort → ℕ → ℕ → CoordinatorPhase → Option (Row CoordinatorPhase)
-onReadOnly g out p initial = none
-onReadOnly g out p (collecting w) = onlyIf (not (member p out)) (counting g (takingOut p out) (without p w))
-onReadOnly g out p (awaitingAcks o w) = none
-onReadOnly g out p unknown = none
+unfoldable pub onReadOnly : ℕ → Cohort → ℕ → ℕ → CoordinatorPhase → Option (Row CoordinatorPhase)
+onReadOnly t g out p initial = none
+onReadOnly t g out p (collecting w) = onlyIf (not (member p out)) (counting t g (takingOut p out) (without p w))
+onReadOnly t g out p (awaitingAcks o w) = none
+onReadOnly t g out p unknown = none
 
 -- ---- CommitAck, AbortAck
 
@@ -161,26 +165,26 @@ unfoldable pub leavingIf : ℕ → Option (Row CoordinatorPhase) → Option (Row
 leavingIf out none = none
 leavingIf out (some r) = some (leaving out r)
 
-module _ (g : Cohort) where
+module _ (t : ℕ) (g : Cohort) where
   -- the set taken out stays as it is, but for a read-only vote
   unfoldable pub coordinatorStep : Input → Coordinator → Option (Row Coordinator)
-  coordinatorStep begin c = leavingIf (c .takenOut) (onBegin g (c .phase))
-  coordinatorStep timer c = leavingIf (c .takenOut) (coordinatorTimer g (c .takenOut) (c .phase))
+  coordinatorStep begin c = leavingIf (c .takenOut) (onBegin t g (c .phase))
+  coordinatorStep timer c = leavingIf (c .takenOut) (coordinatorTimer t g (c .takenOut) (c .phase))
   coordinatorStep (received prepare p) c = none
-  coordinatorStep (received voteYes p) c = leavingIf (c .takenOut) (onYes g (c .takenOut) p (c .phase))
-  coordinatorStep (received voteNo p) c = leavingIf (c .takenOut) (onNo g (c .takenOut) p (c .phase))
-  coordinatorStep (received readOnly p) c = leavingIf (takingOut p (c .takenOut)) (onReadOnly g (c .takenOut) p (c .phase))
+  coordinatorStep (received voteYes p) c = leavingIf (c .takenOut) (onYes t g (c .takenOut) p (c .phase))
+  coordinatorStep (received voteNo p) c = leavingIf (c .takenOut) (onNo t g (c .takenOut) p (c .phase))
+  coordinatorStep (received readOnly p) c = leavingIf (takingOut p (c .takenOut)) (onReadOnly t g (c .takenOut) p (c .phase))
   coordinatorStep (received (tell o) p) c = none
   coordinatorStep (received (ack o) p) c = leavingIf (c .takenOut) (onAck o p (c .phase))
 
 -- ---- restart: by the masks of the record, and nobody is taken out
 
 -- whether Commit stands without CommitEnd; whether Init stands without 2 or 4; the cohort that the record of a kind tells
-unfoldable pub restartFrom : Bool → Bool → (ℕ → Cohort) → Row CoordinatorPhase
-restartFrom true i told = resuming (told 2) commit (not (empty (owing (told 2) commit)))
-restartFrom false true told = resuming (told 1) abort true
-restartFrom false false told = record { effects = []; phase = unknown }
+unfoldable pub restartFrom : ℕ → Bool → Bool → (ℕ → Cohort) → Row CoordinatorPhase
+restartFrom t true i told = resuming t (told 2) commit (not (empty (owing (told 2) commit)))
+restartFrom t false true told = resuming t (told 1) abort true
+restartFrom t false false told = record { effects = []; phase = unknown }
 
 -- by the kinds of record that the stable log has of the transaction, and the masks in them
-unfoldable pub coordinatorRestart : (ℕ → Bool) → (ℕ → Cohort) → Row Coordinator
-coordinatorRestart has told = leaving 0 (restartFrom (has 2 && not (has 3)) (has 1 && not (has 2) && not (has 4)) told)
+unfoldable pub coordinatorRestart : ℕ → (ℕ → Bool) → (ℕ → Cohort) → Row Coordinator
+coordinatorRestart t has told = leaving 0 (restartFrom t (has 2 && not (has 3)) (has 1 && not (has 2) && not (has 4)) told)

@@ -11,8 +11,8 @@ use Rattle.site.specs.Participant.{participantStep}
 use Rattle.site.specs.Numbers.{Arguments, participantFrom, inputOf, receives, isMember, inRangeAt, refusal, participantResult, stepAt}
 
 -- an outcome told to a set and nothing else, the phase as it is
-abbrev pub toldTo : Cohort → Outcome → ℕ → CoordinatorPhase → Row CoordinatorPhase
-toldTo g o to c = record { effects = tellAll g o to; phase = c }
+abbrev pub toldTo : ℕ → Cohort → Outcome → ℕ → CoordinatorPhase → Row CoordinatorPhase
+toldTo t g o to c = record { effects = tellAll t g o to; phase = c }
 
 -- the step on numbers at the coordinator, and at participant p, once the other arguments have passed
 unfoldable pub coordinatorNumbers : Arguments → List ℕ

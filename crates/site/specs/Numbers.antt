@@ -54,9 +54,9 @@ unfoldable pub receives : ℕ → ℕ → Bool
 receives s kind = any (eqb kind) (kindsReceived s)
 
 -- the step by the kind's number: refused are a kind that the coordinator never receives, and a message of what is no member
-unfoldable pub coordinatorAnswer : Cohort → ℕ → ℕ → Coordinator → Answer Coordinator
-coordinatorAnswer g kind p c =
-    answerIf (receives 0 kind && (leb 16 kind || member p (g .members))) (coordinatorStep g (inputOf kind p) c)
+unfoldable pub coordinatorAnswer : ℕ → Cohort → ℕ → ℕ → Coordinator → Answer Coordinator
+coordinatorAnswer t g kind p c =
+    answerIf (receives 0 kind && (leb 16 kind || member p (g .members))) (coordinatorStep t g (inputOf kind p) c)
 
 -- refused are a kind that a participant never receives, and what is no participant
 unfoldable pub participantAnswer : Presumption → ℕ → Bool → ℕ → ParticipantPhase → Answer ParticipantPhase
@@ -214,7 +214,7 @@ unfoldable pub stepAt : ℕ → Arguments → List ℕ
 stepAt zero a =
     coordinatorResult (a .phase) (a .waiting) (a .takenOut)
     (answered
-    (coordinatorStep (a .cohort) (inputOf (a .kind) (a .participant))
+    (coordinatorStep (a .transaction) (a .cohort) (inputOf (a .kind) (a .participant))
     (record { phase = coordinatorFrom (a .phase) (a .waiting); takenOut = a .takenOut })))
 stepAt (suc n) a =
     participantResult (a .phase)
@@ -248,7 +248,7 @@ doing a out x =
     appending (x .first) (fieldsOf a out (x .first))
     ++ (given (eqb (x .forced) 1) (force ∷ [])
     ++ (entryOf (x .entered)
-    ++ (map (send (getD messages (x .message) prepare)) (ordered (goFirst (a .cohort) (x .message)) (x .to))
+    ++ (map (send (getD messages (x .message) prepare)) (ordered (a .transaction) (goFirst (a .cohort) (x .message)) (x .to))
     ++ appending (x .last) (fieldsOf a out (x .last)))))
 
 -- the row's numbers, read from the values of a call

@@ -49,7 +49,7 @@ pub enum CoordinatorAnswer {
 
 // Acks of `waiting` are missing; if none is, the end record.
 fn acked(outcome: Outcome, waiting: u8, taken_out: u8) -> CoordinatorRow
-    ensures { λ r. ⌜ coordinatorRowIn r ≡ coordinator.leaving «taken_out» (coordinator.acked (outcomeIn outcome) (sets.empty waiting) waiting) ⌝ }
+    ensures { λ r. ⌜ ((t : ℕ) → coordinatorRowIn t r ≡ coordinator.leaving «taken_out» (coordinator.acked (outcomeIn outcome) (sets.empty waiting) waiting)) ⌝ }
 {
     if waiting == 0 {
         let mut effects = Effects::NONE;
@@ -109,7 +109,7 @@ impl Coordinator {
     }
 
     fn preparing(self) -> CoordinatorRow
-        ensures { λ r. ⌜ coordinatorRowIn r ≡ coordinator.leaving (self .«taken_out») (coordinator.preparing (cohortIn self) (cohort.writesInit (cohortIn self))) ⌝ }
+        ensures { λ r. ⌜ ((t : ℕ) → coordinatorRowIn t r ≡ coordinator.leaving (self .«taken_out») (coordinator.preparing t (cohortIn self) (cohort.writesInit (cohortIn self)))) ⌝ }
     {
         let members = self.members;
         let forced = self.writes_init();
@@ -132,7 +132,7 @@ impl Coordinator {
 
     // All have voted Yes.
     fn committing(self) -> CoordinatorRow
-        ensures { λ r. ⌜ coordinatorRowIn r ≡ coordinator.leaving (self .«taken_out») (coordinator.committing (cohortIn self)) ⌝ }
+        ensures { λ r. ⌜ ((t : ℕ) → coordinatorRowIn t r ≡ coordinator.leaving (self .«taken_out») (coordinator.committing t (cohortIn self))) ⌝ }
     {
         let awaited = self.owing(Outcome::Commit);
         CoordinatorRow {
@@ -154,7 +154,7 @@ impl Coordinator {
 
     // Nobody remains: nothing is entered, and AbortEnd is appended exactly if Init was.
     fn deserted(self) -> CoordinatorRow
-        ensures { λ r. ⌜ coordinatorRowIn r ≡ coordinator.leaving (self .«taken_out») (coordinator.voted (cohortIn self) (self .«taken_out») true true 0) ⌝ }
+        ensures { λ r. ⌜ ((t : ℕ) → coordinatorRowIn t r ≡ coordinator.leaving (self .«taken_out») (coordinator.voted t (cohortIn self) (self .«taken_out») true true 0)) ⌝ }
     {
         let mut effects = Effects::NONE;
         effects.appended = if self.writes_init() {
@@ -171,7 +171,7 @@ impl Coordinator {
 
     // A vote came, and votes of `waiting` are still missing.
     fn counting(self, waiting: u8) -> CoordinatorRow
-        ensures { λ r. ⌜ coordinatorRowIn r ≡ coordinator.leaving (self .«taken_out») (coordinator.counting (cohortIn self) (self .«taken_out») waiting) ⌝ }
+        ensures { λ r. ⌜ ((t : ℕ) → coordinatorRowIn t r ≡ coordinator.leaving (self .«taken_out») (coordinator.counting t (cohortIn self) (self .«taken_out») waiting)) ⌝ }
     {
         let rest = self.remaining();
         if rest.members == 0 {
@@ -189,7 +189,7 @@ impl Coordinator {
 
     // Abort, told to the set `to`; whether Init was written.
     fn aborting(self, init: bool, to: u8) -> CoordinatorRow
-        ensures { λ r. ⌜ coordinatorRowIn r ≡ coordinator.leaving (self .«taken_out») (coordinator.aborting (cohortIn self) init to) ⌝ }
+        ensures { λ r. ⌜ ((t : ℕ) → coordinatorRowIn t r ≡ coordinator.leaving (self .«taken_out») (coordinator.aborting t (cohortIn self) init to)) ⌝ }
     {
         let owing = self.owing(Outcome::Abort);
         let waiting = both(to, owing);
@@ -213,7 +213,7 @@ impl Coordinator {
 
     // An outcome told to a set, those first that owe an ack for it, and nothing else; the phase stays.
     fn telling(self, outcome: Outcome, to: u8) -> CoordinatorRow
-        ensures { λ r. ⌜ coordinatorRowIn r ≡ coordinator.leaving (self .«taken_out») (toldTo (cohortIn self) (outcomeIn outcome) to (coordinatorIn (self .phase))) ⌝ }
+        ensures { λ r. ⌜ ((t : ℕ) → coordinatorRowIn t r ≡ coordinator.leaving (self .«taken_out») (toldTo t (cohortIn self) (outcomeIn outcome) to (coordinatorIn (self .phase)))) ⌝ }
     {
         let mut effects = Effects::NONE;
         effects.message = outcome.message();
@@ -228,7 +228,7 @@ impl Coordinator {
     }
 
     fn on_begin(self) -> CoordinatorAnswer
-        ensures { λ r. ⌜ coordinatorAnswerIn r ≡ answered (coordinator.leavingIf (self .«taken_out») (coordinator.onBegin (cohortIn self) (coordinatorIn (self .phase)))) ⌝ }
+        ensures { λ r. ⌜ ((t : ℕ) → coordinatorAnswerIn t r ≡ answered (coordinator.leavingIf (self .«taken_out») (coordinator.onBegin t (cohortIn self) (coordinatorIn (self .phase))))) ⌝ }
     {
         let phase = self.phase;
         match phase {
@@ -239,7 +239,7 @@ impl Coordinator {
 
     fn on_yes(self, participant: u8) -> CoordinatorAnswer
         requires { ⌜ sets.member participant (self .members) ≡ true ⌝ }
-        ensures { λ r. ⌜ coordinatorAnswerIn r ≡ answered (coordinator.leavingIf (self .«taken_out») (coordinator.onYes (cohortIn self) (self .«taken_out») participant (coordinatorIn (self .phase)))) ⌝ }
+        ensures { λ r. ⌜ ((t : ℕ) → coordinatorAnswerIn t r ≡ answered (coordinator.leavingIf (self .«taken_out») (coordinator.onYes t (cohortIn self) (self .«taken_out») participant (coordinatorIn (self .phase))))) ⌝ }
     {
         let phase = self.phase;
         match phase {
@@ -266,7 +266,7 @@ impl Coordinator {
     }
 
     fn on_no(self, participant: u8) -> CoordinatorAnswer
-        ensures { λ r. ⌜ coordinatorAnswerIn r ≡ answered (coordinator.leavingIf (self .«taken_out») (coordinator.onNo (cohortIn self) (self .«taken_out») participant (coordinatorIn (self .phase)))) ⌝ }
+        ensures { λ r. ⌜ ((t : ℕ) → coordinatorAnswerIn t r ≡ answered (coordinator.leavingIf (self .«taken_out») (coordinator.onNo t (cohortIn self) (self .«taken_out») participant (coordinatorIn (self .phase))))) ⌝ }
     {
         let phase = self.phase;
         match phase {
@@ -284,7 +284,7 @@ impl Coordinator {
 
     // The participant is taken out.
     fn on_read_only(self, participant: u8) -> CoordinatorAnswer
-        ensures { λ r. ⌜ coordinatorAnswerIn r ≡ answered (coordinator.leavingIf (coordinator.takingOut participant (self .«taken_out»)) (coordinator.onReadOnly (cohortIn self) (self .«taken_out») participant (coordinatorIn (self .phase)))) ⌝ }
+        ensures { λ r. ⌜ ((t : ℕ) → coordinatorAnswerIn t r ≡ answered (coordinator.leavingIf (coordinator.takingOut participant (self .«taken_out»)) (coordinator.onReadOnly t (cohortIn self) (self .«taken_out») participant (coordinatorIn (self .phase))))) ⌝ }
     {
         let phase = self.phase;
         match phase {
@@ -305,7 +305,7 @@ impl Coordinator {
     }
 
     fn on_timer(self) -> CoordinatorAnswer
-        ensures { λ r. ⌜ coordinatorAnswerIn r ≡ answered (coordinator.leavingIf (self .«taken_out») (coordinator.coordinatorTimer (cohortIn self) (self .«taken_out») (coordinatorIn (self .phase)))) ⌝ }
+        ensures { λ r. ⌜ ((t : ℕ) → coordinatorAnswerIn t r ≡ answered (coordinator.leavingIf (self .«taken_out») (coordinator.coordinatorTimer t (cohortIn self) (self .«taken_out») (coordinatorIn (self .phase))))) ⌝ }
     {
         let phase = self.phase;
         match phase {
@@ -326,7 +326,7 @@ impl Coordinator {
     }
 
     fn on_ack(self, outcome: Outcome, participant: u8) -> CoordinatorAnswer
-        ensures { λ r. ⌜ coordinatorAnswerIn r ≡ answered (coordinator.leavingIf (self .«taken_out») (coordinator.onAck (outcomeIn outcome) participant (coordinatorIn (self .phase)))) ⌝ }
+        ensures { λ r. ⌜ ((t : ℕ) → coordinatorAnswerIn t r ≡ answered (coordinator.leavingIf (self .«taken_out») (coordinator.onAck (outcomeIn outcome) participant (coordinatorIn (self .phase))))) ⌝ }
     {
         let phase = self.phase;
         match outcome {
@@ -352,7 +352,7 @@ impl Coordinator {
     // A message: one of what is no member, or of a kind that the coordinator never receives, is refused.
     pub(crate) fn on_message(self, kind: u8, participant: u8) -> CoordinatorAnswer
         requires { ⌜ kind < 16 ⌝ }
-        ensures { λ r. ⌜ coordinatorAnswerIn r ≡ coordinatorAnswer (cohortIn self) kind participant (coordinatorStateIn self) ⌝ }
+        ensures { λ r. ⌜ ((t : ℕ) → coordinatorAnswerIn t r ≡ coordinatorAnswer t (cohortIn self) kind participant (coordinatorStateIn self)) ⌝ }
     {
         if !member(participant, self.members) {
             return CoordinatorAnswer::Refused;
@@ -370,7 +370,7 @@ impl Coordinator {
     // Begin and the timer, which are no message.
     pub(crate) fn on_own(self, kind: u8) -> CoordinatorAnswer
         requires { ⌜ 16 ≤ kind ⌝ }
-        ensures { λ r. ⌜ ((p : ℕ) → coordinatorAnswerIn r ≡ coordinatorAnswer (cohortIn self) kind p (coordinatorStateIn self)) ⌝ }
+        ensures { λ r. ⌜ ((t p : ℕ) → coordinatorAnswerIn t r ≡ coordinatorAnswer t (cohortIn self) kind p (coordinatorStateIn self)) ⌝ }
     {
         match kind {
             BEGIN => self.on_begin(),
@@ -381,7 +381,7 @@ impl Coordinator {
 
     // The step by the kind's number: a kind that the coordinator never receives, and a message of what is no member, is refused.
     pub fn step(self, kind: u8, participant: u8) -> CoordinatorAnswer
-        ensures { λ r. ⌜ coordinatorAnswerIn r ≡ coordinatorAnswer (cohortIn self) kind participant (coordinatorStateIn self) ⌝ }
+        ensures { λ r. ⌜ ((t : ℕ) → coordinatorAnswerIn t r ≡ coordinatorAnswer t (cohortIn self) kind participant (coordinatorStateIn self)) ⌝ }
     {
         if kind < BEGIN {
             return self.on_message(kind, participant);
@@ -391,7 +391,7 @@ impl Coordinator {
 
     // At restart: an outcome entered again; whether it is told to all.
     fn resuming(self, outcome: Outcome, tells: bool) -> CoordinatorRow
-        ensures { λ r. ⌜ coordinatorRowIn r ≡ coordinator.leaving 0 (coordinator.resuming (cohortIn self) (outcomeIn outcome) tells) ⌝ }
+        ensures { λ r. ⌜ ((t : ℕ) → coordinatorRowIn t r ≡ coordinator.leaving 0 (coordinator.resuming t (cohortIn self) (outcomeIn outcome) tells)) ⌝ }
     {
         let owing = self.owing(outcome);
         let mut effects = Effects::NONE;
@@ -409,7 +409,7 @@ impl Coordinator {
     // From the kinds of record that the stable log has of the transaction, bit k for kind k. The masks are those of the record from which
     // it resumes: of Commit where there is one, else of Init. Phase and set taken out are not looked at.
     pub fn restart(self, records: u16) -> CoordinatorRow
-        ensures { λ r. ⌜ coordinatorRowIn r ≡ coordinator.coordinatorRestart (hasKind records) (λ k. cohortIn self) ⌝ }
+        ensures { λ r. ⌜ ((t : ℕ) → coordinatorRowIn t r ≡ coordinator.coordinatorRestart t (hasKind records) (λ k. cohortIn self)) ⌝ }
     {
         let init = has(records, Record::INIT);
         let commit = has(records, Record::COMMIT);

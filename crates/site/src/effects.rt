@@ -7,7 +7,7 @@ use codec::sets::minus;
 use codec::sets::size;
 ghost use mathlib.Core.Path.{_≡_};
 ghost use mathlib.Core.Bool.{cond};
-ghost use Prim.Native.Nat.{_-_, _≤_};
+ghost use Prim.Native.Nat.{ℕ, _-_, _≤_};
 ghost use lib.ListN.{length, take};
 ghost use Rattle.site.specs.Coordinator.{ordered};
 ghost use Rattle.site.specs.Numbers.{summary, entryOf};
@@ -72,7 +72,7 @@ impl Effects {
 
     // How many messages it sends.
     pub fn sends(self) -> u8
-        ensures { λ r. ⌜ (r ≡ length (sending (self .message) (self .owing) (self .to))) × (r ≤ 8) ⌝ }
+        ensures { λ r. ⌜ ((t : ℕ) → r ≡ length (sending t (self .message) (self .owing) (self .to))) × (r ≤ 8) ⌝ }
     {
         if Parts::LAST_KIND < self.message {
             return 0;
@@ -82,7 +82,7 @@ impl Effects {
 
     // How many effects it has.
     pub fn count(self) -> u8
-        ensures { λ r. ⌜ r ≡ length (effectsIn self) ⌝ }
+        ensures { λ r. ⌜ ((t : ℕ) → r ≡ length (effectsIn t self)) ⌝ }
     {
         let appends = one_if(self.appended != 0);
         let forces = one_if(self.forced);
@@ -93,7 +93,7 @@ impl Effects {
 
     // The first `most` effects of it.
     pub fn cut(self, most: u8) -> Effects
-        ensures { λ r. ⌜ effectsIn r ≡ take most (effectsIn self) ⌝ }
+        ensures { λ r. ⌜ ((t : ℕ) → effectsIn t r ≡ take most (effectsIn t self)) ⌝ }
     {
         let forces = less(most, one_if(self.appended != 0));
         let enters = less(forces, one_if(self.forced));
@@ -113,7 +113,7 @@ impl Effects {
     }
 
     pub fn summary(self) -> Summary
-        ensures { λ r. ⌜ summaryIn r ≡ summary (effectsIn self) ⌝ }
+        ensures { λ r. ⌜ ((t : ℕ) → summaryIn r ≡ summary (effectsIn t self)) ⌝ }
     {
         let to = self.to;
         let enters = self.entered <= Effects::ABORT_ENTERED;
@@ -181,7 +181,7 @@ fn entries(entered: u8) -> u8
 
 // Of a set the first `most` in the order of sends: those that owe go first.
 fn first_sent(owing: u8, to: u8, most: u8) -> u8
-    ensures { λ r. ⌜ ordered owing r ≡ take most (ordered owing to) ⌝ }
+    ensures { λ r. ⌜ ((t : ℕ) → ordered t owing r ≡ take most (ordered t owing to)) ⌝ }
 {
     let first = both(to, owing);
     let a = lowest(first, most);

@@ -15,7 +15,7 @@ use codec::sets::member;
 use codec::sets::part;
 ghost use mathlib.Core.Path.{_≡_};
 ghost use mathlib.Core.List.{[], _∷_};
-ghost use Prim.Native.Nat.{_+_, _*_, _≤_};
+ghost use Prim.Native.Nat.{ℕ, _+_, _*_, _≤_};
 ghost use Rattle.site.specs.Numbers as numbers;
 ghost use Rattle.site.specs.Answers.{cohortIn, coordinatorAnswerIn, participantAnswerIn, argumentsIn};
 ghost use Rattle.site.specs.Inside.{coordinatorNumbers, participantNumbers};
@@ -39,7 +39,7 @@ fn packed(phase: u8, waiting: u8, taken_out: u8, row: Summary) -> u64
 
 // The numbers of a step's answer; where there is no row, with the phase, the waiting set and the set taken out that are given.
 pub fn coordinator_result(answer: CoordinatorAnswer, phase: u8, waiting: u8, taken_out: u8) -> u64
-    ensures { λ r. ⌜ r ≡ numbers.packed (numbers.coordinatorResult phase waiting «taken_out» (coordinatorAnswerIn answer)) ⌝ }
+    ensures { λ r. ⌜ ((t : ℕ) → r ≡ numbers.packed (numbers.coordinatorResult phase waiting «taken_out» (coordinatorAnswerIn t answer))) ⌝ }
 {
     match answer {
         CoordinatorAnswer::Refused => REFUSED,
@@ -58,7 +58,7 @@ pub fn coordinator_result(answer: CoordinatorAnswer, phase: u8, waiting: u8, tak
 }
 
 pub fn participant_result(answer: ParticipantAnswer, phase: u8) -> u64
-    ensures { λ r. ⌜ r ≡ numbers.packed (numbers.participantResult phase (participantAnswerIn answer)) ⌝ }
+    ensures { λ r. ⌜ ((t : ℕ) → r ≡ numbers.packed (numbers.participantResult phase (participantAnswerIn t answer))) ⌝ }
 {
     match answer {
         ParticipantAnswer::Refused => REFUSED,
@@ -108,7 +108,7 @@ fn coordinator_step(
     mark: u8,
     taken_out: u8,
 ) -> u64
-    ensures { λ r. ⌜ r ≡ numbers.packed (coordinatorNumbers (argumentsIn 0 kind 0 participant presumption phase waiting members «presume_commit» mark «taken_out»)) ⌝ }
+    ensures { λ r. ⌜ ((t : ℕ) → r ≡ numbers.packed (coordinatorNumbers (argumentsIn 0 kind t participant presumption phase waiting members «presume_commit» mark «taken_out»))) ⌝ }
 {
     let coordinator = Coordinator {
         phase: CoordinatorPhase::from_numbers(phase, waiting),

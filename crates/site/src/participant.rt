@@ -10,7 +10,7 @@ use codec::record::Record;
 use codec::sets::only;
 ghost use mathlib.Core.Path.{_≡_};
 ghost use mathlib.Core.Bool.{cond};
-ghost use Prim.Native.Nat.{_≤_};
+ghost use Prim.Native.Nat.{ℕ, _≤_};
 ghost use lib.ListN.{getD};
 ghost use Rattle.codec.specs.Sets.{only};
 ghost use Rattle.site.specs.Presumption.{acks};
@@ -54,7 +54,7 @@ impl Participant {
     // A vote sent, and nothing else.
     fn voting(self, phase: ParticipantPhase, vote: u8) -> ParticipantRow
         requires { ⌜ Numbered (self .number) × (vote ≤ 7) ⌝ }
-        ensures { λ r. ⌜ participantRowIn r ≡ participant.voting (presumptionIn (self .presumption)) (self .number) (participantIn phase) (getD messages vote prepare) ⌝ }
+        ensures { λ r. ⌜ ((t : ℕ) → participantRowIn t r ≡ participant.voting (presumptionIn (self .presumption)) (self .number) (participantIn phase) (getD messages vote prepare)) ⌝ }
     {
         let mut effects = Effects::NONE;
         effects.message = vote;
@@ -68,7 +68,7 @@ impl Participant {
     // Prepared: from now on only the coordinator can tell the outcome.
     fn promising(self) -> ParticipantRow
         requires { ⌜ Numbered (self .number) ⌝ }
-        ensures { λ r. ⌜ participantRowIn r ≡ participant.promising (presumptionIn (self .presumption)) (self .number) ⌝ }
+        ensures { λ r. ⌜ ((t : ℕ) → participantRowIn t r ≡ participant.promising (presumptionIn (self .presumption)) (self .number)) ⌝ }
     {
         let presumption = self.presumption;
         ParticipantRow {
@@ -90,7 +90,7 @@ impl Participant {
     // One that only looked sends a read-only vote, writes nothing and is Unknown.
     fn first_vote(self) -> ParticipantRow
         requires { ⌜ Numbered (self .number) ⌝ }
-        ensures { λ r. ⌜ participantRowIn r ≡ participant.firstVote (presumptionIn (self .presumption)) (self .number) (self .marked) ⌝ }
+        ensures { λ r. ⌜ ((t : ℕ) → participantRowIn t r ≡ participant.firstVote (presumptionIn (self .presumption)) (self .number) (self .marked)) ⌝ }
     {
         if self.marked {
             return self.voting(ParticipantPhase::Unknown, Parts::READ_ONLY);
@@ -101,7 +101,7 @@ impl Participant {
     // An outcome that is not new: the phase stays.
     fn acknowledging(self, outcome: Outcome) -> ParticipantRow
         requires { ⌜ Numbered (self .number) ⌝ }
-        ensures { λ r. ⌜ participantRowIn r ≡ participant.acknowledging (presumptionIn (self .presumption)) (self .number) (outcomeIn outcome) (participantIn (self .phase)) ⌝ }
+        ensures { λ r. ⌜ ((t : ℕ) → participantRowIn t r ≡ participant.acknowledging (presumptionIn (self .presumption)) (self .number) (outcomeIn outcome) (participantIn (self .phase))) ⌝ }
     {
         let presumption = self.presumption;
         let mut effects = Effects::NONE;
@@ -117,7 +117,7 @@ impl Participant {
     // The outcome is new.
     fn finish(self, outcome: Outcome) -> ParticipantRow
         requires { ⌜ Numbered (self .number) ⌝ }
-        ensures { λ r. ⌜ participantRowIn r ≡ participant.finish (presumptionIn (self .presumption)) (self .number) (acks (presumptionIn (self .presumption)) (outcomeIn outcome)) (outcomeIn outcome) ⌝ }
+        ensures { λ r. ⌜ ((t : ℕ) → participantRowIn t r ≡ participant.finish (presumptionIn (self .presumption)) (self .number) (acks (presumptionIn (self .presumption)) (outcomeIn outcome)) (outcomeIn outcome)) ⌝ }
     {
         let presumption = self.presumption;
         let acks = presumption.acks(outcome);
@@ -139,7 +139,7 @@ impl Participant {
 
     fn on_prepare(self) -> ParticipantAnswer
         requires { ⌜ Numbered (self .number) ⌝ }
-        ensures { λ r. ⌜ participantAnswerIn r ≡ answered (participant.onPrepare (presumptionIn (self .presumption)) (self .number) (self .marked) (participantIn (self .phase))) ⌝ }
+        ensures { λ r. ⌜ ((t : ℕ) → participantAnswerIn t r ≡ answered (participant.onPrepare (presumptionIn (self .presumption)) (self .number) (self .marked) (participantIn (self .phase)))) ⌝ }
     {
         let phase = self.phase;
         match phase {
@@ -153,7 +153,7 @@ impl Participant {
 
     fn on_tell(self, outcome: Outcome) -> ParticipantAnswer
         requires { ⌜ Numbered (self .number) ⌝ }
-        ensures { λ r. ⌜ participantAnswerIn r ≡ answered (participant.onTell (presumptionIn (self .presumption)) (self .number) (outcomeIn outcome) (participantIn (self .phase))) ⌝ }
+        ensures { λ r. ⌜ ((t : ℕ) → participantAnswerIn t r ≡ answered (participant.onTell (presumptionIn (self .presumption)) (self .number) (outcomeIn outcome) (participantIn (self .phase)))) ⌝ }
     {
         let phase = self.phase;
         match phase {
@@ -176,7 +176,7 @@ impl Participant {
 
     fn on_timer(self) -> ParticipantAnswer
         requires { ⌜ Numbered (self .number) ⌝ }
-        ensures { λ r. ⌜ participantAnswerIn r ≡ answered (participant.participantTimer (presumptionIn (self .presumption)) (self .number) (participantIn (self .phase))) ⌝ }
+        ensures { λ r. ⌜ ((t : ℕ) → participantAnswerIn t r ≡ answered (participant.participantTimer (presumptionIn (self .presumption)) (self .number) (participantIn (self .phase)))) ⌝ }
     {
         let phase = self.phase;
         match phase {
@@ -195,7 +195,7 @@ impl Participant {
 
     // The step by the kind's number: a kind that a participant never receives, and what is no participant, is refused.
     pub fn step(self, kind: u8) -> ParticipantAnswer
-        ensures { λ r. ⌜ participantAnswerIn r ≡ participantAnswer (presumptionIn (self .presumption)) (self .number) (self .marked) kind (participantIn (self .phase)) ⌝ }
+        ensures { λ r. ⌜ ((t : ℕ) → participantAnswerIn t r ≡ participantAnswer (presumptionIn (self .presumption)) (self .number) (self .marked) kind (participantIn (self .phase))) ⌝ }
     {
         let number = self.number;
         if (number < 1) | (Parts::LAST_PARTICIPANT < number) {
@@ -212,7 +212,7 @@ impl Participant {
 
     // From the kinds of record that the stable log has of the transaction, bit k for kind k; what is no participant is refused.
     pub fn restart(self, records: u16) -> ParticipantAnswer
-        ensures { λ r. ⌜ participantAnswerIn r ≡ participantRestarted (presumptionIn (self .presumption)) (self .number) (hasKind records) ⌝ }
+        ensures { λ r. ⌜ ((t : ℕ) → participantAnswerIn t r ≡ participantRestarted (presumptionIn (self .presumption)) (self .number) (hasKind records)) ⌝ }
     {
         let number = self.number;
         if (number < 1) | (Parts::LAST_PARTICIPANT < number) {

@@ -25,9 +25,9 @@ pub const NO_ROW: u64 = 0xFF00;
 // A row without effects, and Unknown.
 pub const UNKNOWN: u64 = 0x0400;
 
-// The coordinator restarts from kinds of record, bit k for kind k, by the masks of a record.
+// The coordinator restarts transaction 0 from kinds of record, bit k for kind k, by the masks of a record.
 pub fn coordinator_restart(members: u8, presume_commit: u8, kinds: u16) -> u64
-    ensures { λ r. ⌜ r ≡ numbers.packed (numbers.coordinatorResult 255 0 0 (row (coordinatorRestart (hasKind kinds) (λ k. record { members = members; presumeCommit = «presume_commit» })))) ⌝ }
+    ensures { λ r. ⌜ r ≡ numbers.packed (numbers.coordinatorResult 255 0 0 (row (coordinatorRestart 0 (hasKind kinds) (λ k. record { members = members; presumeCommit = «presume_commit» })))) ⌝ }
 {
     let coordinator = Coordinator {
         phase: CoordinatorPhase::Unknown,
@@ -57,7 +57,7 @@ pub fn participant_restart(number: u8, presumption: Presumption, kinds: u16) -> 
 
 // A step of the coordinator of members 1, 2 and 3, of which 2 presumes commit and some are taken out.
 pub fn coordinator_step(phase: CoordinatorPhase, taken_out: u8, kind: u8, participant: u8) -> u64
-    ensures { λ r. ⌜ r ≡ numbers.packed (numbers.coordinatorResult 255 0 0 (numbers.coordinatorAnswer (record { members = 7; presumeCommit = 2 }) kind participant (record { phase = coordinatorIn phase; takenOut = «taken_out» }))) ⌝ }
+    ensures { λ r. ⌜ r ≡ numbers.packed (numbers.coordinatorResult 255 0 0 (numbers.coordinatorAnswer 0 (record { members = 7; presumeCommit = 2 }) kind participant (record { phase = coordinatorIn phase; takenOut = «taken_out» }))) ⌝ }
 {
     let coordinator = Coordinator {
         phase: phase,

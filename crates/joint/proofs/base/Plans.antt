@@ -102,20 +102,20 @@ logless-sends : (m : Message) (l : List ℕ) → Each Logless (map (send m) l)
 logless-sends m [] = tt
 logless-sends m (p ∷ l) = (tt, logless-sends m l)
 
-logless-all : (g : Cohort) (o : Outcome) (to : ℕ) → Each Logless (tellAll g o to)
+logless-all : (t : ℕ) (g : Cohort) (o : Outcome) (to : ℕ) → Each Logless (tellAll t g o to)
 unfolding tellAll
-logless-all g o to = logless-sends (tell o) (inOrder g o to)
+logless-all t g o to = logless-sends (tell o) (inOrder t g o to)
 
 logless-given : (b : Bool) (es : List Effect) → Each Logless es → Each Logless (given b es)
 unfolding given
 logless-given true es h = h
 logless-given false es h = tt
 
-logless-from : (c i : Bool) (told : ℕ → Cohort) → Each Logless (restartFrom c i told .effects)
+logless-from : (t : ℕ) (c i : Bool) (told : ℕ → Cohort) → Each Logless (restartFrom t c i told .effects)
 unfolding restartFrom resuming
-logless-from true i told = (tt, logless-given _ _ (logless-all (told 2) commit (told 2 .members)))
-logless-from false true told = (tt, logless-given _ _ (logless-all (told 1) abort (told 1 .members)))
-logless-from false false told = tt
+logless-from t true i told = (tt, logless-given _ _ (logless-all t (told 2) commit (told 2 .members)))
+logless-from t false true told = (tt, logless-given _ _ (logless-all t (told 1) abort (told 1 .members)))
+logless-from t false false told = tt
 
 logless-with : (c : Presumption) (p : ℕ) (a b v : Bool) → Each Logless (restartWith c p a b v .effects)
 unfolding restartWith voting
@@ -124,9 +124,9 @@ logless-with c p false true v = (tt, tt)
 logless-with c p false false true = (tt, tt)
 logless-with c p false false false = tt
 
-pub coordinator-logless : (f : ℕ → Bool) (told : ℕ → Cohort) → Each Logless (coordinatorRestart f told .effects)
+pub coordinator-logless : (t : ℕ) (f : ℕ → Bool) (told : ℕ → Cohort) → Each Logless (coordinatorRestart t f told .effects)
 unfolding coordinatorRestart leaving
-coordinator-logless f told = logless-from _ _ told
+coordinator-logless t f told = logless-from t _ _ told
 
 pub participant-logless : (c : Presumption) (p : ℕ) (f : ℕ → Bool) → Each Logless (participantRestart c p f .effects)
 unfolding participantRestart

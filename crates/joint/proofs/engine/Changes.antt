@@ -14,10 +14,10 @@ use Rattle.codec.specs.Records.{LogRecord, ofTransaction}
 use Rattle.codec.specs.Answers.{recordIn}
 use Rattle.codec.specs.declared.record.Record.{Record}
 use Rattle.site.specs.Step.{Effect, force, given}
-use Rattle.site.specs.Coordinator.{ordered, inTurn}
 use Rattle.site.specs.Numbers.{inputOf, appending, entryOf}
 use Rattle.site.specs.Answers.{effectsIn, closing, sending}
 use Rattle.site.specs.declared.effects.Effects.{Effects}
+use Rattle.site.specs.laws.Sets.{ordered-none}
 use Rattle.joint.specs.State as plain
 use Rattle.joint.specs.State.{Run, Act, opened, takesPart, atSite, atTransaction, withMarked, perform, performAll, down}
 use Rattle.joint.specs.Event.{Event, opening, forcing, discarding, crash, marking, cutAt}
@@ -42,13 +42,13 @@ use Rattle.joint.proofs.engine.InputEvents.{not-not, struck, inputStruc
 abbrev forcedOnly : Effects
 forcedOnly = record { appended = 0; first = 0; second = 0; forced = true; entered = 0; message = 0; to = 0; owing = 0; last = 0 }
 
-forced-only : effectsIn forcedOnly ≡ force ∷ []
-unfolding effectsIn closing sending appending entryOf given ordered inTurn listed select participants member
-forced-only = refl
+forced-only : (t : ℕ) → effectsIn t forcedOnly ≡ force ∷ []
+unfolding effectsIn closing sending appending entryOf given
+forced-only t = rw (ordered-none t 0) refl
 
-nothing-acts : (t : ℕ) → acting t (effectsIn noEffects) ≡ []
+nothing-acts : (t : ℕ) → acting t (effectsIn t noEffects) ≡ []
 unfolding acting
-nothing-acts t = ap (acting t) no-effects
+nothing-acts t = ap (acting t) (no-effects t)
 
 -- ---- the counts of a log
 
@@ -57,12 +57,12 @@ unfolding siteFrom
 unforced-length x rs e = simp (length-take, length-drop, length-map) (omega (arith, e))
 
 -- how many records are unforced after the first effects of a row
-pub unforced-after : (x y : Site) (w : Run) (s t : ℕ) (e h : Effects) (cut : ℕ) → Here x w s → Fits (effectsIn e) (w .site s) → effectsIn h ≡ take cut (effectsIn e)
-    → ((rs : List Record) (t : ℕ) → length rs ≡ 24 → Fits (effectsIn h) (siteFrom x rs) → siteFrom y (putRow (countOf x) t h rs) ≡ siteAfter t (effectsIn h) (siteFrom x rs))
-    → length (siteAfter t (effectsIn h) (w .site s) .unforced) ≡ countOf y - stableOf y
+pub unforced-after : (x y : Site) (w : Run) (s t : ℕ) (e h : Effects) (cut : ℕ) → Here x w s → Fits (effectsIn t e) (w .site s) → effectsIn t h ≡ take cut (effectsIn t e)
+    → ((rs : List Record) (t : ℕ) → length rs ≡ 24 → Fits (effectsIn t h) (siteFrom x rs) → siteFrom y (putRow (countOf x) t h rs) ≡ siteAfter t (effectsIn t h) (siteFrom x rs))
+    → length (siteAfter t (effectsIn t h) (w .site s) .unforced) ≡ countOf y - stableOf y
 unforced-after x y w s t e h cut (rs, (n, own)) fits happens after =
-    let room : Fits (effectsIn h) (siteFrom x rs) = rw own (fits-cut (effectsIn e) (effectsIn h) (w .site s) cut happens fits) in
-    ap (λ (a : plain.Site). length (siteAfter t (effectsIn h) a .unforced)) (sym own)
+    let room : Fits (effectsIn t h) (siteFrom x rs) = rw own (fits-cut (effectsIn t e) (effectsIn t h) (w .site s) cut happens fits) in
+    ap (λ (a : plain.Site). length (siteAfter t (effectsIn t h) a .unforced)) (sym own)
     ∙ ap (λ (a : plain.Site). length (a .unforced)) (sym (after rs t n room))
     ∙ unforced-length y (putRow (countOf x) t h rs) (row-length (countOf x) t h rs ∙ n)
 
@@ -70,7 +70,7 @@ unforced-after x y w s t e h cut (rs, (n, own)) fits happens after =
 
 module _ (w : Run) (s t : ℕ) (x : Row) where
   abbrev es : List Effect
-  es = effectsIn (x .effects)
+  es = effectsIn t (x .effects)
 
   pub carried-whole : (cut keep : ℕ) → cut ≡ 255 → seen (carry w (planIn s t x) none) ≡ seen (carry w (planIn s t x) (cutFrom cut keep))
   unfolding cutAt
@@ -78,29 +78,29 @@ module _ (w : Run) (s t : ℕ) (x : Row) where
 
   module _ (cut keep : ℕ) (n : cut ≡ 255 → ⊥) where
     -- more effects than there are
-    pub cut-beyond : length (effectsIn (x .effects)) < cut → refusedBy 9 w ≡ seen (carry w (planIn s t x) (cutFrom cut keep))
+    pub cut-beyond : length (effectsIn t (x .effects)) < cut → refusedBy 9 w ≡ seen (carry w (planIn s t x) (cutFrom cut keep))
     unfolding carry cutAt cutShort canCut every
     cut-beyond h = rw (ne-eqb cut 255 n, lt-leb cut (length (acting t es)) (omega (arith, h, acting-length t es))) (sym (refuse-seen w 9))
 
     -- h is what of them happens
-    module _ (h : Effects) (happens : effectsIn h ≡ take cut (effectsIn (x .effects))) (fits : cut ≤ length (effectsIn (x .effects))) where
-      acts : acting t (effectsIn h) ≡ take cut (acting t es)
+    module _ (h : Effects) (happens : effectsIn t h ≡ take cut (effectsIn t (x .effects))) (fits : cut ≤ length (effectsIn t (x .effects))) where
+      acts : acting t (effectsIn t h) ≡ take cut (acting t es)
       acts = ap (acting t) happens ∙ sym (acting-take t cut es)
 
-      left : length (partly w (planIn s t x) cut .site s .unforced) ≡ length (siteAfter t (effectsIn h) (w .site s) .unforced)
+      left : length (partly w (planIn s t x) cut .site s .unforced) ≡ length (siteAfter t (effectsIn t h) (w .site s) .unforced)
       unfolding partly
       left =
           ap (λ (l : List Act). length (performAll s l w .site s .unforced)) (sym acts)
-          ∙ ap (λ (r : Run). length (r .site s .unforced)) (performed s t (effectsIn h) w)
-          ∙ ap (λ (a : plain.Site). length (a .unforced)) (update-same s (λ _. siteAfter t (effectsIn h) (w .site s)) (w .site))
+          ∙ ap (λ (r : Run). length (r .site s .unforced)) (performed s t (effectsIn t h) w)
+          ∙ ap (λ (a : plain.Site). length (a .unforced)) (update-same s (λ _. siteAfter t (effectsIn t h) (w .site s)) (w .site))
 
-      pub keep-beyond : length (siteAfter t (effectsIn h) (w .site s) .unforced) < keep → refusedBy 9 w ≡ seen (carry w (planIn s t x) (cutFrom cut keep))
+      pub keep-beyond : length (siteAfter t (effectsIn t h) (w .site s) .unforced) < keep → refusedBy 9 w ≡ seen (carry w (planIn s t x) (cutFrom cut keep))
       unfolding carry cutAt cutShort canCut every
       keep-beyond k =
           rw (ne-eqb cut 255 n, le-leb cut (length (acting t es)) (omega (arith, fits, acting-length t es)), lt-leb keep (length (partly w (planIn s t x) cut .site s .unforced)) (omega (arith, k, left)))
           (sym (refuse-seen w 9))
 
-      pub carried-cut : keep ≤ length (siteAfter t (effectsIn h) (w .site s) .unforced)
+      pub carried-cut : keep ≤ length (siteAfter t (effectsIn t h) (w .site s) .unforced)
           → seen (carry w (planIn s t (record { effects = h; then = follows.Down keep })) none) ≡ seen (carry w (planIn s t x) (cutFrom cut keep))
       unfolding carry cutAt cutShort canCut every partly thenIn
       carried-cut k =
@@ -115,10 +115,10 @@ pub unforced-here : (x : Site) (w : Run) (s : ℕ) → Here x w s → length (w 
 unforced-here x w s (rs, (n, own)) = ap (λ (a : plain.Site). length (a .unforced)) (sym own) ∙ unforced-length x rs n
 
 -- the 24 records have room for none
-pub nothing-fits : (x : Site) (w : Run) (s : ℕ) → Here x w s → Fits (effectsIn noEffects) (w .site s)
+pub nothing-fits : (x : Site) (w : Run) (s t : ℕ) → Here x w s → Fits (effectsIn t noEffects) (w .site s)
 unfolding size siteFrom counted select
-nothing-fits x w s (rs, (n, own)) =
-    rw (sym own, no-effects)
+nothing-fits x w s t (rs, (n, own)) =
+    rw (sym own, no-effects t)
     (simp (length-append, length-take, length-drop, length-map) (omega (arith, n)))
 
 -- ---- begin, a message, a timer
@@ -157,12 +157,12 @@ module _ (w : Run) {e : Event} {t s kind p : ℕ} (asks : Asks e t s kind p) (c 
       unfolding carryPlan
       input-carried = carries (some (planIn s t x)) is-plan
 
-      pub input-fits : roomFor w e ≡ true → Fits (effectsIn (x .effects)) (w .site s)
+      pub input-fits : roomFor w e ≡ true → Fits (effectsIn t (x .effects)) (w .site s)
       unfolding roomFor roomForPlan size
       input-fits r =
-          let n = length (w .site s .stable ++ w .site s .unforced) + count isAppend (acting t (effectsIn (x .effects))) in
+          let n = length (w .site s .stable ++ w .site s .unforced) + count isAppend (acting t (effectsIn t (x .effects))) in
           let room : leb n 24 ≡ true = rw (passes, input-plan w asks, is-plan) at r in
-          omega (arith, leb-true n 24 room, acting-counted t isAppend (effectsIn (x .effects)))
+          omega (arith, leb-true n 24 room, acting-counted t isAppend (effectsIn t (x .effects)))
 
     -- none is: begin and a timer are refused, a message has no effect
     module _ (found : none ≡ step w t s (inputOf kind p)) where
@@ -231,7 +231,7 @@ module _ (w : Run) (s t : ℕ) where
   pub force-forces : w .site s .up ≡ true → seen (carry w (planIn s t (record { effects = forcedOnly; then = follows.Same })) none) ≡ taken w (forcing s) none
   unfolding plan carryPlan carry acting performAll perform seen answerOf count select isAppend isForce isSend thenIn
   force-forces up =
-      ap (λ (l : List Effect). seen (carry w (record { site = s; acts = acting t l; settle = λ r. r }) none)) forced-only
+      ap (λ (l : List Effect). seen (carry w (record { site = s; acts = acting t l; settle = λ r. r }) none)) (forced-only t)
       ∙ sym (not-refused w (forcing s) none (rw up at force-struck))
 
   pub crash-down : (keep : ℕ) → w .site s .up ≡ false → refusedBy 5 w ≡ taken w (crash s) (some (0, keep))

@@ -71,10 +71,10 @@ module _ (s : ℕ) where
   unforced x false = refl
 
   -- entries and sends are all that a transaction has of a row
-  pub transaction-row : (x : Transaction) (e : Effects)
-      → transactionAfter s (effectsIn e) x ≡ transactionAfter s (sending (e .message) (e .owing) (e .to)) (transactionAfter s (entryOf (e .entered)) x)
-  transaction-row x e =
-      ap (λ (l : List Effect). transactionAfter s l x) (five e)
+  pub transaction-row : (t : ℕ) (x : Transaction) (e : Effects)
+      → transactionAfter s (effectsIn t e) x ≡ transactionAfter s (sending t (e .message) (e .owing) (e .to)) (transactionAfter s (entryOf (e .entered)) x)
+  transaction-row t x e =
+      ap (λ (l : List Effect). transactionAfter s l x) (five t e)
       ∙ simp (transaction-append, unappended, unforced)
 
 module _ (t : ℕ) where
@@ -90,21 +90,21 @@ module _ (t : ℕ) where
   unsent-each a m [] = refl
   unsent-each a m (p ∷ ps) = unsent-each a m ps
 
-  unsent : (a : Site) (kind owing to : ℕ) → siteAfter t (sending kind owing to) a ≡ a
+  unsent : (a : Site) (kind owing to : ℕ) → siteAfter t (sending t kind owing to) a ≡ a
   unfolding sending given siteAfter
   unsent a kind owing to = by (leb kind 7)
     where
-      by : (b : Bool) → siteAfter t (cond b (map (send (getD messages kind prepare)) (ordered owing to)) []) a ≡ a
-      by true = unsent-each a _ (ordered owing to)
+      by : (b : Bool) → siteAfter t (cond b (map (send (getD messages kind prepare)) (ordered t owing to)) []) a ≡ a
+      by true = unsent-each a _ (ordered t owing to)
       by false = refl
 
   -- records and forces are all that a site has of it
   pub site-row : (a : Site) (e : Effects)
-      → siteAfter t (effectsIn e) a
+      → siteAfter t (effectsIn t e) a
       ≡ siteAfter t (appending (e .last) (fieldsBy (e .last) 0 0))
       (siteAfter t (given (e .forced) (force ∷ [])) (siteAfter t (appending (e .appended) (fieldsBy (e .appended) (e .first) (e .second))) a))
   site-row a e =
-      ap (λ (l : List Effect). siteAfter t l a) (five e)
+      ap (λ (l : List Effect). siteAfter t l a) (five t e)
       ∙ simp (site-append, unentered, unsent)
 
 -- ---- counts
@@ -119,17 +119,17 @@ unfolding given counted select isForce
 counted-given true = refl
 counted-given false = refl
 
-counted-sends : (kind owing to : ℕ) → counted isSend (sending kind owing to) ≡ length (sending kind owing to)
+counted-sends : (t kind owing to : ℕ) → counted isSend (sending t kind owing to) ≡ length (sending t kind owing to)
 unfolding sending given counted select isSend
-counted-sends kind owing to = by (leb kind 7)
+counted-sends t kind owing to = by (leb kind 7)
   where
     each : (m : Message) (ps : List ℕ) → length (select isSend (map (send m) ps)) ≡ length (map (send m) ps)
     each m [] = refl
     each m (p ∷ ps) = ap suc (each m ps)
 
-    by : (b : Bool) → length (select isSend (cond b (map (send (getD messages kind prepare)) (ordered owing to)) []))
-        ≡ length (cond b (map (send (getD messages kind prepare)) (ordered owing to)) [])
-    by true = each _ (ordered owing to)
+    by : (b : Bool) → length (select isSend (cond b (map (send (getD messages kind prepare)) (ordered t owing to)) []))
+        ≡ length (cond b (map (send (getD messages kind prepare)) (ordered t owing to)) [])
+    by true = each _ (ordered t owing to)
     by false = refl
 
 -- a part without an effect that is counted
@@ -151,42 +151,42 @@ module _ (f : Effect → Bool) where
   none-entered h (suc (suc zero)) = rw (h abort)
   none-entered h (suc (suc (suc n))) = refl
 
-  none-sent : ((m : Message) (p : ℕ) → f (send m p) ≡ false) → (kind owing to : ℕ) → counted f (sending kind owing to) ≡ 0
+  none-sent : ((m : Message) (p : ℕ) → f (send m p) ≡ false) → (t kind owing to : ℕ) → counted f (sending t kind owing to) ≡ 0
   unfolding sending given counted select
-  none-sent h kind owing to = by (leb kind 7)
+  none-sent h t kind owing to = by (leb kind 7)
     where
       each : (m : Message) (ps : List ℕ) → length (select f (map (send m) ps)) ≡ 0
       each m [] = refl
       each m (p ∷ ps) = rw (h m p) (each m ps)
 
-      by : (b : Bool) → length (select f (cond b (map (send (getD messages kind prepare)) (ordered owing to)) [])) ≡ 0
-      by true = each _ (ordered owing to)
+      by : (b : Bool) → length (select f (cond b (map (send (getD messages kind prepare)) (ordered t owing to)) [])) ≡ 0
+      by true = each _ (ordered t owing to)
       by false = refl
 
 -- records, forces and sends of a row
-in-five : (f : Effect → Bool) (e : Effects)
-    → counted f (effectsIn e)
+in-five : (f : Effect → Bool) (t : ℕ) (e : Effects)
+    → counted f (effectsIn t e)
     ≡ counted f (appending (e .appended) (fieldsBy (e .appended) (e .first) (e .second)))
     + (counted f (given (e .forced) (force ∷ []))
-    + (counted f (entryOf (e .entered)) + (counted f (sending (e .message) (e .owing) (e .to)) + counted f (appending (e .last) (fieldsBy (e .last) 0 0)))))
-in-five f e = ap (counted f) (five e) ∙ simp counted-append
+    + (counted f (entryOf (e .entered)) + (counted f (sending t (e .message) (e .owing) (e .to)) + counted f (appending (e .last) (fieldsBy (e .last) 0 0)))))
+in-five f t e = ap (counted f) (five t e) ∙ simp counted-append
 
-pub row-records : (e : Effects) → counted isAppend (effectsIn e) ≡ cond (not (eqb (e .appended) 0)) 1 0 + cond (not (eqb (e .last) 0)) 1 0
+pub row-records : (t : ℕ) (e : Effects) → counted isAppend (effectsIn t e) ≡ cond (not (eqb (e .appended) 0)) 1 0 + cond (not (eqb (e .last) 0)) 1 0
 unfolding isAppend
-row-records e =
-    in-five isAppend e
+row-records t e =
+    in-five isAppend t e
     ∙ rw (counted-appending (e .appended), counted-appending (e .last), none-forced isAppend refl, none-entered isAppend (λ o. refl), none-sent isAppend (λ m p. refl)) (omega arith)
 
-pub row-forces : (e : Effects) → counted isForce (effectsIn e) ≡ cond (e .forced) 1 0
+pub row-forces : (t : ℕ) (e : Effects) → counted isForce (effectsIn t e) ≡ cond (e .forced) 1 0
 unfolding isForce
-row-forces e =
-    in-five isForce e
+row-forces t e =
+    in-five isForce t e
     ∙ simp (none-appended isForce (λ k vs. refl), counted-given, none-entered isForce (λ o. refl), none-sent isForce (λ m p. refl)) (omega arith)
 
-pub row-sends : (e : Effects) → counted isSend (effectsIn e) ≡ length (sending (e .message) (e .owing) (e .to))
+pub row-sends : (t : ℕ) (e : Effects) → counted isSend (effectsIn t e) ≡ length (sending t (e .message) (e .owing) (e .to))
 unfolding isSend
-row-sends e =
-    in-five isSend e
+row-sends t e =
+    in-five isSend t e
     ∙ simp (none-appended isSend (λ k vs. refl), none-forced isSend refl, none-entered isSend (λ o. refl), counted-sends) (omega arith)
 
 -- a row's first record is counted behind the force too
@@ -215,15 +215,15 @@ kind-some t (suc k) vs a h fits = (omega (arith, fits), refl)
 
 -- ---- room for the first part, and for the last one behind it
 
-pub room : (t : ℕ) (a : Site) (e : Effects) → Fits (effectsIn e) a
+pub room : (t : ℕ) (a : Site) (e : Effects) → Fits (effectsIn t e) a
     → Fits (appending (e .appended) (fieldsBy (e .appended) (e .first) (e .second))) a
     × Fits (appending (e .last) (fieldsBy (e .last) 0 0))
     (siteAfter t (given (e .forced) (force ∷ [])) (siteAfter t (appending (e .appended) (fieldsBy (e .appended) (e .first) (e .second))) a))
 room t a e fits =
     let first = appending (e .appended) (fieldsBy (e .appended) (e .first) (e .second)) in
     let forced = given (e .forced) (force ∷ []) in (
-      omega (arith, fits, in-five isAppend e),
-      omega (arith, fits, in-five isAppend e, size-after t first a, size-after t forced (siteAfter t first a)),
+      omega (arith, fits, in-five isAppend t e),
+      omega (arith, fits, in-five isAppend t e, size-after t first a, size-after t forced (siteAfter t first a)),
     )
 
 pub fits-cut : (es hs : List Effect) (a : Site) (n : ℕ) → hs ≡ take n es → Fits es a → Fits hs a

@@ -25,24 +25,24 @@ use Rattle.joint.proofs.engine.Placed.{run-path, Phase, coordinator-pha
 
 -- ---- few effects
 
-tell-few : (g : Cohort) (o : Outcome) (to : ℕ) → length (tellAll g o to) ≤ 8
+tell-few : (t : ℕ) (g : Cohort) (o : Outcome) (to : ℕ) → length (tellAll t g o to) ≤ 8
 unfolding tellAll inOrder listed participants
-tell-few g o to = simp length-map (omega (arith, order-length (owing g o) to, select-length (λ p. member p to) participants))
+tell-few t g o to = simp length-map (omega (arith, order-length t (owing g o) to, select-length (λ p. member p to) participants))
 
 given-few : (b : Bool) (es : List Effect) → length (given b es) ≤ length es
 unfolding given
 given-few true es = omega arith
 given-few false es = omega arith
 
-resuming-few : (g : Cohort) (o : Outcome) (b : Bool) → length (resuming g o b .effects) ≤ 9
+resuming-few : (t : ℕ) (g : Cohort) (o : Outcome) (b : Bool) → length (resuming t g o b .effects) ≤ 9
 unfolding resuming
-resuming-few g o b = omega (arith, given-few b (tellAll g o (g .members)), tell-few g o (g .members))
+resuming-few t g o b = omega (arith, given-few b (tellAll t g o (g .members)), tell-few t g o (g .members))
 
-from-few : (c i : Bool) (told : ℕ → Cohort) → length (restartFrom c i told .effects) ≤ 9
+from-few : (t : ℕ) (c i : Bool) (told : ℕ → Cohort) → length (restartFrom t c i told .effects) ≤ 9
 unfolding restartFrom
-from-few true i told = resuming-few (told 2) commit (not (empty (owing (told 2) commit)))
-from-few false true told = resuming-few (told 1) abort true
-from-few false false told = omega arith
+from-few t true i told = resuming-few t (told 2) commit (not (empty (owing (told 2) commit)))
+from-few t false true told = resuming-few t (told 1) abort true
+from-few t false false told = omega arith
 
 with-few : (c : Presumption) (p : ℕ) (a b v : Bool) → length (restartWith c p a b v .effects) ≤ 9
 unfolding restartWith voting
@@ -132,7 +132,7 @@ row-resumes s t g row h n q =
 
 pub resumes : (r : Run) (s t : ℕ) → Resumes s (restarting r s t)
 unfolding restarting coordinatorRestart leaving participantRestart
-resumes r zero t = row-resumes 0 t _ _ (coordinator-phase _) (from-few _ _ _) (coordinator-logless (λ k. holds t k (r .site 0 .stable)) (λ k. recordedCohort t k (r .site 0 .stable)))
+resumes r zero t = row-resumes 0 t _ _ (coordinator-phase _) (from-few t _ _ _) (coordinator-logless t (λ k. holds t k (r .site 0 .stable)) (λ k. recordedCohort t k (r .site 0 .stable)))
 resumes r (suc n) t = row-resumes (suc n) t _ _ (participant-phase n _) (with-few _ _ _ _ _) (participant-logless _ (suc n) (λ k. holds t k (r .site (suc n) .stable)))
 
 -- n of them, and the site is up at the end

@@ -47,15 +47,15 @@ stays-up s t follows.Marked k = refl
 
 -- a row of a restart, with hs for the effects that happened
 row-resumed : (x : plain.Run) (s t : ℕ) (row : Row) → planIn s t row ≡ restarting x s t
-    → (z : Resumption) (hs : List Effect) → hs ≡ take (z .left) (effectsIn (row .effects))
+    → (z : Resumption) (hs : List Effect) → hs ≡ take (z .left) (effectsIn t (row .effects))
     → resumedBy x s (restarting x s t) z
     ≡ record {
       transaction = update t (λ _. thenTransaction s (row .then) (transactionAfter s hs (z .transaction t))) (z .transaction);
-      left = z .left - length (effectsIn (row .effects));
+      left = z .left - length (effectsIn t (row .effects));
       sends = z .sends + counted isSend hs;
     }
 row-resumed x s t row e z hs h =
-    let es = effectsIn (row .effects) in
+    let es = effectsIn t (row .effects) in
     let r : plain.Run = record { site = x .site; transaction = z .transaction } in
     let happen : take (z .left) (acting t es) ≡ acting t hs = acting-take t (z .left) es ∙ ap (acting t) (sym h) in
     let kept : (y : plain.Run) → thenIn s t (row .then) y .site ≡ y .site = λ y. ap (λ (p : Plan). p .settle y .site) e ∙ resumes x s t .kept y in
@@ -133,8 +133,8 @@ module _ (s cut : ℕ) (kinds : List ℕ) (log : List LogRecord) (before : List 
     -- transaction i is opened: its row, with hs for the effects that happen, and v for the transaction after it
     pub resuming-row : i < 8 → not (empty (transactionsIn now i .cohort .members)) ≡ true → (row : Row) (hs : List Effect) (v : Transaction) (m n : ℕ)
         → ((x : plain.Run) → transactionsIn now i ≡ x .transaction i → ((k : ℕ) → k ≤ 7 → hasKind (getD kinds i 0) k ≡ holds i k (x .site s .stable)) → log ≡ x .site s .stable → planIn s i row ≡ restarting x s i)
-        → hs ≡ take left (effectsIn (row .effects)) → transactionIn v ≡ thenTransaction s (row .then) (transactionAfter s hs (transactionsIn now i))
-        → m ≡ left - length (effectsIn (row .effects)) → n ≡ counted isSend hs → n ≤ 8
+        → hs ≡ take left (effectsIn i (row .effects)) → transactionIn v ≡ thenTransaction s (row .then) (transactionAfter s hs (transactionsIn now i))
+        → m ≡ left - length (effectsIn i (row .effects)) → n ≡ counted isSend hs → n ≤ 8
         → Resuming s cut kinds log before (set now i v) m (sends + n) (i + 1)
     unfolding restartAll
     resuming-row h o row hs v m n plan happen e p q small =

@@ -48,7 +48,7 @@ unchanged ks off follows.Marked k d t a = refl
 
 -- it has a force at most, and drops none
 pub recordless : (x : Row) → writesLog x ≡ false
-    → (drops (x .then) ≡ false) × ((t : ℕ) (a : Site) → siteAfter t (given (x .effects .forced) (force ∷ [])) a ≡ siteAfter t (effectsIn (x .effects)) a)
+    → (drops (x .then) ≡ false) × ((t : ℕ) (a : Site) → siteAfter t (given (x .effects .forced) (force ∷ [])) a ≡ siteAfter t (effectsIn t (x .effects)) a)
 unfolding writesLog
 recordless x h =
     let e = x .effects in

@@ -15,7 +15,7 @@ use Rattle.codec.specs.laws.Tests.{below-at, true-of}
 use Rattle.site.specs.Step.{Row, Effect, Answer, refused, noRow, row, answered, answerIf, given}
 use Rattle.site.specs.Cohort.{Cohort, presumptionOf}
 use Rattle.site.specs.Coordinator as part
-use Rattle.site.specs.Coordinator.{coordinatorStep, coordinatorRestart, ordered, inTurn}
+use Rattle.site.specs.Coordinator.{coordinatorStep, coordinatorRestart}
 use Rattle.site.specs.Participant.{participantStep, participantRestart}
 use Rattle.site.specs.Numbers.{inputOf, receives, coordinatorAnswer, participantAnswer, participantRestarted, appending, entryOf}
 use Rattle.site.specs.Answers.{coordinatorStateIn, participantIn, presumptionIn, cohortIn, effectsIn, closing, sending, coordinatorRowIn, coordinatorAnswerIn, participantAnswerIn}
@@ -30,6 +30,7 @@ use Rattle.site.specs.declared.participant.ParticipantAnswer.{ParticipantAnswer
 use Rattle.site.specs.declared.participant.ParticipantAnswer.the-variants as participant
 use Rattle.site.proofs.coordinator.CoordinatorAnswer as coordinator-answer
 use Rattle.site.proofs.participant.ParticipantAnswer as participant-answer
+use Rattle.site.specs.laws.Sets.{ordered-none}
 use Rattle.joint.specs.State as plain
 use Rattle.joint.specs.State.{holds, recordedCohort, update, withCoordinator, withParticipant, withMarked, atSite, atTransaction, forgotten, stopped, down, performAll}
 use Rattle.joint.specs.Plan as plan
@@ -47,9 +48,9 @@ use Rattle.joint.proofs.engine.Placed.{update-twice, run-path, placedAs
 abbrev pub noEffects : Effects
 noEffects = record { appended = 0; first = 0; second = 0; forced = false; entered = 0; message = 0; to = 0; owing = 0; last = 0 }
 
-pub no-effects : effectsIn noEffects ≡ []
-unfolding effectsIn closing sending appending entryOf given ordered inTurn listed select participants member
-no-effects = refl
+pub no-effects : (t : ℕ) → effectsIn t noEffects ≡ []
+unfolding effectsIn closing sending appending entryOf given
+no-effects t = rw (ordered-none t 0) refl
 
 -- ---- what follows it, by its kind
 
@@ -144,15 +145,15 @@ row-answered none true e = refl
 row-answered (some r) true e = refl
 row-answered o false e = cc
 
-pub no-coordinator-row : (a : CoordinatorAnswer) → OneOf (1 ∷ 2 ∷ []) (tagOf coordinator-answer.the-type a) → none ≡ rowOf (coordinatorAnswerIn a)
-no-coordinator-row (coordinator.Row r) k = absurd (miss (1 ∷ 2 ∷ []) 0 tt k)
-no-coordinator-row coordinator.NoRow k = refl
-no-coordinator-row coordinator.Refused k = refl
+pub no-coordinator-row : (t : ℕ) (a : CoordinatorAnswer) → OneOf (1 ∷ 2 ∷ []) (tagOf coordinator-answer.the-type a) → none ≡ rowOf (coordinatorAnswerIn t a)
+no-coordinator-row t (coordinator.Row r) k = absurd (miss (1 ∷ 2 ∷ []) 0 tt k)
+no-coordinator-row t coordinator.NoRow k = refl
+no-coordinator-row t coordinator.Refused k = refl
 
-pub no-participant-row : (a : ParticipantAnswer) → OneOf (1 ∷ 2 ∷ []) (tagOf participant-answer.the-type a) → none ≡ rowOf (participantAnswerIn a)
-no-participant-row (participant.Row r) k = absurd (miss (1 ∷ 2 ∷ []) 0 tt k)
-no-participant-row participant.NoRow k = refl
-no-participant-row participant.Refused k = refl
+pub no-participant-row : (t : ℕ) (a : ParticipantAnswer) → OneOf (1 ∷ 2 ∷ []) (tagOf participant-answer.the-type a) → none ≡ rowOf (participantAnswerIn t a)
+no-participant-row t (participant.Row r) k = absurd (miss (1 ∷ 2 ∷ []) 0 tt k)
+no-participant-row t participant.NoRow k = refl
+no-participant-row t participant.Refused k = refl
 
 -- ---- the coordinator
 
@@ -160,29 +161,29 @@ no-participant-row participant.Refused k = refl
 pub coordinator-found : (x : plain.Transaction) (c : Coordinator) → (cohortIn c ≡ x .cohort) × (coordinatorStateIn c ≡ x .coordinator)
     → (w : plain.Run) (t : ℕ) → x ≡ w .transaction t
     → (kind p : ℕ) (a : CoordinatorAnswer) → (receives 0 kind && (leb 16 kind || member p (x .cohort .members))) ≡ true
-    → coordinatorAnswerIn a ≡ coordinatorAnswer (cohortIn c) kind p (coordinatorStateIn c)
-    → planned 0 t (withCoordinator 0) (rowOf (coordinatorAnswerIn a)) ≡ step w t 0 (inputOf kind p)
+    → coordinatorAnswerIn t a ≡ coordinatorAnswer t (cohortIn c) kind p (coordinatorStateIn c)
+    → planned 0 t (withCoordinator 0) (rowOf (coordinatorAnswerIn t a)) ≡ step w t 0 (inputOf kind p)
 unfolding step coordinatorAnswer
 coordinator-found x c stands w t own kind p a h e =
-    let same = ap₂ (λ (g : Cohort) (k : part.Coordinator). coordinatorAnswer g kind p k) (stands .0) (stands .1) in
+    let same = ap₂ (λ (g : Cohort) (k : part.Coordinator). coordinatorAnswer t g kind p k) (stands .0) (stands .1) in
     ap (planned 0 t (withCoordinator 0)) (ap rowOf (e ∙ same) ∙ row-answered _ _ h)
-    ∙ ap (λ (y : plain.Transaction). planned 0 t (withCoordinator 0) (coordinatorStep (y .cohort) (inputOf kind p) (y .coordinator))) own
+    ∙ ap (λ (y : plain.Transaction). planned 0 t (withCoordinator 0) (coordinatorStep t (y .cohort) (inputOf kind p) (y .coordinator))) own
 
-same-kinds : (a b : ℕ → Bool) (told : ℕ → Cohort) → ((k : ℕ) → k ≤ 7 → a k ≡ b k) → coordinatorRestart a told ≡ coordinatorRestart b told
+same-kinds : (t : ℕ) (a b : ℕ → Bool) (told : ℕ → Cohort) → ((k : ℕ) → k ≤ 7 → a k ≡ b k) → coordinatorRestart t a told ≡ coordinatorRestart t b told
 unfolding coordinatorRestart
-same-kinds a b told q = rw (q 1 (omega arith), q 2 (omega arith), q 3 (omega arith), q 4 (omega arith)) refl
+same-kinds t a b told q = rw (q 1 (omega arith), q 2 (omega arith), q 3 (omega arith), q 4 (omega arith)) refl
 
 -- g: the cohort in the record from which it resumes
-pub coordinator-restarts : (w : plain.Run) (t : ℕ) (f : ℕ → Bool) (g : Cohort) (r : CoordinatorRow) → coordinatorRowIn r ≡ coordinatorRestart f (λ k. g)
+pub coordinator-restarts : (w : plain.Run) (t : ℕ) (f : ℕ → Bool) (g : Cohort) (r : CoordinatorRow) → coordinatorRowIn t r ≡ coordinatorRestart t f (λ k. g)
     → ((k : ℕ) → k ≤ 7 → f k ≡ holds t k (w .site 0 .stable))
     → g ≡ recordedCohort t (cond (f 2) 2 1) (w .site 0 .stable)
-    → rowPlan 0 t (withCoordinator 0) (coordinatorRowIn r) ≡ restarting w 0 t
+    → rowPlan 0 t (withCoordinator 0) (coordinatorRowIn t r) ≡ restarting w 0 t
 unfolding restarting
 coordinator-restarts w t f g r e h m =
     let log = w .site 0 .stable in
     let told : g ≡ recordedCohort t (cond (holds t 2 log) 2 1) log = rw (h 2 (omega arith)) at m in
     ap (rowPlan 0 t (withCoordinator 0))
-    (e ∙ same-kinds f (λ k. holds t k log) (λ k. g) h ∙ ap (λ (g : Cohort). coordinatorRestart (λ k. holds t k log) (λ k. g)) told ∙ sym (restart-by (λ k. holds t k log) (λ k. recordedCohort t k log)))
+    (e ∙ same-kinds t f (λ k. holds t k log) (λ k. g) h ∙ ap (λ (g : Cohort). coordinatorRestart t (λ k. holds t k log) (λ k. g)) told ∙ sym (restart-by t (λ k. holds t k log) (λ k. recordedCohort t k log)))
 
 -- ---- a participant
 
@@ -213,17 +214,17 @@ module _ (x : Transaction) (w : plain.Run) (t : ℕ) (own : transactionIn x ≡ 
   module _ (r : Participant) (number : r .number ≡ n) (phase : participantIn (r .phase) ≡ transactionIn x .participant n)
       (presumption : presumptionIn (r .presumption) ≡ presumptionOf (transactionIn x .cohort) n) (mark : r .marked ≡ transactionIn x .marked n) where
     pub participant-found : (kind : ℕ) (a : ParticipantAnswer) → receives 1 kind ≡ true
-        → participantAnswerIn a ≡ participantAnswer (presumptionIn (r .presumption)) (r .number) (r .marked) kind (participantIn (r .phase))
-        → planned n t (withParticipant n) (rowOf (participantAnswerIn a)) ≡ step w t n (inputOf kind n)
+        → participantAnswerIn t a ≡ participantAnswer (presumptionIn (r .presumption)) (r .number) (r .marked) kind (participantIn (r .phase))
+        → planned n t (withParticipant n) (rowOf (participantAnswerIn t a)) ≡ step w t n (inputOf kind n)
     unfolding participantAnswer
     participant-found kind a h e =
         ap (planned n t (withParticipant n)) (ap rowOf (rw (number, phase, presumption, mark) at e) ∙ row-answered _ _ (rw (h, numbered) refl))
         ∙ ap (λ (y : plain.Transaction). planned n t (withParticipant n) (participantStep (presumptionOf (y .cohort) n) n (y .marked n) (inputOf kind n) (y .participant n))) own
         ∙ step-of-participant w t n kind low
 
-    pub participant-restarts : (f : ℕ → Bool) (a : ParticipantAnswer) → participantAnswerIn a ≡ participantRestarted (presumptionIn (r .presumption)) (r .number) f
+    pub participant-restarts : (f : ℕ → Bool) (a : ParticipantAnswer) → participantAnswerIn t a ≡ participantRestarted (presumptionIn (r .presumption)) (r .number) f
         → ((k : ℕ) → k ≤ 7 → f k ≡ holds t k (w .site n .stable))
-        → planned n t (withParticipant n) (rowOf (participantAnswerIn a)) ≡ some (restarting w n t)
+        → planned n t (withParticipant n) (rowOf (participantAnswerIn t a)) ≡ some (restarting w n t)
     unfolding participantRestarted planned participantRestart
     participant-restarts f a e h =
         ap (planned n t (withParticipant n)) (ap rowOf (rw (number, presumption, h 5 (omega arith), h 6 (omega arith), h 7 (omega arith)) at e) ∙ row-answered _ _ numbered)

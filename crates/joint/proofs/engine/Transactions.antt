@@ -18,7 +18,7 @@ use Rattle.site.specs.Presumption.{commit, abort, sameOutcome}
 use Rattle.site.specs.Cohort.{Cohort}
 use Rattle.site.specs.Step.{Message, prepare, messages, messageKind, send, given}
 use Rattle.site.specs.Coordinator as coordinator
-use Rattle.site.specs.Coordinator.{inTurn, ordered}
+use Rattle.site.specs.Coordinator.{round, inTurn, ordered}
 use Rattle.site.specs.Participant as participant
 use Rattle.site.specs.Answers.{participantIn, hasKind, sending}
 use Rattle.site.specs.declared.phases.CoordinatorPhase.the-variants as phases
@@ -159,9 +159,9 @@ any-listed q to h = any-select q (λ p. member p to) participants ∙ by (member
     by false e = and-false (any (eqb q) participants)
     by true e = and-true (any (eqb q) participants) ∙ is-one q (numbered q (member-participant q to h e))
 
-any-ordered : (q first to : ℕ) → to < 256 → any (eqb q) (ordered first to) ≡ member q to
-unfolding ordered inTurn
-any-ordered q first to h =
+any-ordered : (t q first to : ℕ) → to < 256 → any (eqb q) (ordered t first to) ≡ member q to
+unfolding ordered inTurn round listed
+any-ordered t q first to h =
     any-both (eqb q) (select (λ p. member p first) (listed to)) (select (λ p. not (member p first)) (listed to))
     ∙ ap₂ _||_ (any-select q (λ p. member p first) (listed to)) (any-select q (λ p. not (member p first)) (listed to))
     ∙ split (any (eqb q) (listed to)) (member q first)
@@ -189,19 +189,19 @@ kind-number : (kind : ℕ) → kind ≤ 7 → messageKind (getD messages kind pr
 unfolding messageKind messages
 kind-number kind h = eqb→eq _ _ (below-at 8 (λ k. eqb (messageKind (getD messages k prepare)) k) tt kind (omega arith))
 
-pub sent-all : (x : Transaction) (kind owing to v : ℕ) → kind ≤ 7 → kind < length (x .sent) → to < 256
+pub sent-all : (x : Transaction) (t kind owing to v : ℕ) → kind ≤ 7 → kind < length (x .sent) → to < 256
     → ((q : ℕ) → member q v ≡ (member q (getD (x .sent) kind 0) || member q to)) → (s : ℕ)
     → transactionIn (record { part = x .part; «taken_out» = x .«taken_out»; participants = x .participants; marked = x .marked; sent = set (x .sent) kind v; committed = x .committed; aborted = x .aborted })
-    ≡ transactionAfter s (sending kind owing to) (transactionIn x)
+    ≡ transactionAfter s (sending t kind owing to) (transactionIn x)
 unfolding transactionIn sending given
-sent-all x kind owing to v k lt byte e s =
+sent-all x t kind owing to v k lt byte e s =
     rw (le-leb kind 7 k)
     (transaction-path refl (fun-ext (λ q. fun-ext (at q))) refl
-    ∙ sym (sent-each s (getD messages kind prepare) (ordered owing to) (transactionIn x)))
+    ∙ sym (sent-each s (getD messages kind prepare) (ordered t owing to) (transactionIn x)))
   where
     at : (q j : ℕ) → member q (getD (set (x .sent) kind v) j 0)
-        ≡ ((any (eqb q) (ordered owing to) && eqb j (messageKind (getD messages kind prepare))) || member q (getD (x .sent) j 0))
-    at q j = rw (any-ordered q owing to byte, kind-number kind k) (by (eqb j kind) refl)
+        ≡ ((any (eqb q) (ordered t owing to) && eqb j (messageKind (getD messages kind prepare))) || member q (getD (x .sent) j 0))
+    at q j = rw (any-ordered t q owing to byte, kind-number kind k) (by (eqb j kind) refl)
       where
         by : (b : Bool) → eqb j kind ≡ b → member q (getD (set (x .sent) kind v) j 0) ≡ ((member q to && b) || member q (getD (x .sent) j 0))
         by true h =
@@ -214,12 +214,12 @@ pub is-kind : (to kind : ℕ) → (not (eqb to 0) && leb kind 7) ≡ true → ki
 is-kind to kind q = leb-true kind 7 (and-eq-true-iff (not (eqb to 0)) (leb kind 7) .0 q .1)
 
 -- to nobody, or what is no message
-pub sent-none : (kind owing to : ℕ) → (not (eqb to 0) && leb kind 7) ≡ false → (s : ℕ) (x : plain.Transaction) → x ≡ transactionAfter s (sending kind owing to) x
+pub sent-none : (t kind owing to : ℕ) → (not (eqb to 0) && leb kind 7) ≡ false → (s : ℕ) (x : plain.Transaction) → x ≡ transactionAfter s (sending t kind owing to) x
 unfolding sending given transactionAfter
-sent-none kind owing to q s x = by (eqb to 0) refl (leb kind 7) q
+sent-none t kind owing to q s x = by (eqb to 0) refl (leb kind 7) q
   where
-    by : (z : Bool) → eqb to 0 ≡ z → (m : Bool) → (not z && m) ≡ false → x ≡ transactionAfter s (cond m (map (send (getD messages kind prepare)) (ordered owing to)) []) x
-    by true e true q = rw (eqb-true to 0 e, ordered-none owing) refl
+    by : (z : Bool) → eqb to 0 ≡ z → (m : Bool) → (not z && m) ≡ false → x ≡ transactionAfter s (cond m (map (send (getD messages kind prepare)) (ordered t owing to)) []) x
+    by true e true q = rw (eqb-true to 0 e, ordered-none t owing) refl
     by z e false q = refl
     by false e true q = cc
 

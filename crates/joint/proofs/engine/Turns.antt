@@ -204,22 +204,22 @@ module _ (w : plain.Run) (s : ℕ) (small : size (w .site s) ≤ 24) where
       unless (suc m) r = held-none (suc m)
 
   pub row-fits : (t : ℕ) (x : Row) (e : events.Event) (c : Option (ℕ × ℕ)) → seen (carry w (planIn s t x) none) ≡ taken w e c
-      → All (λ p. p .site ≡ s) (plan w e) → roomFor w e ≡ true → Fits (effectsIn (x .effects)) (w .site s)
+      → All (λ p. p .site ≡ s) (plan w e) → roomFor w e ≡ true → Fits (effectsIn t (x .effects)) (w .site s)
   unfolding carry seen answerOf
   row-fits t x e c q h r =
-      omega (arith, held-taken e c h r, ap (λ (v : Seen). v .answer .records) q, acting-counted t isAppend (effectsIn (x .effects)))
+      omega (arith, held-taken e c h r, ap (λ (v : Seen). v .answer .records) q, acting-counted t isAppend (effectsIn t (x .effects)))
 
 -- ---- a row happens: what is stored
 
 module _ (w : plain.Run) (s t : ℕ) (x : Row) where
   pub happens-seen : (n : Counts) (f : ℕ → plain.Site) (g : ℕ → plain.Transaction)
-      → (n .records ≡ counted isAppend (effectsIn (x .effects))) × ((n .forces ≡ counted isForce (effectsIn (x .effects))) × (n .sends ≡ counted isSend (effectsIn (x .effects))))
+      → (n .records ≡ counted isAppend (effectsIn t (x .effects))) × ((n .forces ≡ counted isForce (effectsIn t (x .effects))) × (n .sends ≡ counted isSend (effectsIn t (x .effects))))
       → f ≡ update s (λ _. rowSite t x (w .site s)) (w .site)
-      → g ≡ forgottenIf (goesDown (x .then)) s (update t (λ _. thenTransaction s (x .then) (transactionAfter s (effectsIn (x .effects)) (w .transaction t))) (w .transaction))
+      → g ≡ forgottenIf (goesDown (x .then)) s (update t (λ _. thenTransaction s (x .then) (transactionAfter s (effectsIn t (x .effects)) (w .transaction t))) (w .transaction))
       → _≡_ {A = Seen} (record { answer = answerIn (answer.Accepted n); run = record { site = f; transaction = g } }) (seen (carry w (planIn s t x) none))
   unfolding answerIn seen answerOf carry rowSite
   happens-seen n f g c p q =
-      let es = effectsIn (x .effects) in
+      let es = effectsIn t (x .effects) in
       let same : _≡_ {A = plain.Run} (record { site = f; transaction = g }) (thenIn s t (x .then) (performAll s (acting t es) w)) = run-path p q ∙ sym (row-happens s t (x .then) es w) in
       λ i. record {
         answer =
@@ -311,8 +311,8 @@ module _ (r : Run) (f : Full r) (s : ℕ) (low : s ≤ 8) where
 
 module _ (r : Run) (f : Full r) (s : ℕ) (low : s ≤ 8) (d : Site) (t : ℕ) (x : Row) where
   pub log-stored : (e : Records) (y : SiteLog)
-      → (Fits (effectsIn (x .effects)) (siteFrom (getD (r .sites) s d) (getD (r .records) s e .of)) → siteFrom (y .site) (y .records .of) ≡ rowSite t x (siteFrom (getD (r .sites) s d) (getD (r .records) s e .of)))
-      → Fits (effectsIn (x .effects)) (runIn r .site s)
+      → (Fits (effectsIn t (x .effects)) (siteFrom (getD (r .sites) s d) (getD (r .records) s e .of)) → siteFrom (y .site) (y .records .of) ≡ rowSite t x (siteFrom (getD (r .sites) s d) (getD (r .records) s e .of)))
+      → Fits (effectsIn t (x .effects)) (runIn r .site s)
       → siteAt (set (r .sites) s (y .site)) (set (r .records) s (y .records)) ≡ update s (λ _. rowSite t x (runIn r .site s)) (runIn r .site)
   unfolding runIn
   log-stored e y after fits =

@@ -111,7 +111,7 @@ until-later o w = go (empty w)
     go true = refl
     go false = refl
 
-module _ (g : Cohort) (small : g .members < 256) where
+module _ (t : ℕ) (g : Cohort) (small : g .members < 256) where
   -- a row leaves the part so
   abbrev Leaves : ℕ → Row CoordinatorPhase → Type 0
   Leaves out r = Apart g (record { phase = r .phase; takenOut = out })
@@ -121,7 +121,7 @@ module _ (g : Cohort) (small : g .members < 256) where
     not-owing : (o : Outcome) (n : ℕ) → T (member (suc n) out) → T (member (suc n) (owing (remaining g out) o)) → ⊥
     not-owing o n k u = both-ways (member (suc n) out) k (remains-in g out n (owing-remaining g out o n u .0))
 
-    voted-apart : (w : ℕ) → ((n : ℕ) → T (member (suc n) out) → T (member (suc n) w) → ⊥) → (a b : Bool) → Leaves out (voted g out a b w)
+    voted-apart : (w : ℕ) → ((n : ℕ) → T (member (suc n) out) → T (member (suc n) w) → ⊥) → (a b : Bool) → Leaves out (voted t g out a b w)
     unfolding voted committing waitingSet
     voted-apart w apart true b = later-apart g out CoordinatorPhase.unknown byte members (λ n k u. absurd (subst T (none-in (suc n)) u)) refl
     voted-apart w apart false true =
@@ -129,7 +129,7 @@ module _ (g : Cohort) (small : g .members < 256) where
         (λ n k u. not-owing commit n k (until-waits commit (owing (remaining g out) commit) n u)) (until-later commit (owing (remaining g out) commit))
     voted-apart w apart false false = later-apart g out (CoordinatorPhase.collecting w) byte members apart refl
 
-    abort-apart : (i : Bool) (to : ℕ) → Leaves out (aborting (remaining g out) i to)
+    abort-apart : (i : Bool) (to : ℕ) → Leaves out (aborting t (remaining g out) i to)
     unfolding aborting both
     abort-apart i to =
         later-apart g out (untilAcked abort w) byte members
@@ -174,7 +174,7 @@ module _ (g : Cohort) (small : g .members < 256) where
     -- ---- by phase
 
     collecting-apart : (w out : ℕ) → Apart g (record { phase = CoordinatorPhase.collecting w; takenOut = out }) → (i : Input) → ((p : ℕ) → i ≡ received readOnly p → T (member p (g .members)))
-        → coordinatorStep g i (record { phase = CoordinatorPhase.collecting w; takenOut = out }) ≡ some row → Done
+        → coordinatorStep t g i (record { phase = CoordinatorPhase.collecting w; takenOut = out }) ≡ some row → Done
     unfolding coordinatorStep onBegin coordinatorTimer onYes onNo onReadOnly onAck counting waitingSet takingOut either
     collecting-apart w out x begin m e = no-row out e
     collecting-apart w out x timer m e = left out _ (abort-apart out (x .byte) (x .members) (writesInit g) (remaining g out .members)) e
@@ -194,7 +194,7 @@ module _ (g : Cohort) (small : g .members < 256) where
     acked-apart o w out x false = x
 
     awaiting-apart : (o : Outcome) (w out : ℕ) → Apart g (record { phase = CoordinatorPhase.awaitingAcks o w; takenOut = out }) → (i : Input)
-        → coordinatorStep g i (record { phase = CoordinatorPhase.awaitingAcks o w; takenOut = out }) ≡ some row → Done
+        → coordinatorStep t g i (record { phase = CoordinatorPhase.awaitingAcks o w; takenOut = out }) ≡ some row → Done
     unfolding coordinatorStep onBegin coordinatorTimer onYes onNo onReadOnly onAck telling
     awaiting-apart o w out x begin e = no-row out e
     awaiting-apart o w out x timer e = same _ _ refl x e
@@ -212,7 +212,7 @@ module _ (g : Cohort) (small : g .members < 256) where
         go true e = unfold ackedIf in left out _ (acked-apart o (without p w) out fewer _) e
         go false e = no-row out (unfold ackedIf in e)
 
-    initial-apart : (out : ℕ) → out ≡ 0 → (i : Input) → coordinatorStep g i (record { phase = CoordinatorPhase.initial; takenOut = out }) ≡ some row → Done
+    initial-apart : (out : ℕ) → out ≡ 0 → (i : Input) → coordinatorStep t g i (record { phase = CoordinatorPhase.initial; takenOut = out }) ≡ some row → Done
     unfolding coordinatorStep onBegin coordinatorTimer onYes onNo onReadOnly onAck preparing
     initial-apart out z begin e = left out _ (subst (λ (q : ℕ). Apart g (record { phase = CoordinatorPhase.collecting (g .members); takenOut = q })) (sym z) (none-apart g (CoordinatorPhase.collecting (g .members)))) e
     initial-apart out z timer e = no-row out e
@@ -224,7 +224,7 @@ module _ (g : Cohort) (small : g .members < 256) where
     initial-apart out z (received (ack o) p) e = no-row out e
 
     unknown-apart : (out : ℕ) → Apart g (record { phase = CoordinatorPhase.unknown; takenOut = out }) → (i : Input)
-        → coordinatorStep g i (record { phase = CoordinatorPhase.unknown; takenOut = out }) ≡ some row → Done
+        → coordinatorStep t g i (record { phase = CoordinatorPhase.unknown; takenOut = out }) ≡ some row → Done
     unfolding coordinatorStep onBegin coordinatorTimer onYes onNo onReadOnly onAck telling
     unknown-apart out x begin e = no-row out e
     unknown-apart out x timer e = no-row out e
@@ -235,10 +235,10 @@ module _ (g : Cohort) (small : g .members < 256) where
     unknown-apart out x (received (tell o) p) e = absurd (Option·none-ne-some row e)
     unknown-apart out x (received (ack o) p) e = no-row out e
 
-    step-apart : (c : Coordinator) → Apart g c → (i : Input) → ((p : ℕ) → i ≡ received readOnly p → T (member p (g .members))) → coordinatorStep g i c ≡ some row → Done
+    step-apart : (c : Coordinator) → Apart g c → (i : Input) → ((p : ℕ) → i ≡ received readOnly p → T (member p (g .members))) → coordinatorStep t g i c ≡ some row → Done
     step-apart c x i m e = go (c .phase) (c .takenOut) x e
       where
-        go : (p : CoordinatorPhase) (out : ℕ) → Apart g (record { phase = p; takenOut = out }) → coordinatorStep g i (record { phase = p; takenOut = out }) ≡ some row → Done
+        go : (p : CoordinatorPhase) (out : ℕ) → Apart g (record { phase = p; takenOut = out }) → coordinatorStep t g i (record { phase = p; takenOut = out }) ≡ some row → Done
         go CoordinatorPhase.initial out x e = initial-apart out (x .initial refl) i e
         go (CoordinatorPhase.collecting w) out x e = collecting-apart w out x i m e
         go (CoordinatorPhase.awaitingAcks o w) out x e = awaiting-apart o w out x i e
@@ -288,10 +288,10 @@ unfolding viewSettle withCoordinator
 row-apart c v u e x = subst (λ (g : Cohort). Apart g c) (sym e) x
 
 -- a restart takes nobody out
-restart-apart : (v : View) (row : Row Coordinator) (u : View) → u .transaction .cohort ≡ v .transaction .cohort → (has : ℕ → Bool) (told : ℕ → Cohort)
-    → coordinatorRestart has told ≡ row → ApartIn (viewStart 0 (withCoordinator 0 (row .phase)) u)
+restart-apart : (t : ℕ) (v : View) (row : Row Coordinator) (u : View) → u .transaction .cohort ≡ v .transaction .cohort → (has : ℕ → Bool) (told : ℕ → Cohort)
+    → coordinatorRestart t has told ≡ row → ApartIn (viewStart 0 (withCoordinator 0 (row .phase)) u)
 unfolding viewStart coordinatorRestart leaving
-restart-apart v row u q has told e =
+restart-apart t v row u q has told e =
     site-apart 0 started (viewSettle (withCoordinator 0 (row .phase)) u) (row-apart (row .phase) v u q (subst (λ (r : Row Coordinator). Apart (v .transaction .cohort) (r .phase)) e (none-apart (v .transaction .cohort) _)))
 
 woken-apart : (n : ℕ) (c : ParticipantPhase) (u : View) → ApartIn u → ApartIn (viewStart (suc n) (withParticipant (suc n) c) u)
@@ -302,7 +302,7 @@ turn-apart : {t : ℕ} {Out : ℕ → Type 0} {v w : View} → v .transaction .c
 turn-apart {v} small x (crashes s n) = down-apart s n v x
 turn-apart {v} small x (opens g a b c d e up ups) = unfold viewSettle openedAs in none-apart g CoordinatorPhase.initial
 turn-apart {v} small x (coordinates {row} i o up k takes e d) =
-    carried-apart (λ u y q. row-apart (row .phase) v u q (step-apart (v .transaction .cohort) small row (v .transaction .coordinator) x i (given i k) e)) x d
+    carried-apart (λ u y q. row-apart (row .phase) v u q (step-apart _ (v .transaction .cohort) small row (v .transaction .coordinator) x i (given i k) e)) x d
   where
     given : (i : Input) → Given v i → (p : ℕ) → i ≡ received readOnly p → T (member p (v .transaction .cohort .members))
     given i k p q = subst (Given v) q k .0
@@ -310,7 +310,7 @@ turn-apart {v} small x (participates {row} n i m up k own e d) = carried-apart (
 turn-apart {v} small x (marks n m e) = unfold viewSettle withMarked in record { byte = x .byte; members = x .members; unawaited = x .unawaited; initial = x .initial }
 turn-apart {v} small x (discards s up o e) = unfold viewDiscard in forget-apart _ s (viewAt s trimmedView v) (site-apart s trimmedView v x)
 turn-apart {v} small x (starts s e) = site-apart s started v x
-turn-apart {v} small x (resumes {row} o d e c) = carried-apart (λ u y q. restart-apart v row u q _ _ e) x c
+turn-apart {v} small x (resumes {row} o d e c) = carried-apart (λ u y q. restart-apart _ v row u q _ _ e) x c
 turn-apart {v} small x (returns {row} n d e c) = carried-apart (λ u y q. woken-apart n (row .phase) u y) x c
 
 site-small : (s : ℕ) (v : View) → v .transaction .cohort .members < 256 → viewAt s forced v .transaction .cohort .members < 256

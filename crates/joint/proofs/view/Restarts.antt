@@ -37,7 +37,7 @@ logless-forces (send m p ∷ es) h = logless-forces es (h .1)
 module _ (t : ℕ) (r : Run) where
   other-seen : (s u : ℕ) → u ≢ t → seenEffects t (restarting r s u .acts) ≡ []
   unfolding restarting rowPlan
-  other-seen zero u h = seen-other t u h _ ∙ logless-forces _ (coordinator-logless _ _)
+  other-seen zero u h = seen-other t u h _ ∙ logless-forces _ (coordinator-logless _ _ _)
   other-seen (suc n) u h = seen-other t u h _ ∙ logless-forces _ (participant-logless _ _ _)
 
   other-settles : (s u : ℕ) → u ≢ t → (ms : List Moment) (x : Run) → view t ms (restarting r s u .settle x) ≡ view t ms x
@@ -110,7 +110,7 @@ module _ (t : ℕ) (Out : ℕ → Type 0) (r : Run) where
   once-shown : (s : ℕ) (ts : List ℕ) → r .site s .up ≡ false → opened r t ≡ true → once t ts ≡ true → Shown t Out r (restartAll r s ts)
   unfolding restarting rowPlan viewStart view
   once-shown zero ts d e h =
-      let row : Row Coordinator = coordinatorRestart (λ k. holds t k (r .site 0 .stable)) (λ k. recordedCohort t k (r .site 0 .stable)) in
+      let row : Row Coordinator = coordinatorRestart t (λ k. holds t k (r .site 0 .stable)) (λ k. recordedCohort t k (r .site 0 .stable)) in
       record {
         after = viewStart 0 (withCoordinator 0 (row .phase));
         settles = once-settles t r 0 (viewSettle (withCoordinator 0 (row .phase))) (settle-own t _ (coordinator-bare (row .phase))) ts h;
@@ -118,7 +118,7 @@ module _ (t : ℕ) (Out : ℕ → Type 0) (r : Run) where
             λ ms w c.
             turn
             (resumes {row = row} (is-opened t ms r e) (site-up t ms r 0 ∙ d)
-            (ap₂ coordinatorRestart (held 0 ms) (tells ms))
+            (ap₂ (coordinatorRestart t) (held 0 ms) (tells ms))
             (rw (restart-site r 0 ts, once-seen t r 0 ts h, seen-own t (row .effects)) at c));
       }
   once-shown (suc n) ts d e h =

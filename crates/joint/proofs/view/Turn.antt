@@ -89,7 +89,7 @@ pub data Turn (t : ℕ) (Out : ℕ → Type 0) (v : View) : View → Type 0 wher
       → empty (v .transaction .cohort .members) ≡ true
       → Up v 0 → ((n : ℕ) → member (suc n) (g .members) ≡ true → Up v (suc n)) → Turn t Out v (viewSettle (openedAs g) v)
   coordinates : {row : Row Coordinator} {w : View} (i : Input) → Opened v → Up v 0 → Given v i → Takes Out v i
-      → coordinatorStep (v .transaction .cohort) i (v .transaction .coordinator) ≡ some row
+      → coordinatorStep t (v .transaction .cohort) i (v .transaction .coordinator) ≡ some row
       → Carried t 0 (row .effects) (viewSettle (withCoordinator 0 (row .phase))) v w → Turn t Out v w
   participates : {row : Row ParticipantPhase} {w : View} (n : ℕ) (i : Input) → T (member (suc n) (v .transaction .cohort .members)) → Up v (suc n)
       → Given v i → Own (suc n) i
@@ -104,7 +104,7 @@ pub data Turn (t : ℕ) (Out : ℕ → Type 0) (v : View) : View → Type 0 wher
   starts : (s : ℕ) → empty (v .transaction .cohort .members) ≡ true → Turn t Out v (viewAt s started v)
   -- the coordinator's row of a restart, and a participant's
   resumes : {row : Row Coordinator} {w : View} → Opened v → v .site 0 .up ≡ false
-      → coordinatorRestart (λ k. holds t k (v .site 0 .stable)) (λ k. recordedCohort t k (v .site 0 .stable)) ≡ row
+      → coordinatorRestart t (λ k. holds t k (v .site 0 .stable)) (λ k. recordedCohort t k (v .site 0 .stable)) ≡ row
       → Carried t 0 (row .effects) (viewStart 0 (withCoordinator 0 (row .phase))) v w → Turn t Out v w
   returns : {row : Row ParticipantPhase} {w : View} (n : ℕ) → v .site (suc n) .up ≡ false
       → participantRestart (presumptionOf (v .transaction .cohort) (suc n)) (suc n) (λ k. holds t k (v .site (suc n) .stable)) ≡ row

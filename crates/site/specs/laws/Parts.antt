@@ -12,9 +12,9 @@ unfolding closing appending
 closing-last zero es = sym (append-nil es)
 closing-last (suc k) es = refl
 
-pub five : (e : Effects)
-    → effectsIn e
+pub five : (t : ℕ) (e : Effects)
+    → effectsIn t e
     ≡ appending (e .appended) (fieldsBy (e .appended) (e .first) (e .second))
-    ++ (given (e .forced) (force ∷ []) ++ (entryOf (e .entered) ++ (sending (e .message) (e .owing) (e .to) ++ appending (e .last) (fieldsBy (e .last) 0 0))))
+    ++ (given (e .forced) (force ∷ []) ++ (entryOf (e .entered) ++ (sending t (e .message) (e .owing) (e .to) ++ appending (e .last) (fieldsBy (e .last) 0 0))))
 unfolding effectsIn
-five e = rw closing-last
+five t e = rw closing-last

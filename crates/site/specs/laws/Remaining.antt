@@ -77,35 +77,35 @@ remaining-none g h c = rw (masks.minus-none (g .members) h, masks.minus-none (g 
 -- ---- the order of sends
 
 -- to a set it goes by those alone of its members that go first
-pub order-within : (a b to : ℕ) → ((p : ℕ) → Numbered p → member p to ≡ true → member p a ≡ member p b) → ordered a to ≡ ordered b to
+pub order-within : (t a b to : ℕ) → ((p : ℕ) → Numbered p → member p to ≡ true → member p a ≡ member p b) → ordered t a to ≡ ordered t b to
 unfolding both minus
-order-within a b to h =
-    in-order a to
+order-within t a b to h =
+    in-order t a to
     ∙ ap₂ (λ (x y : ℕ). listed x ++ listed y)
     (those-alike (λ p. member p to && member p a) (λ p. member p to && member p b) (λ i k. by (λ x. x) (suc i) (omega arith, omega (arith, k)) (member (suc i) to) refl))
     (those-alike (λ p. member p to && not (member p a)) (λ p. member p to && not (member p b))
     (λ i k. by not (suc i) (omega arith, omega (arith, k)) (member (suc i) to) refl))
-    ∙ sym (in-order b to)
+    ∙ sym (in-order t b to)
   where
-    by : (f : Bool → Bool) (p : ℕ) → Numbered p → (t : Bool) → member p to ≡ t → (t && f (member p a)) ≡ (t && f (member p b))
+    by : (f : Bool → Bool) (p : ℕ) → Numbered p → (m : Bool) → member p to ≡ m → (m && f (member p a)) ≡ (m && f (member p b))
     by f p n true e = ap f (h p n e)
     by f p n false e = refl
 
 -- to some that remain it is the order of the cohort as opened
-pub remaining-order : (g : Cohort) (out : ℕ) (o : Outcome) (to : ℕ) → ((p : ℕ) → Numbered p → member p to ≡ true → member p out ≡ false)
-    → ordered (owing g o) to ≡ ordered (owing (remaining g out) o) to
-remaining-order g out o to h =
-    order-within (owing g o) (owing (remaining g out) o) to
+pub remaining-order : (t : ℕ) (g : Cohort) (out : ℕ) (o : Outcome) (to : ℕ) → ((p : ℕ) → Numbered p → member p to ≡ true → member p out ≡ false)
+    → ordered t (owing g o) to ≡ ordered t (owing (remaining g out) o) to
+remaining-order t g out o to h =
+    order-within t (owing g o) (owing (remaining g out) o) to
     (λ p n e. sym (remaining-owing g out o p n ∙ rw (h p n e) (and-true (member p (owing g o)))))
 
 -- ---- restart: the masks that count are those of record 2 where there is one, else those of record 1
 
-pub restart-by : (has : ℕ → Bool) (told : ℕ → Cohort) → coordinatorRestart has told ≡ coordinatorRestart has (λ k. told (cond (has 2) 2 1))
+pub restart-by : (t : ℕ) (has : ℕ → Bool) (told : ℕ → Cohort) → coordinatorRestart t has told ≡ coordinatorRestart t has (λ k. told (cond (has 2) 2 1))
 unfolding coordinatorRestart restartFrom
-restart-by has told = by (has 1) (has 2) (has 3) (not (has 4))
+restart-by t has told = by (has 1) (has 2) (has 3) (not (has 4))
   where
     by : (a b c d : Bool)
-        → leaving 0 (restartFrom (b && not c) (a && not b && d) told) ≡ leaving 0 (restartFrom (b && not c) (a && not b && d) (λ k. told (cond b 2 1)))
+        → leaving 0 (restartFrom t (b && not c) (a && not b && d) told) ≡ leaving 0 (restartFrom t (b && not c) (a && not b && d) (λ k. told (cond b 2 1)))
     by true true true d = refl
     by true true false d = refl
     by true false c true = refl

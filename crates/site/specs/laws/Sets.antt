@@ -14,7 +14,7 @@ use Rattle.codec.specs.laws.Masks.{those-alike, those-below, those-members, in-
 use Rattle.codec.specs.laws.Lowest.{listed-those, lowest-part}
 use Rattle.site.specs.Presumption.{commit, abort, acks, presumedAbort, presumedCommit}
 use Rattle.site.specs.Cohort.{Cohort, presumptionOf, owing}
-use Rattle.site.specs.Coordinator.{inTurn, ordered}
+use Rattle.site.specs.Coordinator.{round, inTurn, ordered}
 
 -- a participant's number
 abbrev pub Numbered : ℕ → Type 0
@@ -42,9 +42,9 @@ owing-abort g =
     by true = refl
     by false = refl
 
-pub ordered-none : (first : ℕ) → ordered first 0 ≡ []
-unfolding ordered inTurn listed select participants member
-ordered-none first = refl
+pub ordered-none : (t first : ℕ) → ordered t first 0 ≡ []
+unfolding ordered inTurn round select participants member
+ordered-none t first = refl
 
 -- ---- the order of sends is that of two sets
 
@@ -62,9 +62,9 @@ select-listed : (f : ℕ → Bool) (to : ℕ) → select f (listed to) ≡ selec
 unfolding listed
 select-listed f to = select-select (λ p. member p to) f participants
 
-pub in-order : (first to : ℕ) → ordered first to ≡ listed (both to first) ++ listed (minus to first)
-unfolding ordered inTurn both minus
-in-order first to =
+pub in-order : (t first to : ℕ) → ordered t first to ≡ listed (both to first) ++ listed (minus to first)
+unfolding ordered inTurn round listed both minus
+in-order t first to =
     rw (listed-those (λ p. member p to && member p first), listed-those (λ p. member p to && not (member p first)))
     (ap₂ _++_ (select-listed (λ p. member p first) to) (select-listed (λ p. not (member p first)) to))
 
@@ -78,9 +78,9 @@ select-split {A} f (p ∷ l) = by (f p) (select-split f l)
     by true e = omega (arith, e)
     by false e = omega (arith, e)
 
-pub order-length : (first to : ℕ) → length (ordered first to) ≡ length (listed to)
-unfolding ordered inTurn
-order-length first to = length-append (select (λ p. member p first) (listed to)) _ ∙ select-split (λ p. member p first) (listed to)
+pub order-length : (t first to : ℕ) → length (ordered t first to) ≡ length (listed to)
+unfolding ordered inTurn round listed
+order-length t first to = length-append (select (λ p. member p first) (listed to)) _ ∙ select-split (λ p. member p first) (listed to)
 
 -- ---- the first of them
 
@@ -110,7 +110,7 @@ module _ (l r t o : Bool) (el : l ≡ (l && (t && o))) (er : r ≡ (r && (t && n
   in-second = ap (λ (b : Bool). (b && not o)) (ap₂ _||_ el er) ∙ alike-eq _ _ (bools-at secondTest (l ∷ r ∷ t ∷ o ∷ []) tt) ∙ sym er
 
 -- of a set a in `first` and a set b out of it
-module _ (first to n m a b : ℕ) (ha : a < 256) (hb : b < 256)
+module _ (t first to n m a b : ℕ) (ha : a < 256) (hb : b < 256)
     (ea : listed a ≡ take n (listed (both to first)))
     (eb : listed b ≡ take m (listed (minus to first))) where
   within-first : (i : ℕ) → i < 8 → member (suc i) a ≡ (member (suc i) a && (member (suc i) to && member (suc i) first))
@@ -141,9 +141,9 @@ module _ (first to n m a b : ℕ) (ha : a < 256) (hb : b < 256)
       ∙ in-second (member (suc i) a) (member (suc i) b) (member (suc i) to) (member (suc i) first) (within-first i h) (within-second i h))
       ∙ those-members b hb
 
-  pub order-cut : m ≡ n - length (listed (both to first)) → ordered first (either a b) ≡ take n (ordered first to)
+  pub order-cut : m ≡ n - length (listed (both to first)) → ordered t first (either a b) ≡ take n (ordered t first to)
   order-cut e =
-      in-order first (either a b)
+      in-order t first (either a b)
       ∙ ap₂ (λ (x y : ℕ). listed x ++ listed y) first-of second-of
       ∙ ap₂ _++_ ea (eb ∙ ap (λ (k : ℕ). take k (listed (minus to first))) e)
-      ∙ sym (ap (take n) (in-order first to) ∙ take-append n (listed (both to first)) (listed (minus to first)))
+      ∙ sym (ap (take n) (in-order t first to) ∙ take-append n (listed (both to first)) (listed (minus to first)))

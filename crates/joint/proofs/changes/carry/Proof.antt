@@ -16,7 +16,7 @@ returns-2 : tie.Need-returns-2
 unfolding changeIn answerIn
 returns-2 c = λ w s t here fits.
     let a = c .before .before .before .before .args in
-    cut-beyond w s t (a .row) (a .cut) (a .keep) (c .before .before .before .if1 .left) (omega (arith, c .before .count .ensures))
+    cut-beyond w s t (a .row) (a .cut) (a .keep) (c .before .before .before .if1 .left) (omega (arith, c .before .count .ensures t))
 
 returns-3 : tie.Need-returns-3
 unfolding changeIn answerIn
@@ -25,8 +25,8 @@ returns-3 c = λ w s t here fits.
     let k = f .before .before in
     let n = k .before .before in
     let a = n .before .before .before .args in
-    keep-beyond w s t (a .row) (a .cut) (a .keep) (n .before .before .if1 .left) (k .cut .result) (k .cut .ensures) (omega (arith, n .count .ensures))
-    (omega (arith, f .unforced-count .ensures, unforced-after (a .site) (f .before .after .result) w s t (a .row .effects) (k .cut .result) (a .cut) here fits (k .cut .ensures) (f .before .after .ensures)))
+    keep-beyond w s t (a .row) (a .cut) (a .keep) (n .before .before .if1 .left) (k .cut .result) (k .cut .ensures t) (omega (arith, n .count .ensures t))
+    (omega (arith, f .unforced-count .ensures, unforced-after (a .site) (f .before .after .result) w s t (a .row .effects) (k .cut .result) (a .cut) here fits (k .cut .ensures t) (f .before .after .ensures)))
 
 returns-4 : tie.Need-returns-4
 unfolding changeIn
@@ -35,8 +35,8 @@ returns-4 c = λ w s t here fits.
     let k = f .before .before in
     let n = k .before .before in
     let a = n .before .before .before .args in
-    carried-cut w s t (a .row) (a .cut) (a .keep) (n .before .before .if1 .left) (k .cut .result) (k .cut .ensures) (omega (arith, n .count .ensures))
-    (omega (arith, f .unforced-count .ensures, unforced-after (a .site) (f .before .after .result) w s t (a .row .effects) (k .cut .result) (a .cut) here fits (k .cut .ensures) (f .before .after .ensures)))
+    carried-cut w s t (a .row) (a .cut) (a .keep) (n .before .before .if1 .left) (k .cut .result) (k .cut .ensures t) (omega (arith, n .count .ensures t))
+    (omega (arith, f .unforced-count .ensures, unforced-after (a .site) (f .before .after .result) w s t (a .row .effects) (k .cut .result) (a .cut) here fits (k .cut .ensures t) (f .before .after .ensures)))
 
 pub carry-spec : {M : Type 1} → statement M
 carry-spec =

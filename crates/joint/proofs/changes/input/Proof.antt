@@ -123,7 +123,7 @@ returns-7 c =
     let e = a .e in
     let st = c .before .before .before .before .before in
     let none = rw (c .before .before .before .enum-told .given .1) at (st .step .ensures w (e .transaction) own) in
-    c .carry2 .ensures w (e .site) (e .transaction) here (nothing-fits (a .site) w (e .site) here)
+    c .carry2 .ensures w (e .site) (e .transaction) here (nothing-fits (a .site) w (e .site) (e .transaction) here)
     ∙ sym (input-nothing w (start i .pre) (cutFrom (e .cut) (e .keep)) (passed i w here own) none (omega arith))
 
 pub input-spec : {M : Type 1} → statement M

@@ -221,7 +221,7 @@ loop-again-5 c =
     let forget : (ℕ → plain.Transaction) → ℕ → plain.Transaction = λ f u. forgotten (number d) (f u) in
     next r (variants.Accepted (counts (answered s))) (record { sites = j .if2 .run .sites; records = j .if2 .run .records; transactions = c .forget-all .result; forces = j .if2 .run .forces }) _
     (record { nine = full-put j .nine; logs = full-put j .logs; whole = full-put j .whole; eight = gone c; counters = full-put j .counters })
-    (λ h. turned (answered s) _ (forces-put j) (happens-seen (w r) (number d) (transaction d) (row s) (counts (answered s)) _ _ (answered s .before .before .before .before .before .before .of .ensures) (site-put j h)
+    (λ h. turned (answered s) _ (forces-put j) (happens-seen (w r) (number d) (transaction d) (row s) (counts (answered s)) _ _ (answered s .before .before .before .before .before .before .of .ensures (transaction d)) (site-put j h)
     (rw (sym (c .before .before .before .goes-down .ensures) ∙ c .before .before .if3 .taken) (c .forget-all .ensures ∙ ap forget (ap transactionsIn (transactions-put j) ∙ put-stored s)))
     ∙ row-seen s h))
     (c .before .before .before .before .before .before .before .before .before .before .before .before .store4 .ensures)
@@ -238,7 +238,7 @@ loop-again-6 c =
     let r = step-read (found d) in
     next r (variants.Accepted (counts (answered s))) (j .if2 .run) _
     (full-put j)
-    (λ h. turned (answered s) _ (forces-put j) (happens-seen (w r) (number d) (transaction d) (row s) (counts (answered s)) _ _ (answered s .before .before .before .before .before .before .of .ensures) (site-put j h)
+    (λ h. turned (answered s) _ (forces-put j) (happens-seen (w r) (number d) (transaction d) (row s) (counts (answered s)) _ _ (answered s .before .before .before .before .before .before .of .ensures (transaction d)) (site-put j h)
     (rw (sym (c .before .goes-down .ensures) ∙ c .if3 .left) (ap transactionsIn (transactions-put j) ∙ put-stored s))
     ∙ row-seen s h))
     (c .before .before .before .before .before .before .before .before .before .before .store4 .ensures)

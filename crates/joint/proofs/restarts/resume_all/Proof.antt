@@ -57,14 +57,14 @@ loop-again c =
     let t = r .before in
     let o = t .before in
     let a = l o .before .before .args in
-    let hs = effectsIn (h .cut .result) in
+    let hs = effectsIn (l o .loop .i) (h .cut .result) in
     resuming-row (a .site) (a .cut) (a .kinds .of) _ (a .transactions) _ (l o .loop .left) (l o .loop .sends) (l o .loop .i) (l o .loop .inv) (below o) (is-opened o _ (t .if1 .taken))
     (r .restart .result) hs (v .settle .result) (c .before .less .result) (c .sends .result)
     (λ x e. r .restart .ensures x (read o _ ∙ e))
-    (h .cut .ensures)
-    (v .settle .ensures ∙ ap (thenTransaction (a .site) (r .restart .result .then)) (v .before .after .ensures ∙ ap (transactionAfter (a .site) hs) (read o _)))
-    (c .before .less .ensures ∙ ap (λ (k : ℕ). l o .loop .left - k) (n .count .ensures))
-    (c .sends .ensures .0 ∙ sym (row-sends (h .cut .result)))
+    (h .cut .ensures (l o .loop .i))
+    (v .settle .ensures ∙ ap (thenTransaction (a .site) (r .restart .result .then)) (v .before .after .ensures (l o .loop .i) ∙ ap (transactionAfter (a .site) hs) (read o _)))
+    (c .before .less .ensures ∙ ap (λ (k : ℕ). l o .loop .left - k) (n .count .ensures (l o .loop .i)))
+    (c .sends .ensures .0 (l o .loop .i) ∙ sym (row-sends (l o .loop .i) (h .cut .result)))
     (c .sends .ensures .1)
 
 loop-again-2 : tie.Need-loop-again-2 Inv-loop μ-loop

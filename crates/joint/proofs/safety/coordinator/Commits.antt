@@ -24,15 +24,15 @@ use Rattle.codec.specs.laws.Tests.{of-true}
 -- ---- begin
 
 -- each member is asked
-asked : (g : Cohort) (w out : ℕ) → Each (Addressee g (collecting w out false) prepare) (inTurn (g .members))
-asked g w out = each-in-turn (Addressee g (collecting w out false) prepare) (g .members) (λ n m. (m, tt))
+asked : (t : ℕ) (g : Cohort) (w out : ℕ) → Each (Addressee g (collecting w out false) prepare) (inTurn t (g .members))
+asked t g w out = each-in-turn (Addressee g (collecting w out false) prepare) t (g .members) (λ n m. (m, tt))
 
 module _ (t : ℕ) (h0 : Standing) where
   asks : (v : View) (w out : ℕ) → Node t h0 v (collecting w out false)
-      → Runs t h0 v (map (send prepare) (inTurn (cohortOf v .members))) (collecting w out false)
+      → Runs t h0 v (map (send prepare) (inTurn t (cohortOf v .members))) (collecting w out false)
   asks v w out x =
-      subst (λ (es : List Effect). Runs t h0 v es (collecting w out false)) (append-nil (map (send prepare) (inTurn (cohortOf v .members))))
-      (sends-run t h0 [] (collecting w out false) prepare (inTurn (cohortOf v .members)) v (asked (cohortOf v) w out) x (λ u e y. y))
+      subst (λ (es : List Effect). Runs t h0 v es (collecting w out false)) (append-nil (map (send prepare) (inTurn t (cohortOf v .members))))
+      (sends-run t h0 [] (collecting w out false) prepare (inTurn t (cohortOf v .members)) v (asked t (cohortOf v) w out) x (λ u e y. y))
 
   module _ (v : View) where
     abbrev g : Cohort
@@ -43,38 +43,38 @@ module _ (t : ℕ) (h0 : Standing) where
 
     -- b: record 1 is written
     begin-if : (b : Bool) → writesInit g ≡ b → Node t h0 v (initial false)
-        → Runs t h0 v (given b (append 1 (masksOf g) ∷ force ∷ []) ++ map (send prepare) (inTurn (g .members))) (collecting (g .members) 0 false)
+        → Runs t h0 v (given b (append 1 (masksOf g) ∷ force ∷ []) ++ map (send prepare) (inTurn t (g .members))) (collecting (g .members) 0 false)
     unfolding given viewPerform viewAt appended forced
     begin-if true e x =
-        append-run t h0 (force ∷ map (send prepare) (inTurn (g .members))) (collecting (g .members) 0 false) 1 (masksOf g) x
+        append-run t h0 (force ∷ map (send prepare) (inTurn t (g .members))) (collecting (g .members) 0 false) 1 (masksOf g) x
         (writes v (of-true e)) refl
         (λ y.
-        force-run t h0 (map (send prepare) (inTurn (g .members))) (collecting (g .members) 0 false) y (begins begun true (x .mid .sound .byte)) (rw e refl)
+        force-run t h0 (map (send prepare) (inTurn t (g .members))) (collecting (g .members) 0 false) y (begins begun true (x .mid .sound .byte)) (rw e refl)
         (λ z. asks (viewPerform 0 t force begun) (g .members) 0 z))
     begin-if false e x = asks v (g .members) 0 (node-stay t h0 x (begins v false (x .mid .sound .byte)) (rw e refl))
 
-    pub begin-run : Node t h0 v (initial false) → Runs t h0 v (preparing g (writesInit g) .effects) (collecting (g .members) 0 false)
+    pub begin-run : Node t h0 v (initial false) → Runs t h0 v (preparing t g (writesInit g) .effects) (collecting (g .members) 0 false)
     unfolding preparing
     begin-run x = begin-if (writesInit g) refl x
 
 -- ---- the outcome is entered and told
 
 -- to members, in the order of a cohort k: as opened, or as it remains
-pub told : (g k : Cohort) (o : Outcome) (out : ℕ) (p : Pace) (l : Log) (to : ℕ) → ((q : ℕ) → T (member q to) → T (member q (g .members)))
-    → Each (Addressee g (decided o out p l) (tell o)) (inOrder k o to)
+pub told : (t : ℕ) (g k : Cohort) (o : Outcome) (out : ℕ) (p : Pace) (l : Log) (to : ℕ) → ((q : ℕ) → T (member q to) → T (member q (g .members)))
+    → Each (Addressee g (decided o out p l) (tell o)) (inOrder t k o to)
 unfolding inOrder
-told g k o out p l to f =
-    each-ordered (Addressee g (decided o out p l) (tell o)) (owing k o) to (λ n m. (f (suc n) m, or-left (sameOutcome o o) _ (refl-outcome o)))
+told t g k o out p l to f =
+    each-ordered (Addressee g (decided o out p l) (tell o)) t (owing k o) to (λ n m. (f (suc n) m, or-left (sameOutcome o o) _ (refl-outcome o)))
 
 module _ (t : ℕ) (h0 : Standing) where
   pub enter-tell : {v : View} (k : Cohort) (o : Outcome) (out : ℕ) (p : Pace) (l : Log) (to : ℕ) → ((q : ℕ) → T (member q to) → T (member q (cohortOf v .members)))
       → (es : List Effect) (h′ : Standing)
       → Node t h0 v (decided o out p l) → ((w : View) → cohortOf w ≡ cohortOf v → Node t h0 w (decided o out p l) → Runs t h0 w es h′)
-      → Runs t h0 v (enter o ∷ (tellAll k o to ++ es)) h′
+      → Runs t h0 v (enter o ∷ (tellAll t k o to ++ es)) h′
   unfolding viewPerform tellAll
   enter-tell {v} k o out p l to f es h′ x r =
-      enter-run t h0 (tellAll k o to ++ es) h′ o x (refl-outcome o)
-      (λ y. sends-run t h0 es h′ (tell o) (inOrder k o to) (viewPerform 0 t (enter o) v) (told (cohortOf v) k o out p l to f) y r)
+      enter-run t h0 (tellAll t k o to ++ es) h′ o x (refl-outcome o)
+      (λ y. sends-run t h0 es h′ (tell o) (inOrder t k o to) (viewPerform 0 t (enter o) v) (told t (cohortOf v) k o out p l to f) y r)
 
   -- where nobody is waited for, and no record ends it, the coordinator is in Unknown
   pub settle-node : (v : View) (b : Bool) (o : Outcome) (out w : ℕ) (l : Log) → empty w ≡ b → Node t h0 v (decided o out (waiting w) l)
@@ -102,7 +102,7 @@ module _ (t : ℕ) (h0 : Standing) (v : View) (out : ℕ) where
 
   -- no vote of w is missing; b: nobody owes an ack
   pub commit-run : (w : ℕ) → T (empty w) → T (not (empty (rest .members))) → (b : Bool) → empty (owing rest commit) ≡ b → Node t h0 v (collecting w out false)
-      → Runs t h0 v (committing rest .effects) (final b)
+      → Runs t h0 v (committing t rest .effects) (final b)
   unfolding committing viewPerform viewAt appended
   commit-run w e left b q x =
       append-run t h0 (force ∷ enter commit ∷ tells) (final b) 2 (masksOf rest) x (marks v w out (x .mid) e left) refl
@@ -118,7 +118,7 @@ module _ (t : ℕ) (h0 : Standing) (v : View) (out : ℕ) where
       i = writesInit (cohortOf v)
 
       tells : List Effect
-      tells = tellAll rest commit (rest .members)
+      tells = tellAll t rest commit (rest .members)
 
       members : (q : ℕ) → T (member q (rest .members)) → T (member q (cohortOf v .members))
       members zero k = absurd (no-zero (rest .members) k)

@@ -63,12 +63,12 @@ module _ (t : ℕ) (v w : View) (row : Row Coordinator) where
 
   -- ---- Open
 
-  begin-next : Mid t (initial false) v → Opened v → leavingIf 0 (some (preparing g (writesInit g))) ≡ some row → Done → Next t (initial false) w
+  begin-next : Mid t (initial false) v → Opened v → leavingIf 0 (some (preparing t g (writesInit g))) ≡ some row → Done → Next t (initial false) w
   unfolding preparing
   begin-next mid o e d =
-      row-done 0 (preparing g (writesInit g)) e (collecting (g .members) 0 false) (begin-run t (initial false) v (node-start mid)) refl (of-false o) d
+      row-done 0 (preparing t g (writesInit g)) e (collecting (g .members) 0 false) (begin-run t (initial false) v (node-start mid)) refl (of-false o) d
 
-  initial-next : Mid t (initial false) v → Opened v → (i : Input) → coordinatorStep g i (record { phase = CoordinatorPhase.initial; takenOut = 0 }) ≡ some row → Done
+  initial-next : Mid t (initial false) v → Opened v → (i : Input) → coordinatorStep t g i (record { phase = CoordinatorPhase.initial; takenOut = 0 }) ≡ some row → Done
       → Next t (initial false) w
   unfolding coordinatorStep onBegin coordinatorTimer onYes onNo onReadOnly onAck
   initial-next mid o begin e d = begin-next mid o e d
@@ -88,31 +88,31 @@ module _ (t : ℕ) (v w : View) (row : Row Coordinator) where
 
     -- a vote was counted; nobody remains (a), or no vote is missing (b)
     voted-next : (h0 : Standing) (x after : ℕ) → Node t h0 v (collecting x after false) → (a b : Bool) → empty (remaining g after .members) ≡ a → empty x ≡ b
-        → leavingIf after (some (voted g after a b x)) ≡ some row → Done → Next t h0 w
+        → leavingIf after (some (voted t g after a b x)) ≡ some row → Done → Next t h0 w
     unfolding voted committing
     voted-next h0 x after counted true b q z e d =
-        row-done after (voted g after true b x) e (decided abort after (resting (writesInit g)) (initLog (writesInit g)))
+        row-done after (voted t g after true b x) e (decided abort after (resting (writesInit g)) (initLog (writesInit g)))
         (unfold voted in vanish-run t h0 v x after (of-true q) (writesInit g) refl counted) (unfold voted in refl) tt d
     voted-next h0 x after counted false false q z e d =
-        row-done after (voted g after false false x) e (collecting x after false) (unfold voted in counted) (unfold voted in refl) (of-false z) d
+        row-done after (voted t g after false false x) e (collecting x after false) (unfold voted in counted) (unfold voted in refl) (of-false z) d
     voted-next h0 x after counted false true q z e d =
-        row-done after (voted g after false true x) e (settledAs last false commit after (owing (remaining g after) commit) (commitLog (writesInit g)))
+        row-done after (voted t g after false true x) e (settledAs last false commit after (owing (remaining g after) commit) (commitLog (writesInit g)))
         (unfold voted in commit-run t h0 v after x (of-true z) (of-false q) last refl counted) phase
         (settled-between last false commit after (owing (remaining g after) commit) (commitLog (writesInit g)) refl) d
       where
         last : Bool
         last = empty (owing (remaining g after) commit)
 
-        phase : PhaseAs (settledAs last false commit after (owing (remaining g after) commit) (commitLog (writesInit g))) (record { phase = voted g after false true x .phase; takenOut = after })
+        phase : PhaseAs (settledAs last false commit after (owing (remaining g after) commit) (commitLog (writesInit g))) (record { phase = voted t g after false true x .phase; takenOut = after })
         phase = go last refl
           where
             go : (l : Bool) → empty (owing (remaining g after) commit) ≡ l
-                → PhaseAs (settledAs l false commit after (owing (remaining g after) commit) (commitLog (writesInit g))) (record { phase = voted g after false true x .phase; takenOut = after })
+                → PhaseAs (settledAs l false commit after (owing (remaining g after) commit) (commitLog (writesInit g))) (record { phase = voted t g after false true x .phase; takenOut = after })
             go true q = unfold voted committing in settled-phase true false commit after (owing (remaining g after) commit) (commitLog (writesInit g)) q
             go false q = unfold voted committing in settled-phase false false commit after (owing (remaining g after) commit) (commitLog (writesInit g)) q
 
     abbrev counting-row : ℕ → ℕ → Row CoordinatorPhase
-    counting-row x after = voted g after (empty (remaining g after .members)) (empty x) x
+    counting-row x after = voted t g after (empty (remaining g after .members)) (empty x) x
 
     -- one that is taken out has no more rows
     unless-out : (h0 : Standing) (p after : ℕ) (r : Row CoordinatorPhase) (b : Bool) → member p out ≡ b → leavingIf after (onlyIf (not b) r) ≡ some row
@@ -141,10 +141,10 @@ module _ (t : ℕ) (v w : View) (row : Row Coordinator) where
 
     abort-next : (to : ℕ) → ((q : ℕ) → T (member q to) → T (member q (remaining g out .members)))
         → ((n : ℕ) → T (member (suc n) (g .members)) → T (not (member (suc n) to)) → T (sentIn v (suc n) voteNo || sentIn v (suc n) readOnly))
-        → leavingIf out (some (aborting (remaining g out) (writesInit g) to)) ≡ some row → Done → Next t here w
+        → leavingIf out (some (aborting t (remaining g out) (writesInit g) to)) ≡ some row → Done → Next t here w
     unfolding aborting
     abort-next to part said e d =
-        row-done out (aborting (remaining g out) (writesInit g) to) e (settledAs none-awaited (writesInit g) abort out (awaited g out to) (initLog (writesInit g)))
+        row-done out (aborting t (remaining g out) (writesInit g) to) e (settledAs none-awaited (writesInit g) abort out (awaited g out to) (initLog (writesInit g)))
         (abort-run t here v to c out part said (node-start mid)) phase
         (settled-between none-awaited (writesInit g) abort out (awaited g out to) (initLog (writesInit g)) refl) d
       where
@@ -180,20 +180,20 @@ module _ (t : ℕ) (v w : View) (row : Row Coordinator) where
 
     -- all that remain but p, who said No
     no-next : (p : ℕ) → T (sentIn v p voteNo)
-        → leavingIf out (onlyIf (not (member p out)) (aborting (remaining g out) (writesInit g) (without p (remaining g out .members)))) ≡ some row → Done → Next t here w
+        → leavingIf out (onlyIf (not (member p out)) (aborting t (remaining g out) (writesInit g) (without p (remaining g out .members)))) ≡ some row → Done → Next t here w
     no-next p nay e d =
-        unless-out here p out (aborting (remaining g out) (writesInit g) (without p (remaining g out .members))) (member p out) refl e
+        unless-out here p out (aborting t (remaining g out) (writesInit g) (without p (remaining g out .members))) (member p out) refl e
         (λ k. abort-next (without p (remaining g out .members)) (without-part p (remaining g out .members) (remaining g out .members) (λ q m. m)) (λ n m u. left-out p n nay m u) k d)
 
     -- all that remain
-    timer-next : leavingIf out (some (aborting (remaining g out) (writesInit g) (remaining g out .members))) ≡ some row → Done → Next t here w
+    timer-next : leavingIf out (some (aborting t (remaining g out) (writesInit g) (remaining g out .members))) ≡ some row → Done → Next t here w
     timer-next e d =
         abort-next (remaining g out .members) (λ q m. m)
         (λ n m u.
         ⊎-elim (λ k. absurd (both-ways (member (suc n) (remaining g out .members)) k u)) (λ k. or-right (sentIn v (suc n) voteNo) (sentIn v (suc n) readOnly) (mid .votes .looked n k))
         (remains-or-out g out (mid .sound .byte) n m)) e d
 
-    collecting-next : (i : Input) → Given v i → coordinatorStep g i (record { phase = CoordinatorPhase.collecting c; takenOut = out }) ≡ some row → Done → Stepped t here i w
+    collecting-next : (i : Input) → Given v i → coordinatorStep t g i (record { phase = CoordinatorPhase.collecting c; takenOut = out }) ≡ some row → Done → Stepped t here i w
     unfolding coordinatorStep onBegin coordinatorTimer onYes onNo onReadOnly onAck counting
     collecting-next begin k e d = none-left out e
     collecting-next timer k e d = steps (timer-next e d)
@@ -252,11 +252,11 @@ module _ (t : ℕ) (v w : View) (row : Row Coordinator) where
     tell-next (suc n) m e d =
         row-done x (telling o (suc n) (CoordinatorPhase.awaitingAcks o c)) e waits (tell-run t waits v o out (waiting c) l (CoordinatorPhase.awaitingAcks o c) n m (node-start mid)) refl some-left d
 
-    waiting-next : (i : Input) → Given v i → coordinatorStep g i (record { phase = CoordinatorPhase.awaitingAcks o c; takenOut = x }) ≡ some row → Done → Next t waits w
+    waiting-next : (i : Input) → Given v i → coordinatorStep t g i (record { phase = CoordinatorPhase.awaitingAcks o c; takenOut = x }) ≡ some row → Done → Next t waits w
     unfolding coordinatorStep onBegin coordinatorTimer onYes onNo onReadOnly onAck
     waiting-next begin k e d = none-left x e
     waiting-next timer k e d =
-        row-done x (record { effects = tellAll g o c; phase = CoordinatorPhase.awaitingAcks o c }) e waits
+        row-done x (record { effects = tellAll t g o c; phase = CoordinatorPhase.awaitingAcks o c }) e waits
         (tell-all-run t waits v o out (waiting c) l c waits-part (node-start mid)) refl some-left d
     waiting-next (received prepare p) k e d = no-row e
     waiting-next (received voteYes p) k e d = tell-next p (k .0) e d
@@ -275,7 +275,7 @@ module _ (t : ℕ) (v w : View) (row : Row Coordinator) where
     reply-next (suc n) m y e d =
         row-done x (telling (silence (presumptionOf g (suc n))) (suc n) CoordinatorPhase.unknown) e (decided o out (resting b) l) (reply-run t (decided o out (resting b) l) v o out b l CoordinatorPhase.unknown n m y (node-start mid)) refl tt d
 
-    unknown-next : (i : Input) → Given v i → coordinatorStep g i (record { phase = CoordinatorPhase.unknown; takenOut = x }) ≡ some row → Done → Next t (decided o out (resting b) l) w
+    unknown-next : (i : Input) → Given v i → coordinatorStep t g i (record { phase = CoordinatorPhase.unknown; takenOut = x }) ≡ some row → Done → Next t (decided o out (resting b) l) w
     unfolding coordinatorStep onBegin coordinatorTimer onYes onNo onReadOnly onAck
     unknown-next begin k e d = none-left x e
     unknown-next timer k e d = none-left x e
@@ -289,21 +289,21 @@ module _ (t : ℕ) (v w : View) (row : Row Coordinator) where
   -- ---- all phases
 
   -- the coordinator's part, by its phase
-  with-phase : {A : Type 0} (i : Input) (c : Coordinator) (p : CoordinatorPhase) → c .phase ≡ p → coordinatorStep g i c ≡ some row
-      → (coordinatorStep g i (record { phase = p; takenOut = c .takenOut }) ≡ some row → A) → A
-  with-phase i c p q e f = f (subst (λ (z : CoordinatorPhase). coordinatorStep g i (record { phase = z; takenOut = c .takenOut }) ≡ some row) q e)
+  with-phase : {A : Type 0} (i : Input) (c : Coordinator) (p : CoordinatorPhase) → c .phase ≡ p → coordinatorStep t g i c ≡ some row
+      → (coordinatorStep t g i (record { phase = p; takenOut = c .takenOut }) ≡ some row → A) → A
+  with-phase i c p q e f = f (subst (λ (z : CoordinatorPhase). coordinatorStep t g i (record { phase = z; takenOut = c .takenOut }) ≡ some row) q e)
 
   phase-next : (h : Standing) → Mid t h v → T (between h) → Opened v → Up v 0 → (i : Input) → Given v i → (c : Coordinator) → PhaseAs h c
-      → coordinatorStep g i c ≡ some row → Done → Stepped t h i w
+      → coordinatorStep t g i c ≡ some row → Done → Stepped t h i w
   phase-next (never u) mid b o up i k c p e d = absurd (true≢false (mid .sound .opened ∙ o))
   phase-next (initial true) mid b o up i k c p e d = absurd b
-  phase-next (initial false) mid b o up i k c p e d = steps (initial-next mid o i (subst (λ (z : Coordinator). coordinatorStep g i z ≡ some row) p e) d)
+  phase-next (initial false) mid b o up i k c p e d = steps (initial-next mid o i (subst (λ (z : Coordinator). coordinatorStep t g i z ≡ some row) p e) d)
   phase-next (collecting x out true) mid b o up i k c p e d = absurd b
-  phase-next (collecting x out false) mid b o up i k c p e d = collecting-next x out mid i k (subst (λ (z : Coordinator). coordinatorStep g i z ≡ some row) p e) d
+  phase-next (collecting x out false) mid b o up i k c p e d = collecting-next x out mid i k (subst (λ (z : Coordinator). coordinatorStep t g i z ≡ some row) p e) d
   phase-next (decided r out (waiting x) l) mid b o up i k c p e d = with-phase i c (CoordinatorPhase.awaitingAcks r x) p e (λ q. steps (waiting-next r out x l mid b (c .takenOut) i k q d))
   phase-next (decided r out (resting x) l) mid b o up i k c p e d = with-phase i c CoordinatorPhase.unknown p e (λ q. steps (unknown-next r out x l mid (c .takenOut) i k q d))
   phase-next (decided r out down l) mid b o up i k c p e d = absurd (true≢false (sym up ∙ ap (λ (s : Site). s .up) (mid .log)))
 
   pub coordinator-next : {h : Standing} → Inv t h v → Opened v → Up v 0 → (i : Input) → Given v i
-      → coordinatorStep g i (v .transaction .coordinator) ≡ some row → Done → Stepped t h i w
+      → coordinatorStep t g i (v .transaction .coordinator) ≡ some row → Done → Stepped t h i w
   coordinator-next {h} inv o up i k e d = phase-next h (inv .mid) (inv .whole) o up i k (v .transaction .coordinator) (inv .phase) e d

@@ -62,7 +62,7 @@ module _ (t : ℕ) (h0 : Standing) where
   pub abort-run : (v : View) (to w out : ℕ) → ((q : ℕ) → T (member q to) → T (member q (remaining (cohortOf v) out .members)))
       → ((n : ℕ) → T (member (suc n) (cohortOf v .members)) → T (not (member (suc n) to)) → T (sentIn v (suc n) voteNo || sentIn v (suc n) readOnly))
       → Node t h0 v (collecting w out false)
-      → Runs t h0 v (aborting (remaining (cohortOf v) out) (writesInit (cohortOf v)) to .effects)
+      → Runs t h0 v (aborting t (remaining (cohortOf v) out) (writesInit (cohortOf v)) to .effects)
       (settledAs (empty (awaited (cohortOf v) out to)) (writesInit (cohortOf v)) abort out (awaited (cohortOf v) out to) (initLog (writesInit (cohortOf v))))
   unfolding aborting
   abort-run v to w out part said x =
@@ -83,11 +83,11 @@ module _ (t : ℕ) (h0 : Standing) where
   tell-run v o out p l c n m x = send-run t h0 [] (decided o out p l) x false n m (λ k. absurd k) (tell o) (or-left (sameOutcome o o) _ (refl-outcome o)) (λ y. y)
 
   pub tell-all-run : (v : View) (o : Outcome) (out : ℕ) (p : Pace) (l : Log) (to : ℕ) → ((q : ℕ) → T (member q to) → T (member q (cohortOf v .members)))
-      → Node t h0 v (decided o out p l) → Runs t h0 v (tellAll (cohortOf v) o to) (decided o out p l)
+      → Node t h0 v (decided o out p l) → Runs t h0 v (tellAll t (cohortOf v) o to) (decided o out p l)
   unfolding tellAll
   tell-all-run v o out p l to f x =
-      subst (λ (es : List Effect). Runs t h0 v es (decided o out p l)) (append-nil (tellAll (cohortOf v) o to))
-      (sends-run t h0 [] (decided o out p l) (tell o) (inOrder (cohortOf v) o to) v (told (cohortOf v) (cohortOf v) o out p l to f) x (λ w e y. y))
+      subst (λ (es : List Effect). Runs t h0 v es (decided o out p l)) (append-nil (tellAll t (cohortOf v) o to))
+      (sends-run t h0 [] (decided o out p l) (tell o) (inOrder t (cohortOf v) o to) v (told t (cohortOf v) (cohortOf v) o out p l to f) x (λ w e y. y))
 
   -- a coordinator in Unknown says what silence means
   pub reply-run : (v : View) (o : Outcome) (out : ℕ) (b : Bool) (l : Log) (c : CoordinatorPhase) (n : ℕ) → T (member (suc n) (cohortOf v .members)) → T (sentIn v (suc n) voteYes)

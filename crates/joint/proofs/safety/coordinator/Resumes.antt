@@ -72,10 +72,10 @@ module _ (t : ℕ) (h0 : Standing) where
     ending b = settledAs b false o out (owing rest o) l
 
     -- the outcome is entered, and told or not
-    resume-run : (c : Bool) → Node t h0 v (decided o out down l) → Runs t h0 v (enter o ∷ given c (tellAll rest o (rest .members))) (decided o out down l)
+    resume-run : (c : Bool) → Node t h0 v (decided o out down l) → Runs t h0 v (enter o ∷ given c (tellAll t rest o (rest .members))) (decided o out down l)
     unfolding given
     resume-run true x =
-        subst (λ (es : List Effect). Runs t h0 v (enter o ∷ es) (decided o out down l)) (append-nil (tellAll rest o (rest .members)))
+        subst (λ (es : List Effect). Runs t h0 v (enter o ∷ es) (decided o out down l)) (append-nil (tellAll t rest o (rest .members)))
         (enter-tell t h0 {v = v} rest o out down l (rest .members) members [] (decided o out down l) x (λ u e y. y))
       where
         members : (q : ℕ) → T (member q (rest .members)) → T (member q (cohortOf v .members))
@@ -103,10 +103,10 @@ module _ (t : ℕ) (h0 : Standing) where
       resume-phase false q = settled-phase false false o out (owing rest o) l q
 
       resume-next : {w : View} (c : Bool) → Node t h0 v (decided o out down l)
-          → Carried t 0 (enter o ∷ given c (tellAll rest o (rest .members))) (viewStart 0 (withCoordinator 0 (record { phase = untilAcked o (owing rest o); takenOut = 0 }))) v w
+          → Carried t 0 (enter o ∷ given c (tellAll t rest o (rest .members))) (viewStart 0 (withCoordinator 0 (record { phase = untilAcked o (owing rest o); takenOut = 0 }))) v w
           → Next t h0 w
       resume-next c x d =
-          start-next (enter o ∷ given c (tellAll rest o (rest .members))) o out l (ending b) (record { phase = untilAcked o (owing rest o); takenOut = 0 }) (resume-run c x)
+          start-next (enter o ∷ given c (tellAll t rest o (rest .members))) o out l (ending b) (record { phase = untilAcked o (owing rest o); takenOut = 0 }) (resume-run c x)
           (resume-shift b refl) (resume-stands b) (resume-phase b refl) (settled-between b false o out (owing rest o) l refl) d
         where
           b : Bool
@@ -129,7 +129,7 @@ module _ (t : ℕ) (v w : View) where
   -- what the log says: commit is resumed, abort is resumed, nothing is; the record tells the cohort
   restart-next : (o : Outcome) (out : ℕ) (l : Log) → Mid t (decided o out down l) v → (cohort : ℕ → Cohort)
       → (T (resumed (classOf l)) → cohort (tellingKind o) ≡ toldOf (cohortOf v) out o)
-      → (r : Bool) → resumed (classOf l) ≡ r → Woken (leaving 0 (restartFrom (sameOutcome o commit && r) (sameOutcome o abort && r) cohort)) → Next t (decided o out down l) w
+      → (r : Bool) → resumed (classOf l) ≡ r → Woken (leaving 0 (restartFrom t (sameOutcome o commit && r) (sameOutcome o abort && r) cohort)) → Next t (decided o out down l) w
   unfolding restartFrom resuming leaving sameOutcome
   restart-next commit out l mid cohort e true q d =
       resume-next t (decided commit out down l) v commit out l (of-true q) (not (empty (owing (remaining (cohortOf v) out) commit))) (node-start mid) (rw (e (of-true q)) at d)
@@ -149,13 +149,13 @@ module _ (t : ℕ) (v w : View) where
       go abort h = init-tells (cohortOf v) out t 0 (kindsIn l) h
 
   restart-row : (o : Outcome) (out : ℕ) (l : Log) → Mid t (decided o out down l) v → (cohort : ℕ → Cohort)
-      → coordinatorRestart (λ k. holds t k (v .site 0 .stable)) cohort ≡ leaving 0 (restartFrom (sameOutcome o commit && resumed (classOf l)) (sameOutcome o abort && resumed (classOf l)) cohort)
+      → coordinatorRestart t (λ k. holds t k (v .site 0 .stable)) cohort ≡ leaving 0 (restartFrom t (sameOutcome o commit && resumed (classOf l)) (sameOutcome o abort && resumed (classOf l)) cohort)
   unfolding coordinatorRestart
   restart-row o out l mid cohort =
       rw (holds-at (cohortOf v) out t 0 (kindsIn l) (mid .log) 1, holds-at (cohortOf v) out t 0 (kindsIn l) (mid .log) 2, holds-at (cohortOf v) out t 0 (kindsIn l) (mid .log) 3, holds-at (cohortOf v) out t 0 (kindsIn l) (mid .log) 4, resumes-commit (writesInit (cohortOf v)) o l (mid .sound .fit), resumes-abort (writesInit (cohortOf v)) o l (mid .sound .fit)) refl
 
   pub resume-after : (h : Standing) → Inv t h v → Opened v → v .site 0 .up ≡ false → {row : Row Coordinator}
-      → coordinatorRestart (λ k. holds t k (v .site 0 .stable)) (λ k. recordedCohort t k (v .site 0 .stable)) ≡ row
+      → coordinatorRestart t (λ k. holds t k (v .site 0 .stable)) (λ k. recordedCohort t k (v .site 0 .stable)) ≡ row
       → Woken row → After t h w
   resume-after (never u) inv o up e d = absurd (true≢false (inv .mid .sound .opened ∙ o))
   resume-after (initial b) inv o up e d = absurd (true≢false (sym (ap (λ (s : Site). s .up) (inv .mid .log)) ∙ up))

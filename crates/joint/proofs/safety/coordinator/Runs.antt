@@ -6,11 +6,11 @@ use mathlib.Core.List.{List, [], _∷_, _++_, map}
 use lib.ListN.{take}
 use lib.Dec.{T}
 use Rattle.codec.specs.Lists.{select}
-use Rattle.codec.specs.Sets.{participants, member, listed}
+use Rattle.codec.specs.Sets.{member}
 use Rattle.site.specs.Presumption.{Outcome}
 use Rattle.site.specs.Cohort.{Cohort, presumptionOf, writesInit}
 use Rattle.site.specs.Step.{Message, voteYes, Effect, append, force, enter, send}
-use Rattle.site.specs.Coordinator.{Coordinator, inTurn, ordered}
+use Rattle.site.specs.Coordinator.{Coordinator, round, inTurn, ordered}
 use Rattle.joint.specs.State.{Site, appended, forced, withCoordinator, withSent, forgotten, withParticipant}
 use Rattle.joint.proofs.view.View.{View, viewAt, viewSettle, viewPerform, viewEffects, viewDown}
 use Rattle.joint.proofs.view.Turn.{Carried, whole, cutAfter}
@@ -120,19 +120,19 @@ module _ (t : ℕ) (h0 : Standing) where
 
 -- ---- the order of sending
 
-module _ (P : ℕ → Type 0) where
+module _ (P : ℕ → Type 0) (t : ℕ) where
   -- those of a set, in turn, and in the order of sending
-  pub each-in-turn : (to : ℕ) → ((n : ℕ) → T (member (suc n) to) → P (suc n)) → Each P (inTurn to)
-  unfolding inTurn listed
-  each-in-turn to h = each-chosen P (λ p. member p to) go participants
+  pub each-in-turn : (to : ℕ) → ((n : ℕ) → T (member (suc n) to) → P (suc n)) → Each P (inTurn t to)
+  unfolding inTurn
+  each-in-turn to h = each-chosen P (λ p. member p to) go (round t)
     where
       go : (p : ℕ) → T (member p to) → P p
-      go zero t = absurd (no-zero to t)
-      go (suc n) t = h n t
+      go zero m = absurd (no-zero to m)
+      go (suc n) m = h n m
 
-  pub each-ordered : (first to : ℕ) → ((n : ℕ) → T (member (suc n) to) → P (suc n)) → Each P (ordered first to)
+  pub each-ordered : (first to : ℕ) → ((n : ℕ) → T (member (suc n) to) → P (suc n)) → Each P (ordered t first to)
   unfolding ordered
   each-ordered first to h =
       let a = each-in-turn to h in
-      each-append P (select (λ p. member p first) (inTurn to)) (select (λ p. not (member p first)) (inTurn to))
-      (each-kept P (λ p. member p first) (inTurn to) a) (each-kept P (λ p. not (member p first)) (inTurn to) a)
+      each-append P (select (λ p. member p first) (inTurn t to)) (select (λ p. not (member p first)) (inTurn t to))
+      (each-kept P (λ p. member p first) (inTurn t to) a) (each-kept P (λ p. not (member p first)) (inTurn t to) a)

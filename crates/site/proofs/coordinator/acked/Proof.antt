@@ -12,11 +12,11 @@ use Rattle.site.proofs.coordinator.acked.Tie as tie
 
 returns : tie.Need-returns
 unfolding leaving acked empty effectsIn entryOf closing sending messages given
-returns c = rw (c .end-record .ensures, c .before .if1 .taken, end-appended (outcomeIn (c .before .before .args .outcome)) 0 0, ordered-none 0)
+returns c t = rw (c .end-record .ensures, c .before .if1 .taken, end-appended (outcomeIn (c .before .before .args .outcome)) 0 0, ordered-none t 0)
 
 returns-2 : tie.Need-returns-2
 unfolding leaving acked empty effectsIn appending entryOf closing sending messages given
-returns-2 c = rw (c .awaiting .ensures, ne-eqb (c .before .before .args .waiting) 0 (c .before .if1 .left), ordered-none 0)
+returns-2 c t = rw (c .awaiting .ensures, ne-eqb (c .before .before .args .waiting) 0 (c .before .if1 .left), ordered-none t 0)
 
 pub acked-spec : {M : Type 1} → statement M
 acked-spec = tie.close (tie.spec (λ c κs. tt) returns (λ c κs. tt) returns-2)

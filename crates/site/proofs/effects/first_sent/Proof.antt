@@ -9,12 +9,12 @@ use Rattle.site.proofs.effects.first_sent.Statement.{statement}
 use Rattle.site.proofs.effects.first_sent.Tie as tie
 
 returns : tie.Need-returns
-returns c =
+returns c t =
     let a = c .before .before .before .before .before .before .before .args in
     let b = c .before .before .before .before .before .before .both in
     let m = c .before .before .before .before .minus in
     rw (c .either .ensures)
-    (order-cut (a .owing) (a .to) (a .most) (c .before .before .less .result) (c .before .before .before .before .before .lowest .result) (c .before .lowest2 .result)
+    (order-cut t (a .owing) (a .to) (a .most) (c .before .before .less .result) (c .before .before .before .before .before .lowest .result) (c .before .lowest2 .result)
     (omega arith)
     (omega arith)
     (c .before .before .before .before .before .lowest .ensures ∙ ap (λ (x : ℕ). take (a .most) (listed x)) (b .ensures))

@@ -1,3 +1,4 @@
+use Prim.Native.Nat.{ℕ}
 use mathlib.Core.Bool.{Bool, true, false, not, _&&_, _||_, and-false}
 use mathlib.Core.Path.{_≡_, refl, sym, ap, _∙_}
 use lib.Dec.{eqb}
@@ -17,61 +18,61 @@ unnamed true true = refl
 unnamed true false = refl
 unnamed false y = refl
 
-abbrev given : tie.Start → numbers.Arguments
-given s = argumentsIn 0 (s .args .kind) 0 (s .args .participant) (s .args .presumption) (s .args .phase) (s .args .waiting) (s .args .members) (s .args .presume-commit) (s .args .mark) (s .args .taken-out)
+abbrev given : tie.Start → ℕ → numbers.Arguments
+given s t = argumentsIn 0 (s .args .kind) t (s .args .participant) (s .args .presumption) (s .args .phase) (s .args .waiting) (s .args .members) (s .args .presume-commit) (s .args .mark) (s .args .taken-out)
 
 -- whether waiting set, set taken out and mark fit, as the program found it
 fitting : (d : tie.After-taken-out-in-range) → let s = d .before .before .before in
-    fits (given s) ≡ ((d .before .waiting-in-range .result && d .taken-out-in-range .result) && eqb (s .args .mark) 0)
+    fits (given s 0) ≡ ((d .before .waiting-in-range .result && d .taken-out-in-range .result) && eqb (s .args .mark) 0)
 fitting d = rw (d .before .waiting-in-range .ensures, d .taken-out-in-range .ensures)
 
-fit : (d : tie.Else1) → fits (given (d .before .before .before .before)) ≡ true
+fit : (d : tie.Else1) → fits (given (d .before .before .before .before) 0) ≡ true
 fit d = fitting (d .before) ∙ not-false _ (d .if1 .left)
 
 returns : tie.Need-returns
 unfolding packed refusal noValues
-returns c =
-    let a = given (c .before .before .before .before) in
+returns c t =
+    let a = given (c .before .before .before .before) t in
     rw (coordinator-refused a (ap (named a &&_) (fitting (c .before) ∙ not-true _ (c .if1 .taken)) ∙ and-false (named a)))
 
 returns-2 : tie.Need-returns-2
 unfolding packed refusal noValues
-returns-2 c =
+returns-2 c t =
     let d = c .before .before .before in
-    let a = given (d .before .before .before .before .before) in
+    let a = given (d .before .before .before .before .before) t in
     let e : eqb (a .presumption) (presumptionNumber (presumptionOf (a .cohort) (a .participant))) ≡ false =
     rw (sym (c .before .before .presumption .ensures), sym (c .before .number .ensures)) (ne-eqb _ _ (c .if3 .taken)) in
     rw (coordinator-refused a (rw (lt-ltb (a .kind) 16 (d .if2 .taken), e)))
 
 returns-3 : tie.Need-returns-3
-returns-3 c =
+returns-3 c t =
     let x = c .before .before in
     let d = x .before .before .before in
-    let a = given (d .before .before .before .before .before) in
+    let a = given (d .before .before .before .before .before) t in
     let e : eqb (a .presumption) (presumptionNumber (presumptionOf (a .cohort) (a .participant))) ≡ true =
     rw (sym (x .before .before .presumption .ensures), sym (x .before .number .ensures)) (eq-eqb _ _ (x .if3 .left)) in
     rw (
-      c .coordinator-result .ensures,
-      c .before .on-message .ensures,
+      c .coordinator-result .ensures t,
+      c .before .on-message .ensures t,
       d .before .before .before .before .from-numbers .ensures,
       coordinator-taken a (rw (lt-ltb (a .kind) 16 (d .if2 .taken), e) (fit (d .before))),
     )
 
 returns-4 : tie.Need-returns-4
 unfolding packed refusal noValues
-returns-4 c =
+returns-4 c t =
     let d = c .before in
-    let a = given (d .before .before .before .before .before) in
+    let a = given (d .before .before .before .before .before) t in
     rw (coordinator-refused a (rw (le-ltb (a .kind) 16 (d .if2 .left), unnamed (eqb (a .participant) 0) (eqb (a .presumption) 0), c .if4 .taken)))
 
 returns-5 : tie.Need-returns-5
-returns-5 c =
+returns-5 c t =
     let x = c .before .before in
     let d = x .before in
-    let a = given (d .before .before .before .before .before) in
+    let a = given (d .before .before .before .before .before) t in
     rw (
-      c .coordinator-result2 .ensures,
-      c .before .on-own .ensures (a .participant),
+      c .coordinator-result2 .ensures t,
+      c .before .on-own .ensures t (a .participant),
       d .before .before .before .before .from-numbers .ensures,
       coordinator-taken a (rw (le-ltb (a .kind) 16 (d .if2 .left), unnamed (eqb (a .participant) 0) (eqb (a .presumption) 0), x .if4 .left) (fit (d .before))),
     )

@@ -28,7 +28,7 @@ returns-3 c =
     let s = c .before .before .before .before in
     let a = argumentsIn (s .args .site) (s .args .kind) (s .args .transaction) (s .args .participant) (s .args .presumption) (s .args .phase) (s .args .waiting) (s .args .members) (s .args .presume-commit) (s .args .mark) (s .args .taken-out) in
     let e : wrong a ≡ false = rw (sym (c .before .before .before .part .ensures)) (c .before .before .if1 .left) in
-    rw (c .coordinator-step .ensures, call-coordinator a (omega arith) e (c .before .match .keys1))
+    rw (c .coordinator-step .ensures (a .transaction), call-coordinator a (omega arith) e (c .before .match .keys1))
 
 returns-4 : tie.Need-returns-4
 returns-4 c =

@@ -13,25 +13,25 @@ enum-told c = search needs
 
 packed-requires-2 : tie.Need-packed-requires-2
 packed-requires-2 c κs =
-    let x = fits _ (summaryIn (c .summary .result)) (c .summary .ensures) in
+    let x = fits _ (summaryIn (c .summary .result)) (c .summary .ensures 0) in
     (x .forced, x .entered, x .message)
 
 returns : tie.Need-returns
 unfolding participantResult participantValues answerNumber noValues packed
-returns c = rw (c .enum-told .given .1)
+returns c t = rw (c .enum-told .given .1)
 
 returns-2 : tie.Need-returns-2
 unfolding participantResult participantValues answerNumber rowValues summary summaryBehind
-returns-2 c = rw (c .packed .ensures, c .before .enum-told2 .given .1)
+returns-2 c t = rw (c .packed .ensures, c .before .enum-told2 .given .1)
 
 returns-3 : tie.Need-returns-3
 unfolding participantResult participantValues answerNumber rowValues
-returns-3 c =
+returns-3 c t =
     rw (
       c .packed2 .ensures,
       c .before .before .number .ensures,
       c .before .before .before .before .before .answer .given .1,
-      sym (c .before .summary .ensures),
+      sym (c .before .summary .ensures t),
     )
 
 pub participant-result-spec : {M : Type 1} → statement M

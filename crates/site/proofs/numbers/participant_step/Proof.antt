@@ -35,8 +35,8 @@ returns-2 c =
     let e = not-false (isMember a) f in
     let n = member-among (s .args .participant) (s .args .members) (omega arith) (omega arith) (and-eq-true-iff (member (s .args .participant) (s .args .members)) _ .0 e .0) in
     rw (
-      c .participant-result .ensures,
-      c .before .step .ensures,
+      c .participant-result .ensures 0,
+      c .before .step .ensures 0,
       c .before .before .from-number .ensures,
       c .before .before .before .before .before .before .presumption .ensures,
       participant-taken a e n,

@@ -2,7 +2,7 @@ use Rattle.site_cases.proofs.results.coordinator_restart.Statement.{sta
 use Rattle.site_cases.proofs.results.coordinator_restart.Tie as tie
 
 returns : tie.Need-returns
-returns c = rw (c .coordinator-result .ensures, c .before .restart .ensures)
+returns c = rw (c .coordinator-result .ensures 0, c .before .restart .ensures 0)
 
 pub coordinator-restart-spec : {M : Type 1} → statement M
 coordinator-restart-spec =

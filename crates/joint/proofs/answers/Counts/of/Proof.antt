@@ -5,10 +5,10 @@ use Rattle.joint.proofs.answers.Counts.of.Statement.{statement}
 use Rattle.joint.proofs.answers.Counts.of.Tie as tie
 
 returns : tie.Need-returns
-returns c =
+returns c t =
     let e = c .before .before .before .before .before .before .args .effects in (
-      rw (row-records e, c .before .before .before .before .one-if .ensures .0, c .before .before .one-if2 .ensures .0) refl,
-      (c .before .one-if3 .ensures .0 ∙ sym (row-forces e), c .sends .ensures .0 ∙ sym (row-sends e)),
+      rw (row-records t e, c .before .before .before .before .one-if .ensures .0, c .before .before .one-if2 .ensures .0) refl,
+      (c .before .one-if3 .ensures .0 ∙ sym (row-forces t e), c .sends .ensures .0 t ∙ sym (row-sends t e)),
     )
 
 pub of-spec : {M : Type 1} → statement M

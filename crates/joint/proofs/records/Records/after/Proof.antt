@@ -19,8 +19,8 @@ effected : (c : tie.After-after)
     → let s = c .before .before .before .before .args in
     let rs = c .before .append .result .of in
     (length rs ≡ 24)
-    × (Fits (effectsIn (s .row .effects)) (siteFrom (s .site) (s .self .of))
-    → siteFrom (c .after .result) rs ≡ siteAfter (s .transaction) (effectsIn (s .row .effects)) (siteFrom (s .site) (s .self .of)))
+    × (Fits (effectsIn (s .transaction) (s .row .effects)) (siteFrom (s .site) (s .self .of))
+    → siteFrom (c .after .result) rs ≡ siteAfter (s .transaction) (effectsIn (s .transaction) (s .row .effects)) (siteFrom (s .site) (s .self .of)))
 effected c =
     let a = c .before in
     let s = a .before .before .before .args in

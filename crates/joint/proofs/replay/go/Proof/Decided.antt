@@ -130,7 +130,7 @@ module _ (c : tie.After-settle Inv-loop μ-loop) where
   unfolding changeIn
   row-seen h = sym (ap (changeIn (runIn (before came)) (number came) (transaction came)) (c .before .before .before .before .before .before .before .before .before .before .before .change2 .given .1)) ∙ decided came h ∙ parsed-seen (runIn (before came)) (x (step-read (found came))) _ (step-parsed (found came))
 
-  pub fits : hasRoom (runIn (before came)) (x (step-read (found came))) ≡ true → Fits (effectsIn (row .effects)) (runIn (before came) .site (number came))
+  pub fits : hasRoom (runIn (before came)) (x (step-read (found came))) ≡ true → Fits (effectsIn (transaction came) (row .effects)) (runIn (before came) .site (number came))
   unfolding changeIn
   fits h =
       let k = found came in
@@ -142,12 +142,12 @@ module _ (c : tie.After-settle Inv-loop μ-loop) where
   abbrev pub put : List Transaction
   put = set (before came .transactions) (transaction came) (c .settle .result)
 
-  pub put-stored : transactionsIn put ≡ update (transaction came) (λ _. thenTransaction (number came) (row .then) (transactionAfter (number came) (effectsIn (row .effects)) (runIn (before came) .transaction (transaction came)))) (runIn (before came) .transaction)
+  pub put-stored : transactionsIn put ≡ update (transaction came) (λ _. thenTransaction (number came) (row .then) (transactionAfter (number came) (effectsIn (transaction came) (row .effects)) (runIn (before came) .transaction (transaction came)))) (runIn (before came) .transaction)
   unfolding runIn
   put-stored =
       transactions-stored (before came .transactions) (transaction came) (c .settle .result) (full (step-read (found came)) .eight) (few came)
       ∙ ap (λ (y : plain.Transaction). update (transaction came) (λ _. y) (transactionsIn (before came .transactions)))
-      (c .settle .ensures ∙ ap (thenTransaction (number came) (row .then)) (c .before .after .ensures ∙ ap (transactionAfter (number came) (effectsIn (row .effects))) (own came _ refl)))
+      (c .settle .ensures ∙ ap (thenTransaction (number came) (row .then)) (c .before .after .ensures (transaction came) ∙ ap (transactionAfter (number came) (effectsIn (transaction came) (row .effects))) (own came _ refl)))
 
 -- its site is stored
 module _ (c : tie.Joined2 Inv-loop μ-loop) where

@@ -15,8 +15,8 @@ returns c = λ w t own.
     let s = c .before in
     let k = s .before in
     let a = k .before in
-    ap (planned 0 t (withCoordinator 0)) (no-coordinator-row (s .step .result) (c .match .keys2))
-    ∙ coordinator-found (transactionIn (a .args .transaction)) (k .coordinator .result) (k .coordinator .ensures) w t own (a .args .kind) (a .args .participant) (s .step .result) (a .pre) (s .step .ensures)
+    ap (planned 0 t (withCoordinator 0)) (no-coordinator-row t (s .step .result) (c .match .keys2))
+    ∙ coordinator-found (transactionIn (a .args .transaction)) (k .coordinator .result) (k .coordinator .ensures) w t own (a .args .kind) (a .args .participant) (s .step .result) (a .pre) (s .step .ensures t)
 
 returns-2 : tie.Need-returns-2
 unfolding foundIn planned rowPlan thenIn
@@ -25,7 +25,7 @@ returns-2 c = λ w t own.
     let s = m .before .before in
     let k = s .before in
     let a = k .before in
-    coordinator-found (transactionIn (a .args .transaction)) (k .coordinator .result) (k .coordinator .ensures) w t own (a .args .kind) (a .args .participant) (answer.Row (m .answer .given .0 .0)) (a .pre) (rw (m .answer .given .1) at (s .step .ensures))
+    coordinator-found (transactionIn (a .args .transaction)) (k .coordinator .result) (k .coordinator .ensures) w t own (a .args .kind) (a .args .participant) (answer.Row (m .answer .given .0 .0)) (a .pre) (rw (m .answer .given .1) at (s .step .ensures t))
 
 pub coordinator-step-spec : {M : Type 1} → statement M
 coordinator-step-spec = tie.close (tie.spec (λ c κs. search needs) (λ c κs. search needs) (λ c. search needs) returns returns-2)

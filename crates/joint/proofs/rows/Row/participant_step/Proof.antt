@@ -15,9 +15,9 @@ returns c = λ w t own.
     let p = s .before in
     let a = p .before in
     let r = p .participant in
-    ap (planned (a .args .number) t (withParticipant (a .args .number))) (no-participant-row (s .step .result) (c .match .keys2))
+    ap (planned (a .args .number) t (withParticipant (a .args .number))) (no-participant-row t (s .step .result) (c .match .keys2))
     ∙ participant-found (a .args .transaction) w t own (a .args .number) (a .pre .0) (a .pre .1 .0) (r .result) (r .ensures .0) (r .ensures .1 .0) (r .ensures .1 .1 .0) (r .ensures .1 .1 .1)
-    (a .args .kind) (s .step .result) (a .pre .1 .1) (s .step .ensures)
+    (a .args .kind) (s .step .result) (a .pre .1 .1) (s .step .ensures t)
 
 returns-2 : tie.Need-returns-2
 unfolding foundIn planned rowPlan thenIn
@@ -28,7 +28,7 @@ returns-2 c = λ w t own.
     let a = p .before in
     let r = p .participant in
     participant-found (a .args .transaction) w t own (a .args .number) (a .pre .0) (a .pre .1 .0) (r .result) (r .ensures .0) (r .ensures .1 .0) (r .ensures .1 .1 .0) (r .ensures .1 .1 .1)
-    (a .args .kind) (answer.Row (k .answer .given .0 .0)) (a .pre .1 .1) (rw (k .answer .given .1) at (s .step .ensures))
+    (a .args .kind) (answer.Row (k .answer .given .0 .0)) (a .pre .1 .1) (rw (k .answer .given .1) at (s .step .ensures t))
 
 pub participant-step-spec : {M : Type 1} → statement M
 participant-step-spec =

@@ -20,7 +20,7 @@ returns c = λ w own h log.
     let i = k .before .before in
     let a = i .before .args in
     let told = rw (k .before .has .ensures) at (k .cohort .ensures) ∙ ap (recordedCohort (a .t) (cond (hasKind (a .kinds) 2) 2 1)) (rw (i .if1 .taken) at log) in
-    rw (i .if1 .taken) (coordinator-restarts w (a .t) (hasKind (a .kinds)) (cohortIn (k .cohort .result)) (s .restart .result) (s .restart .ensures) (rw (i .if1 .taken) at h) told)
+    rw (i .if1 .taken) (coordinator-restarts w (a .t) (hasKind (a .kinds)) (cohortIn (k .cohort .result)) (s .restart .result) (s .restart .ensures (a .t)) (rw (i .if1 .taken) at h) told)
 
 returns-2 : tie.Need-returns-2
 unfolding planned
@@ -31,9 +31,9 @@ returns-2 c = λ w own h log.
     let r = p .participant in
     let t = a .args .t in
     let low : 1 ≤ a .args .site = omega (arith, p .before .if1 .left) in
-    absurd (some-none (sym (ap (planned (a .args .site) t (withParticipant (a .args .site))) (no-participant-row (s .restart2 .result) (c .match .keys2))
+    absurd (some-none (sym (ap (planned (a .args .site) t (withParticipant (a .args .site))) (no-participant-row t (s .restart2 .result) (c .match .keys2))
     ∙ participant-restarts (a .args .transaction) w t own (a .args .site) low (a .pre .0) (r .result) (r .ensures .0) (r .ensures .1 .0) (r .ensures .1 .1 .0) (r .ensures .1 .1 .1)
-    (hasKind (a .args .kinds)) (s .restart2 .result) (s .restart2 .ensures) h)))
+    (hasKind (a .args .kinds)) (s .restart2 .result) (s .restart2 .ensures t) h)))
 
 returns-3 : tie.Need-returns-3
 unfolding planned rowPlan thenIn
@@ -45,7 +45,7 @@ returns-3 c = λ w own h log.
     let r = p .participant in
     let low : 1 ≤ a .args .site = omega (arith, p .before .if1 .left) in
     some-same (participant-restarts (a .args .transaction) w (a .args .t) own (a .args .site) low (a .pre .0) (r .result) (r .ensures .0) (r .ensures .1 .0) (r .ensures .1 .1 .0) (r .ensures .1 .1 .1)
-    (hasKind (a .args .kinds)) (answer.Row (k .answer .given .0 .0)) (rw (k .answer .given .1) at (s .restart2 .ensures)) h)
+    (hasKind (a .args .kinds)) (answer.Row (k .answer .given .0 .0)) (rw (k .answer .given .1) at (s .restart2 .ensures (a .args .t))) h)
 
 pub restart-spec : {M : Type 1} → statement M
 restart-spec =

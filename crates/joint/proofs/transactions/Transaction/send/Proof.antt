@@ -15,14 +15,14 @@ element-write-transaction c = let a = c .before .before .before .args in omega (
 
 returns : tie.Need-returns
 returns c =
-    λ s owing.
+    λ s t owing.
     let a = c .before .before .before .args in
     let n : length (a .t1 .sent) ≡ 8 = search needs in
     let k : a .kind ≤ 7 = is-kind (a .to) (a .kind) (c .before .before .if1 .taken) in
-    sent-all (a .t1) (a .kind) owing (a .to) (c .with-all .result) k (omega arith) (omega arith) (c .with-all .ensures) s
+    sent-all (a .t1) t (a .kind) owing (a .to) (c .with-all .result) k (omega arith) (omega arith) (c .with-all .ensures) s
 
 returns-2 : tie.Need-returns-2
-returns-2 c = λ s owing. sent-none (c .before .args .kind) owing (c .before .args .to) (c .if1 .left) s _
+returns-2 c = λ s t owing. sent-none t (c .before .args .kind) owing (c .before .args .to) (c .if1 .left) s _
 
 pub send-spec : {M : Type 1} → statement M
 send-spec =

@@ -12,10 +12,10 @@ use Rattle.site.proofs.coordinator.Coordinator.aborting.Tie as tie
 
 returns : tie.Need-returns
 unfolding aborting leaving tellAll inOrder empty effectsIn appending entryOf sending messages given
-returns c =
+returns c t =
     let made = c .before .before in
     let s = made .before .before .args in
-    let closed = abort-closed (eqb (made .both .result) 0 && s .init) (c .before .if1 .t18) (sending 4 (made .before .owing .result) (s .to)) (⊎-elim (λ h. inl (h .0 .taken, h .1)) (λ h. inr (h .0 .left, h .1)) (c .before .if1 .came)) in
+    let closed = abort-closed (eqb (made .both .result) 0 && s .init) (c .before .if1 .t18) (sending t 4 (made .before .owing .result) (s .to)) (⊎-elim (λ h. inl (h .0 .taken, h .1)) (λ h. inr (h .0 .left, h .1)) (c .before .if1 .came)) in
     rw (c .until-acked .ensures, closed, made .both .ensures, made .before .owing .ensures)
 
 pub aborting-spec : {M : Type 1} → statement M

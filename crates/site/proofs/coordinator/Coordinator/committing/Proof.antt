@@ -9,7 +9,7 @@ use Rattle.site.proofs.coordinator.Coordinator.committing.Tie as tie
 
 returns : tie.Need-returns
 unfolding leaving effectsIn appending entryOf closing sending lengths lengthOf messages given masksOf committing tellAll inOrder
-returns c = rw (c .until-acked .ensures, c .before .owing .ensures)
+returns c t = rw (c .until-acked .ensures, c .before .owing .ensures)
 
 pub committing-spec : {M : Type 1} → statement M
 committing-spec = tie.close (tie.spec (λ c κs. tt) (λ c κs. tt) returns)

@@ -11,9 +11,9 @@ enum-told c = search needs
 
 returns : tie.Need-returns
 unfolding answered leavingIf onAck ackedIf sameOutcome
-returns c =
+returns c t =
     rw (
-      c .acked .ensures,
+      c .acked .ensures t,
       c .before .without .ensures,
       c .before .before .before .phase .given .1,
       c .before .before .before .before .before .enum-told .given .1,
@@ -21,7 +21,7 @@ returns c =
 
 returns-2 : tie.Need-returns-2
 unfolding answered leavingIf
-returns-2 c =
+returns-2 c t =
     rw (
       c .before .enum-told .given .1,
       no-commit-ack (c .before .before .before .args .participant) (c .before .before .before .args .self .phase) (c .match2 .keys2),
@@ -29,9 +29,9 @@ returns-2 c =
 
 returns-3 : tie.Need-returns-3
 unfolding answered leavingIf onAck ackedIf sameOutcome
-returns-3 c =
+returns-3 c t =
     rw (
-      c .acked2 .ensures,
+      c .acked2 .ensures t,
       c .before .without2 .ensures,
       c .before .before .before .phase2 .given .1,
       c .before .before .before .before .before .enum-told2 .given .1,
@@ -39,7 +39,7 @@ returns-3 c =
 
 returns-4 : tie.Need-returns-4
 unfolding answered leavingIf
-returns-4 c =
+returns-4 c t =
     rw (
       c .before .enum-told2 .given .1,
       no-abort-ack (c .before .before .before .args .participant) (c .before .before .before .args .self .phase) (c .match3 .keys2),

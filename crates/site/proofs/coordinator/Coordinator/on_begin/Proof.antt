@@ -11,11 +11,11 @@ enum-told c = search needs
 
 returns : tie.Need-returns
 unfolding answered leavingIf onBegin
-returns c = rw (c .preparing .ensures, c .before .enum-told .given .1)
+returns c t = rw (c .preparing .ensures t, c .before .enum-told .given .1)
 
 returns-2 : tie.Need-returns-2
 unfolding answered leavingIf
-returns-2 c = rw (no-begin (cohortIn (c .before .args .self)) (c .before .args .self .phase) (c .match .keys2))
+returns-2 c t = rw (no-begin t (cohortIn (c .before .args .self)) (c .before .args .self .phase) (c .match .keys2))
 
 pub on-begin-spec : {M : Type 1} → statement M
 on-begin-spec = tie.close (tie.spec enum-told (λ c κs. tt) returns returns-2)

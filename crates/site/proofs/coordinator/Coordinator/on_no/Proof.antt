@@ -13,15 +13,15 @@ enum-told c = search needs
 
 returns : tie.Need-returns
 unfolding answered leavingIf onNo onlyIf
-returns c = rw (c .before .before .enum-told .given .1, sym (c .before .member .ensures) ∙ c .if1 .taken)
+returns c t = rw (c .before .before .enum-told .given .1, sym (c .before .member .ensures) ∙ c .if1 .taken)
 
 returns-2 : tie.Need-returns-2
 unfolding answered leavingIf onNo onlyIf
-returns-2 c =
+returns-2 c t =
     let r = c .before .before .before .remaining .ensures in
     let d = c .before .before .before .before in
     rw (
-      c .aborting .ensures,
+      c .aborting .ensures t,
       c .before .writes-init .ensures,
       c .before .before .without .ensures,
       d .before .before .enum-told .given .1,
@@ -32,9 +32,9 @@ returns-2 c =
 
 returns-3 : tie.Need-returns-3
 unfolding answered leavingIf
-returns-3 c =
+returns-3 c t =
     let s = c .before .args in
-    rw (no-no (cohortIn (s .self)) (s .self .«taken_out») (s .participant) (s .self .phase) (c .match .keys2))
+    rw (no-no t (cohortIn (s .self)) (s .self .«taken_out») (s .participant) (s .self .phase) (c .match .keys2))
 
 pub on-no-spec : {M : Type 1} → statement M
 on-no-spec =

@@ -10,17 +10,17 @@ use Rattle.site.proofs.coordinator.Coordinator.on_own.Tie as tie
 
 returns : tie.Need-returns
 unfolding receives kindsReceived any inputOf messages coordinatorStep
-returns c p = let s = c .before .before .args in rw (c .on-begin .ensures) (coordinator-takes (s .self) (s .kind) p 16 (c .before .match .keys1) refl)
+returns c t p = let s = c .before .before .args in rw (c .on-begin .ensures t) (coordinator-takes t (s .self) (s .kind) p 16 (c .before .match .keys1) refl)
 
 returns-2 : tie.Need-returns-2
 unfolding receives kindsReceived any inputOf messages coordinatorStep
-returns-2 c p = let s = c .before .before .args in rw (c .on-timer .ensures) (coordinator-takes (s .self) (s .kind) p 17 (c .before .match .keys2) refl)
+returns-2 c t p = let s = c .before .before .args in rw (c .on-timer .ensures t) (coordinator-takes t (s .self) (s .kind) p 17 (c .before .match .keys2) refl)
 
 returns-3 : tie.Need-returns-3
-returns-3 c p =
+returns-3 c t p =
     let s = c .before in
     let r = c .match .rest in
-    coordinator-never (s .args .self) (s .args .kind) p
+    coordinator-never t (s .args .self) (s .args .kind) p
     (not-received (s .args .kind) (λ e. omega (arith, e, s .pre)) (λ e. omega (arith, e, s .pre)) (λ e. omega (arith, e, s .pre)) (λ e. omega (arith, e, s .pre)) (λ e. omega (arith, e, s .pre)) (r .0 .1) (r .1))
 
 pub on-own-spec : {M : Type 1} → statement M

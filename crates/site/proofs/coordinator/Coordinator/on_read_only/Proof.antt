@@ -10,14 +10,14 @@ use Rattle.site.proofs.coordinator.Coordinator.on_read_only.Tie as tie
 
 returns : tie.Need-returns
 unfolding answered leavingIf onReadOnly onlyIf
-returns c = rw (c .before .before .before .phase .given .1, sym (c .before .member .ensures) ∙ c .if1 .taken)
+returns c t = rw (c .before .before .before .phase .given .1, sym (c .before .member .ensures) ∙ c .if1 .taken)
 
 returns-2 : tie.Need-returns-2
 unfolding answered leavingIf onReadOnly onlyIf takingOut
-returns-2 c =
+returns-2 c t =
     let d = c .before .before .before .before in
     rw (
-      c .counting .ensures,
+      c .counting .ensures t,
       c .before .without .ensures,
       c .before .before .either .ensures,
       c .before .before .before .only .ensures,
@@ -27,9 +27,9 @@ returns-2 c =
 
 returns-3 : tie.Need-returns-3
 unfolding answered leavingIf
-returns-3 c =
+returns-3 c t =
     let s = c .before .args in
-    rw (no-read-only (cohortIn (s .self)) (s .self .«taken_out») (s .participant) (s .self .phase) (c .match .keys2))
+    rw (no-read-only t (cohortIn (s .self)) (s .self .«taken_out») (s .participant) (s .self .phase) (c .match .keys2))
 
 pub on-read-only-spec : {M : Type 1} → statement M
 on-read-only-spec =

@@ -16,52 +16,52 @@ enum-told c = search needs
 
 returns : tie.Need-returns
 unfolding answered leavingIf onYes onlyIf
-returns c = rw (c .before .before .before .phase .given .1, sym (c .before .member .ensures) ∙ c .if1 .taken)
+returns c t = rw (c .before .before .before .phase .given .1, sym (c .before .member .ensures) ∙ c .if1 .taken)
 
 returns-2 : tie.Need-returns-2
 unfolding answered leavingIf onYes
-returns-2 c = rw (c .enum-told .given .1)
+returns-2 c t = rw (c .enum-told .given .1)
 
 returns-3 : tie.Need-returns-3
 unfolding answered leavingIf onYes onlyIf
-returns-3 c =
+returns-3 c t =
     let d = c .before .before in
-    rw (c .counting .ensures, c .before .without .ensures, d .before .before .before .phase .given .1, sym (d .before .member .ensures) ∙ d .if1 .left)
+    rw (c .counting .ensures t, c .before .without .ensures, d .before .before .before .phase .given .1, sym (d .before .member .ensures) ∙ d .if1 .left)
 
 returns-4 : tie.Need-returns-4
 unfolding answered leavingIf onYes telling
-returns-4 c =
+returns-4 c t =
     let s = c .before .before .before .before in
     let h = member-numbered (s .args .participant) (s .args .self .members) (omega arith) (s .pre) in
     rw (
-      c .telling .ensures,
+      c .telling .ensures t,
       c .before .only .ensures,
-      tell-one (cohortIn (s .args .self)) commit (s .args .participant) h,
+      tell-one t (cohortIn (s .args .self)) commit (s .args .participant) h,
       c .before .before .enum-told2 .given .1,
     )
 
 returns-5 : tie.Need-returns-5
 unfolding answered leavingIf onYes telling
-returns-5 c =
+returns-5 c t =
     let s = c .before .before .before .before in
     let h = member-numbered (s .args .participant) (s .args .self .members) (omega arith) (s .pre) in
     rw (
-      c .telling2 .ensures,
+      c .telling2 .ensures t,
       c .before .only2 .ensures,
-      tell-one (cohortIn (s .args .self)) abort (s .args .participant) h,
+      tell-one t (cohortIn (s .args .self)) abort (s .args .participant) h,
       c .before .before .enum-told3 .given .1,
     )
 
 returns-6 : tie.Need-returns-6
 unfolding answered leavingIf onYes telling
-returns-6 c =
+returns-6 c t =
     let s = c .before .before .before .before .before .before in
     let h = member-numbered (s .args .participant) (s .args .self .members) (omega arith) (s .pre) in
     let o = outcomeIn (c .before .before .silence .result) in
     rw (
-      c .telling3 .ensures,
+      c .telling3 .ensures t,
       c .before .only3 .ensures,
-      tell-one (cohortIn (s .args .self)) o (s .args .participant) h,
+      tell-one t (cohortIn (s .args .self)) o (s .args .participant) h,
       c .before .before .silence .ensures,
       c .before .before .before .presumption .ensures,
       c .before .before .before .before .enum-told4 .given .1,

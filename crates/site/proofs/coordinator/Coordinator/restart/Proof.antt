@@ -10,10 +10,10 @@ use Rattle.site.proofs.coordinator.Coordinator.restart.Tie as tie
 
 returns : tie.Need-returns
 unfolding coordinatorRestart restartFrom empty
-returns c =
+returns c t =
     let h = c .before .before .before in
     rw (
-      c .resuming .ensures,
+      c .resuming .ensures t,
       c .before .owing .ensures,
       sym (h .before .before .has2 .ensures),
       sym (h .before .has3 .ensures),
@@ -22,10 +22,10 @@ returns c =
 
 returns-2 : tie.Need-returns-2
 unfolding coordinatorRestart restartFrom
-returns-2 c =
+returns-2 c t =
     let h = c .before .before .before in
     rw (
-      c .resuming2 .ensures,
+      c .resuming2 .ensures t,
       sym (h .before .before .before .has .ensures),
       sym (h .before .before .has2 .ensures),
       sym (h .before .has3 .ensures),
@@ -36,7 +36,7 @@ returns-2 c =
 
 returns-3 : tie.Need-returns-3
 unfolding coordinatorRestart restartFrom leaving effectsIn appending entryOf closing sending messages given
-returns-3 c =
+returns-3 c t =
     let h = c .before .before in
     rw (
       sym (h .before .before .before .has .ensures),
@@ -45,7 +45,7 @@ returns-3 c =
       sym (h .has4 .ensures),
       c .before .if1 .left,
       c .if2 .left,
-      ordered-none 0,
+      ordered-none t 0,
     )
 
 pub restart-spec : {M : Type 1} → statement M

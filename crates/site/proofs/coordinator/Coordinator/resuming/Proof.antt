@@ -10,16 +10,16 @@ use Rattle.site.proofs.coordinator.Coordinator.resuming.Tie as tie
 
 returns : tie.Need-returns
 unfolding resuming leaving effectsIn appending closing given tellAll inOrder
-returns c =
+returns c t =
     let s = c .before .before .before .before .before .args in
     let o = outcomeIn (s .outcome) in
-    let told = tell-if (cohortIn (s .self)) o (s .tells) (c .before .if1 .effects) (⊎-elim (λ h. inl (h .0 .taken, h .1)) (λ h. inr (h .0 .left, h .1)) (c .before .if1 .came)) in
+    let told = tell-if t (cohortIn (s .self)) o (s .tells) (c .before .if1 .effects) (⊎-elim (λ h. inl (h .0 .taken, h .1)) (λ h. inr (h .0 .left, h .1)) (c .before .if1 .came)) in
     rw (
       c .until-acked .ensures,
       c .before .before .message .ensures,
       c .before .before .before .number .ensures,
       c .before .before .before .before .owing .ensures,
-      sending-kind (tell o),
+      sending-kind t (tell o),
       entering-outcome o,
       told,
     )

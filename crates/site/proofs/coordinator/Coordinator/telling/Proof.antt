@@ -9,7 +9,7 @@ use Rattle.site.proofs.coordinator.Coordinator.telling.Tie as tie
 
 returns : tie.Need-returns
 unfolding leaving effectsIn appending entryOf closing given tellAll inOrder
-returns c = rw (c .before .message .ensures, c .owing .ensures, sending-kind (tell (outcomeIn (c .before .before .args .outcome))))
+returns c t = rw (c .before .message .ensures, c .owing .ensures, sending-kind t (tell (outcomeIn (c .before .before .args .outcome))))
 
 pub telling-spec : {M : Type 1} → statement M
 telling-spec = tie.close (tie.spec (λ c κs. tt) (λ c κs. tt) returns)

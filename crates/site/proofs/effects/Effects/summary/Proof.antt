@@ -11,14 +11,14 @@ byte : (d : tie.After-struct-known) → d .before .args .self .to < 256
 byte d = omega arith
 
 returns : tie.Need-returns
-returns c =
+returns c t =
     let d = c .before .before .before .before .before in
     let j = d .before in
     let s = j .before .before .before in
     let e = s .before .args .self in
     let l = looked-last e (j .if1 .alone) (⊎-elim (λ h. inl (h .0 .taken, h .1)) (λ h. inr (h .4)) (j .if1 .came)) in
     rw (
-      summed e (byte s),
+      summed t e (byte s),
       d .pick .ensures ∙ l .0,
       c .before .before .before .before .pick2 .ensures ∙ l .1,
       c .before .before .before .one-if .ensures .0,

@@ -10,14 +10,14 @@ use Rattle.site.proofs.participant.Participant.acknowledging.Tie as tie
 
 returns : tie.Need-returns
 unfolding acknowledging effectsIn appending entryOf closing given acking
-returns c =
+returns c t =
     let s = c .before .before .before in
     let o = outcomeIn (s .args .outcome) in
     rw (
       c .own .ensures,
       c .before .acks .ensures,
       c .before .before .ack .ensures,
-      own-sent-if (ack o) (s .args .self .number) (acks (presumptionIn (s .args .self .presumption)) o) (s .pre),
+      own-sent-if t (ack o) (s .args .self .number) (acks (presumptionIn (s .args .self .presumption)) o) (s .pre),
     )
 
 pub acknowledging-spec : {M : Type 1} → statement M

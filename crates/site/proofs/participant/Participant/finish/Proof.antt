@@ -10,7 +10,7 @@ use Rattle.site.proofs.participant.Participant.finish.Tie as tie
 
 returns : tie.Need-returns
 unfolding effectsIn closing given acking finish
-returns c =
+returns c t =
     let s = c .before .before .before .before .before .before in
     let o = outcomeIn (s .args .outcome) in
     rw (
@@ -22,7 +22,7 @@ returns c =
       c .before .before .before .before .before .acks .ensures,
       outcome-appended o 0 0,
       entering-outcome o,
-      own-sent-if (ack o) (s .args .self .number) (acks (presumptionIn (s .args .self .presumption)) o) (s .pre),
+      own-sent-if t (ack o) (s .args .self .number) (acks (presumptionIn (s .args .self .presumption)) o) (s .pre),
     )
 
 pub finish-spec : {M : Type 1} → statement M

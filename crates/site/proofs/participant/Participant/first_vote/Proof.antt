@@ -6,11 +6,11 @@ use Rattle.site.proofs.participant.Participant.first_vote.Tie as tie
 
 returns : tie.Need-returns
 unfolding firstVote messages
-returns c = rw (c .voting .ensures, c .before .if1 .taken)
+returns c t = rw (c .voting .ensures t, c .before .if1 .taken)
 
 returns-2 : tie.Need-returns-2
 unfolding firstVote
-returns-2 c = rw (c .promising .ensures, c .before .if1 .left)
+returns-2 c t = rw (c .promising .ensures t, c .before .if1 .left)
 
 pub first-vote-spec : {M : Type 1} → statement M
 first-vote-spec = tie.close (tie.spec (λ c κs. (c .before .pre, omega arith)) returns (λ c κs. c .before .pre) returns-2)

@@ -15,15 +15,15 @@ enum-told c = search needs
 
 returns : tie.Need-returns
 unfolding answered participantTimer effectsIn appending entryOf closing sending messages given
-returns c = rw (c .enum-told .given .1, ordered-none 0)
+returns c t = rw (c .enum-told .given .1, ordered-none t 0)
 
 returns-2 : tie.Need-returns-2
 unfolding answered participantTimer messages
-returns-2 c = rw (c .voting .ensures, c .before .enum-told2 .given .1)
+returns-2 c t = rw (c .voting .ensures t, c .before .enum-told2 .given .1)
 
 returns-3 : tie.Need-returns-3
 unfolding answered
-returns-3 c = rw (no-own-timer (presumptionIn (c .before .args .self .presumption)) (c .before .args .self .number) (c .before .args .self .phase) (c .match .keys3))
+returns-3 c t = rw (no-own-timer (presumptionIn (c .before .args .self .presumption)) (c .before .args .self .number) (c .before .args .self .phase) (c .match .keys3))
 
 pub on-timer-spec : {M : Type 1} → statement M
 on-timer-spec =

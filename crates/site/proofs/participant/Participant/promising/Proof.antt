@@ -9,9 +9,9 @@ use Rattle.site.proofs.participant.Participant.promising.Tie as tie
 
 returns : tie.Need-returns
 unfolding promising effectsIn appending entryOf closing given lengths lengthOf messageKind
-returns c =
+returns c t =
     let s = c .before .before in
-    rw (c .own .ensures, c .before .number .ensures, own-sent voteYes (s .args .self .number) (s .pre))
+    rw (c .own .ensures, c .before .number .ensures, own-sent t voteYes (s .args .self .number) (s .pre))
 
 pub promising-spec : {M : Type 1} → statement M
 promising-spec = tie.close (tie.spec (λ c κs. tt) (λ c κs. tt) returns)

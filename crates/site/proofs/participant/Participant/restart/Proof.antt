@@ -11,22 +11,22 @@ use Rattle.site.proofs.participant.Participant.restart.Statement.{state
 use Rattle.site.proofs.participant.Participant.restart.Tie as tie
 
 returns : tie.Need-returns
-returns c = let s = c .before in rw (no-restart (s .args .self) (omega arith) (hasKind (s .args .records)) (c .if1 .taken))
+returns c t = let s = c .before in rw (no-restart (s .args .self) (omega arith) (hasKind (s .args .records)) (c .if1 .taken))
 
 returns-2 : tie.Need-returns-2
 unfolding participantRestart restartWith effectsIn appending entryOf closing sending messages given
-returns-2 c =
+returns-2 c t =
     let s = c .before .before .before in
     rw (
       restarts (s .args .self) (omega arith) (hasKind (s .args .records)) (c .before .before .if1 .left),
       sym (c .before .has .ensures),
       c .if2 .taken,
-      ordered-none 0,
+      ordered-none t 0,
     )
 
 returns-3 : tie.Need-returns-3
 unfolding participantRestart restartWith effectsIn appending entryOf closing sending messages given
-returns-3 c =
+returns-3 c t =
     let s = c .before .before .before .before .before in
     rw (
       restarts (s .args .self) (omega arith) (hasKind (s .args .records)) (c .before .before .before .before .if1 .left),
@@ -34,7 +34,7 @@ returns-3 c =
       sym (c .before .has2 .ensures),
       c .before .before .if2 .left,
       c .if3 .taken,
-      ordered-none 0,
+      ordered-none t 0,
     )
 
 voting-requires : tie.Need-voting-requires
@@ -43,10 +43,10 @@ voting-requires c κs =
 
 returns-4 : tie.Need-returns-4
 unfolding participantRestart restartWith messages
-returns-4 c =
+returns-4 c t =
     let s = c .before .before .before .before .before .before .before .before in
     rw (
-      c .voting .ensures,
+      c .voting .ensures t,
       restarts (s .args .self) (omega arith) (hasKind (s .args .records)) (c .before .before .before .before .before .before .before .if1 .left),
       sym (c .before .before .before .before .before .before .has .ensures),
       sym (c .before .before .before .before .has2 .ensures),
@@ -58,7 +58,7 @@ returns-4 c =
 
 returns-5 : tie.Need-returns-5
 unfolding participantRestart restartWith effectsIn appending entryOf closing sending messages given
-returns-5 c =
+returns-5 c t =
     let s = c .before .before .before .before .before .before .before in
     rw (
       restarts (s .args .self) (omega arith) (hasKind (s .args .records)) (c .before .before .before .before .before .before .if1 .left),
@@ -68,7 +68,7 @@ returns-5 c =
       c .before .before .before .before .if2 .left,
       c .before .before .if3 .left,
       c .if4 .left,
-      ordered-none 0,
+      ordered-none t 0,
     )
 
 pub restart-spec : {M : Type 1} → statement M

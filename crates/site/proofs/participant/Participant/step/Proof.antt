@@ -13,7 +13,7 @@ use Rattle.site.proofs.participant.Participant.step.Statement.{statemen
 use Rattle.site.proofs.participant.Participant.step.Tie as tie
 
 returns : tie.Need-returns
-returns c = let s = c .before .args in no-participant (s .self) (omega arith) (s .kind) (c .if1 .taken)
+returns c t = let s = c .before .args in no-participant (s .self) (omega arith) (s .kind) (c .if1 .taken)
 
 -- behind the test it is one of 1 to 8
 in-range : (d : tie.Else1) → (1 ≤ d .before .args .self .number) × (d .before .args .self .number ≤ 8)
@@ -29,7 +29,7 @@ takes d k =
     participant-takes (s .self) (omega arith) (s .kind) k (d .if1 .left)
 
 returns-6 : tie.Need-returns-6
-returns-6 c =
+returns-6 c t =
     let s = c .before .before .args in
     let r = c .match .rest in
     participant-never (s .self) (omega arith) (s .kind) (r .0 .0 .0 .1) (r .0 .0 .1) (r .0 .1) (r .1)
@@ -44,8 +44,8 @@ step-spec =
     (λ c κs. in-range (c .before))
     (λ c κs. in-range (c .before))
     (λ c κs. in-range (c .before))
-    (λ c. rw (c .on-prepare .ensures) (takes (c .before .before) 0 (c .before .match .keys1) refl))
-    (λ c. rw (c .on-tell .ensures) (takes (c .before .before) 3 (c .before .match .keys2) refl))
-    (λ c. rw (c .on-tell2 .ensures) (takes (c .before .before) 4 (c .before .match .keys3) refl))
-    (λ c. rw (c .on-timer .ensures) (takes (c .before .before) 17 (c .before .match .keys4) refl))
+    (λ c t. rw (c .on-prepare .ensures t) (takes (c .before .before) 0 (c .before .match .keys1) refl))
+    (λ c t. rw (c .on-tell .ensures t) (takes (c .before .before) 3 (c .before .match .keys2) refl))
+    (λ c t. rw (c .on-tell2 .ensures t) (takes (c .before .before) 4 (c .before .match .keys3) refl))
+    (λ c t. rw (c .on-timer .ensures t) (takes (c .before .before) 17 (c .before .match .keys4) refl))
     returns-6)

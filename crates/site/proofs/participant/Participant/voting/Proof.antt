@@ -8,9 +8,9 @@ use Rattle.site.proofs.participant.Participant.voting.Tie as tie
 
 returns : tie.Need-returns
 unfolding voting effectsIn appending entryOf closing given
-returns c =
+returns c t =
     let s = c .before in
-    rw (c .own .ensures, number-sent (s .args .vote) (s .args .self .number) (s .pre .1) (s .pre .0))
+    rw (c .own .ensures, number-sent t (s .args .vote) (s .args .self .number) (s .pre .1) (s .pre .0))
 
 pub voting-spec : {M : Type 1} → statement M
 voting-spec = tie.close (tie.spec (λ c κs. tt) returns)
