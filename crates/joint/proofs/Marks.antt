@@ -22,7 +22,8 @@ use Rattle.joint.specs.Plan.{Plan}
 use Rattle.joint.specs.Run.{Result, refuse, event, after}
 use Rattle.joint.specs.Safety.{Moment, history, steps, isEntry, isVote, isSending, Happens, accepts, isTakingOut, takenOut, marked, commitStable, Marks, EveryMark}
 use Rattle.joint.proofs.base.Booleans.{or-either, or-map, is-false}
-use Rattle.joint.proofs.base.Lists.{Each, any-more, any-middle, select-append}
+use Rattle.site.specs.laws.Lists.{select-append}
+use Rattle.joint.proofs.base.Lists.{Each, any-more, any-middle}
 use Rattle.joint.proofs.base.History.{Accepted, EventCase, refused, whole, cut, event-case, by-events, after-snoc, history-snoc}
 use Rattle.joint.proofs.base.Plans.{not-struck}
 use Rattle.joint.proofs.base.Moments.{placed, moment-cohort}

@@ -15,14 +15,10 @@ use Rattle.site.specs.Presumption.{commit, abort}
 use Rattle.site.specs.Step.{Message, prepare, voteYes, voteNo, readOnly, tell, ack, messages, messageKind, send, given}
 use Rattle.site.specs.Coordinator.{round, inTurn, ordered}
 use Rattle.site.specs.Answers.{sending}
+use Rattle.site.specs.laws.Lists.{select-none}
 use Rattle.site.specs.laws.Sets.{Numbered, ordered-none}
 
 -- ---- the order
-
-select-none : (f : ℕ → Bool) (l : List ℕ) → ((n : ℕ) → f n ≡ false) → select f l ≡ []
-unfolding select
-select-none f [] h = refl
-select-none f (n ∷ l) h = rw (h n) (select-none f l h)
 
 select-all : (f : ℕ → Bool) (l : List ℕ) → ((n : ℕ) → f n ≡ true) → select f l ≡ l
 unfolding select

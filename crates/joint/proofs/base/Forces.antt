@@ -14,7 +14,7 @@ use Rattle.joint.specs.Plan.{Plan, plan}
 use Rattle.joint.specs.Run.{Result, refuse, carry, cutShort, event, isForce, count, answerOf}
 use Rattle.joint.specs.Safety.{Moment, moments, happened}
 use Rattle.joint.specs.Totals.{highest, held, isForceAt, forcesAt}
-use Rattle.joint.proofs.base.Lists.{select-append}
+use Rattle.site.specs.laws.Lists.{select-append}
 use Rattle.joint.proofs.base.History.{Accepted, EventCase, refused, whole, cut, event-case}
 use Rattle.joint.proofs.base.Plans.{All, siteOf, plan-site}
 

@@ -73,10 +73,6 @@ map-take {B} f (suc n) (x ∷ xs) = ap (λ (l : List B). f x ∷ l) (map-take f 
 
 -- ---- those selected
 
-cond-append {ℓ} : {A : Type ℓ} (b : Bool) (x : A) (xs ys zs : List A) → zs ≡ xs ++ ys → cond b (x ∷ zs) zs ≡ cond b (x ∷ xs) xs ++ ys
-cond-append true x xs ys zs e = rw e
-cond-append false x xs ys zs e = e
-
 pub select-length : {A : Type 0} (f : A → Bool) (l : List A) → length (select f l) ≤ length l
 unfolding select
 select-length f [] = omega arith
@@ -85,11 +81,6 @@ select-length f (x ∷ l) = by (f x) (select-length f l)
     by : (b : Bool) → length (select f l) ≤ length l → length (cond b (x ∷ select f l) (select f l)) ≤ suc (length l)
     by true h = omega (arith, h)
     by false h = omega (arith, h)
-
-pub select-append {ℓ} : {A : Type ℓ} (f : A → Bool) (xs ys : List A) → select f (xs ++ ys) ≡ select f xs ++ select f ys
-unfolding select
-select-append f [] ys = refl
-select-append f (x ∷ xs) ys = cond-append (f x) x (select f xs) (select f ys) (select f (xs ++ ys)) (select-append f xs ys)
 
 -- how many of the first n pass f
 unfoldable pub among {ℓ} : {A : Type ℓ} → (A → Bool) → ℕ → List A → ℕ

@@ -19,7 +19,8 @@ use Rattle.site.specs.declared.effects.Effects.{Effects}
 use Rattle.joint.specs.State.{Site, Transaction, appended, forced}
 use Rattle.joint.specs.Run.{isAppend, isForce, isSend}
 use Rattle.joint.specs.Inside.{siteAfter, transactionAfter, counted, size, Fits}
-use Rattle.joint.proofs.base.Lists.{select-append, among, select-take}
+use Rattle.site.specs.laws.Lists.{select-append}
+use Rattle.joint.proofs.base.Lists.{among, select-take}
 
 -- ---- effects in two parts
 

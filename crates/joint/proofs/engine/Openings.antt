@@ -22,7 +22,8 @@ use Rattle.joint.specs.Safety.{steps, accepts}
 use Rattle.joint.specs.Totals.{isOpeningWith, openingsWith}
 use Rattle.joint.specs.Answers.{handoversIn}
 use Rattle.joint.specs.laws.Numbered.{once}
-use Rattle.joint.proofs.base.Lists.{select-length, select-append}
+use Rattle.site.specs.laws.Lists.{select-append}
+use Rattle.joint.proofs.base.Lists.{select-length}
 use Rattle.joint.proofs.base.Ranges.{only-some, parse-range}
 use Rattle.joint.proofs.base.History.{Accepted, EventCase, refused, whole, cut, event-case, by-events, after-snoc}
 use Rattle.joint.proofs.base.Plans.{All, not-struck}

@@ -13,12 +13,13 @@ use Rattle.site.specs.Cohort.{Cohort, owing}
 use Rattle.site.specs.Step.{messageKind, Effect, append, force, enter, send, Row, given}
 use Rattle.site.specs.Coordinator.{inOrder, tellAll, resuming, restartFrom, leaving, coordinatorRestart}
 use Rattle.site.specs.Participant.{voting, restartWith, participantRestart}
-use Rattle.site.specs.laws.Sets.{order-length, take-append}
+use Rattle.site.specs.laws.Lists.{take-append, select-append}
+use Rattle.site.specs.laws.Sets.{order-length}
 use Rattle.joint.specs.State.{Run, Transaction, Act, holds, recordedCohort, update, atSite, atTransaction, started, withEntered, withSent, forgotten, perform, performAll}
 use Rattle.joint.specs.Plan.{Plan, acting, rowPlan, restarting, joined, restartAll}
 use Rattle.joint.specs.Run.{isAppend, isForce, isSend, count}
 use Rattle.joint.specs.Inside.{Resumption}
-use Rattle.joint.proofs.base.Lists.{Each, each-append, each-take, select-length, select-append}
+use Rattle.joint.proofs.base.Lists.{Each, each-append, each-take, select-length}
 use Rattle.joint.proofs.base.Updates.{update-keeps}
 use Rattle.joint.proofs.base.Plans.{Logless, coordinator-logless, participant-logless}
 use Rattle.joint.proofs.engine.Placed.{run-path, Phase, coordinator-phase, participant-phase, acting-length}

@@ -19,7 +19,8 @@ use Rattle.joint.specs.State.{holds, recordedCohort}
 use Rattle.joint.specs.Plan.{newest}
 use Rattle.joint.specs.Inside.{oldestAt, sought}
 use Rattle.joint.proofs.base.Booleans.{eqb-sym, clash}
-use Rattle.joint.proofs.base.Lists.{select-append, any-append}
+use Rattle.site.specs.laws.Lists.{select-append}
+use Rattle.joint.proofs.base.Lists.{any-append}
 
 -- ---- lists
 

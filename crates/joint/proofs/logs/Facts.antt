@@ -18,7 +18,8 @@ use Rattle.site.specs.Presumption.{commit, abort}
 use Rattle.site.specs.Cohort.{Cohort, remaining, owing, writesInit}
 use Rattle.site.specs.Numbers.{coordinatorPhase, waitingSet, waitingInRange}
 use Rattle.joint.specs.State.{Run, opened}
-use Rattle.joint.proofs.base.Lists.{select-append, Each}
+use Rattle.site.specs.laws.Lists.{select-append}
+use Rattle.joint.proofs.base.Lists.{Each}
 use Rattle.joint.proofs.safety.Sets.{no-zero, owing-remaining}
 use Rattle.joint.proofs.safety.Invariant.{waiting, resting, down, Standing, never, initial, collecting, decided, SetsFit, phaseAt, between, recordFor}
 use Rattle.joint.proofs.logs.Counts.{recordsOf, sumBelow}

@@ -18,7 +18,7 @@ use Rattle.codec.specs.laws.Remaining.{remaining-part, remaining-within}
 use Rattle.site.specs.Presumption.{presumptionNumber, presumedAbort, presumedCommit}
 use Rattle.site.specs.Cohort.{Cohort, remaining, masksOf, presumptionOf, writesInit}
 use Rattle.joint.proofs.base.Booleans.{and-both, or-left, or-right}
-use Rattle.joint.proofs.base.Lists.{select-append}
+use Rattle.site.specs.laws.Lists.{select-append}
 use Rattle.joint.proofs.safety.Invariant.{awaitsCommit, recordFor}
 use Rattle.joint.proofs.logs.Counts.{recordsOf, records-head}
 use Rattle.joint.proofs.safety.Tables.{has}

@@ -14,7 +14,8 @@ use Rattle.site.specs.Step.{voteYes, messageKind, Effect, append, force, enter,
 use Rattle.joint.specs.State.{Run, Site, Transaction, Act, holds, recordedCohort, atSite, atTransaction, appended, forced, stopped, withCoordinator, withParticipant, withSent, withEntered, forgotten, down, perform, performAll}
 use Rattle.joint.specs.Run.{isForce}
 use Rattle.joint.specs.Safety.{Moment, moments, enters, sends, isEntry, isEntryAt, isVote}
-use Rattle.joint.proofs.base.Lists.{select-append, among, select-take, any-append}
+use Rattle.site.specs.laws.Lists.{select-append}
+use Rattle.joint.proofs.base.Lists.{among, select-take, any-append}
 use Rattle.joint.proofs.base.Updates.{update-at, update-keeps, update-same, update-other}
 use Rattle.joint.proofs.view.View.{siteView, withoutEntries, view, view-path, viewAt, viewPerform, viewEffects, viewDown}
 

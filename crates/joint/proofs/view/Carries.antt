@@ -15,7 +15,8 @@ use Rattle.joint.specs.State.{Run, Act, forced}
 use Rattle.joint.specs.Plan.{Plan, acting}
 use Rattle.joint.specs.Run.{Result, partly, cutShort, carry, isForce}
 use Rattle.joint.specs.Safety.{Moment, moments}
-use Rattle.joint.proofs.base.Lists.{Each, each-take, each-chosen, map-take, select-append, among, select-take}
+use Rattle.site.specs.laws.Lists.{select-append}
+use Rattle.joint.proofs.base.Lists.{Each, each-take, each-chosen, map-take, among, select-take}
 use Rattle.joint.proofs.view.View.{View, view, viewAt, viewPerform, viewEffects}
 use Rattle.joint.proofs.view.Turn.{Carried, whole, cutAfter, forces, crashes, Turns, still, turn}
 use Rattle.joint.proofs.view.Acts.{seen, effectsOf, seenEffects, acts-view, down-view}

@@ -15,7 +15,7 @@ use Rattle.site.specs.Participant.{ParticipantPhase}
 use Rattle.joint.specs.State.{Run, Site, Transaction, atSite, atTransaction, started, withCoordinator, withParticipant, withMarked}
 use Rattle.joint.specs.Plan.{openedAs, dropOldest, trimmed, remembers, forgottenUnless, discard}
 use Rattle.joint.specs.Safety.{Moment}
-use Rattle.joint.proofs.base.Lists.{select-append}
+use Rattle.site.specs.laws.Lists.{select-append}
 use Rattle.joint.proofs.base.Updates.{update-at, update-keeps, update-same, update-other}
 use Rattle.joint.proofs.view.View.{View, siteView, withoutEntries, view, view-path, viewAt, viewSettle}
 use Rattle.joint.proofs.view.Turn.{trimmedView, isNil, noRecord, viewForget, viewDiscard}

@@ -2,11 +2,9 @@
 use mathlib.Core.Path.{_≡_, refl, ap, ap₂, sym, _∙_}
 use mathlib.Core.Bool.{Bool, true, false, cond, not, _&&_, _||_}
 use mathlib.Core.List.{List, [], _∷_, _++_}
-use Prim.Native.Nat.{ℕ, zero, suc, _+_, _-_, _≤_, _<_}
-use native.Mathlib.Nat.{sub-zero, suc-sub-suc}
+use Prim.Native.Nat.{ℕ, suc, _+_, _-_, _≤_, _<_}
 use native.Mathlib.Omega.{arith}
 use lib.ListN.{length, take, getD, length-append}
-use lib.Seq.{take-nil}
 use Rattle.codec.specs.Lists.{select}
 use Rattle.codec.specs.Sets.{participants, member, listed, both, either, minus}
 use Rattle.codec.specs.laws.Tests.{alike, alike-eq, bools-at}
@@ -15,6 +13,7 @@ use Rattle.codec.specs.laws.Lowest.{listed-those, lowest-part}
 use Rattle.site.specs.Presumption.{commit, abort, acks, presumedAbort, presumedCommit}
 use Rattle.site.specs.Cohort.{Cohort, presumptionOf, owing}
 use Rattle.site.specs.Coordinator.{round, inTurn, ordered}
+use Rattle.site.specs.laws.Lists.{select-select, take-append}
 
 -- a participant's number
 abbrev pub Numbered : ℕ → Type 0
@@ -48,16 +47,6 @@ ordered-none t first = refl
 
 -- ---- the order of sends is that of two sets
 
-pub select-select {ℓ} : {A : Type ℓ} (f g : A → Bool) (xs : List A) → select g (select f xs) ≡ select (λ x. f x && g x) xs
-unfolding select
-select-select f g [] = refl
-select-select {A} f g (x ∷ xs) = by (f x) (select-select f g xs)
-  where
-    by : (b : Bool) → select g (select f xs) ≡ select (λ x. f x && g x) xs
-        → select g (cond b (x ∷ select f xs) (select f xs)) ≡ cond (b && g x) (x ∷ select (λ x. f x && g x) xs) (select (λ x. f x && g x) xs)
-    by true e = ap (λ (l : List A). cond (g x) (x ∷ l) l) e
-    by false e = e
-
 select-listed : (f : ℕ → Bool) (to : ℕ) → select f (listed to) ≡ select (λ p. member p to && f p) participants
 unfolding listed
 select-listed f to = select-select (λ p. member p to) f participants
@@ -83,11 +72,6 @@ unfolding ordered inTurn round listed
 order-length t first to = length-append (select (λ p. member p first) (listed to)) _ ∙ select-split (λ p. member p first) (listed to)
 
 -- ---- the first of them
-
-pub take-append {ℓ} : {A : Type ℓ} (n : ℕ) (xs ys : List A) → take n (xs ++ ys) ≡ take n xs ++ take (n - length xs) ys
-take-append n [] ys = rw (sub-zero, take-nil)
-take-append zero (x ∷ xs) ys = let z : 0 - length (x ∷ xs) ≡ 0 = omega arith in rw z
-take-append {A} (suc n) (x ∷ xs) ys = rw suc-sub-suc (ap (λ (l : List A). x ∷ l) (take-append n xs ys))
 
 abbrev firstTest : List Bool → Bool
 firstTest bs = alike (((at 0 && (at 2 && at 3)) || (at 1 && (at 2 && not (at 3)))) && at 3) (at 0 && (at 2 && at 3))
