@@ -3,7 +3,7 @@ pub mod Tests
 pub mod Masks
 pub mod Members
 pub mod Remaining
-pub mod Lowest
+pub mod Listed
 pub mod Fields
 pub mod Refusals
 pub mod Readings

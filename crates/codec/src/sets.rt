@@ -1,7 +1,7 @@
 // Sets of participants (01: boxes) as masks: bit p - 1 is participant p.
 use crate::message::Parts;
 ghost use mathlib.Core.Path.{_≡_};
-ghost use lib.ListN.{length, take};
+ghost use lib.ListN.{length};
 ghost use Rattle.codec.specs.Sets as sets;
 
 // Whether a participant is a member.
@@ -64,20 +64,4 @@ pub fn size(mask: u8) -> u8
     ensures { λ r. ⌜ r ≡ length (sets.listed mask) ⌝ }
 {
     u32::count_ones(mask as u32) as u8
-}
-
-// The `most` lowest members.
-pub fn lowest(mask: u8, most: u8) -> u8
-    ensures { λ r. ⌜ sets.listed r ≡ take most (sets.listed mask) ⌝ }
-{
-    if size(mask) <= most {
-        return mask;
-    }
-    let mut rest = mask;
-    let mut i: u8 = 0;
-    while i < most {
-        rest = both(rest, rest - 1);
-        i += 1;
-    }
-    minus(mask, rest)
 }

@@ -38,9 +38,9 @@ pub enum Change {
     Happens(Row),
 }
 
-// A row; or, up to the cut, the first effects of it, and then the site goes down.
-fn carry(site: Site, row: Row, cut: u8, keep: u8) -> Change
-    ensures { λ r. ⌜ ((w : plain.Run) (s t : ℕ) → Here site w s → Fits (effectsIn t (row .effects)) (w .site s) → changeIn w s t r ≡ seen (run.carry w (planIn s t row) (cutFrom cut keep))) ⌝ }
+// A row of a transaction; or, up to the cut, the first effects of it, and then the site goes down.
+fn carry(site: Site, transaction: u8, row: Row, cut: u8, keep: u8) -> Change
+    ensures { λ r. ⌜ ((w : plain.Run) (s : ℕ) → Here site w s → Fits (effectsIn transaction (row .effects)) (w .site s) → changeIn w s transaction r ≡ seen (run.carry w (planIn s transaction row) (cutFrom cut keep))) ⌝ }
 {
     if cut == Run::NO_CUT {
         return Change::Happens(row);
@@ -49,7 +49,7 @@ fn carry(site: Site, row: Row, cut: u8, keep: u8) -> Change
     if effects.count() < cut {
         return Change::Refused(Answer::CutTooFar);
     }
-    let happened = effects.cut(cut);
+    let happened = effects.cut(transaction, cut);
     let after = site.after(happened);
     if after.unforced_count() < (keep as usize) {
         return Change::Refused(Answer::CutTooFar);
@@ -116,12 +116,12 @@ pub(crate) fn input(site: Site, before: Transaction, e: Input) -> Change
     }
     let found = Row::step(before, e.site, e.kind, e.participant);
     match found {
-        Found::Row(row) => carry(site, row, e.cut, e.keep),
+        Found::Row(row) => carry(site, e.transaction, row, e.cut, e.keep),
         Found::None => {
             if BEGIN <= e.kind {
                 return Change::Refused(Answer::NotAllowed);
             }
-            carry(site, Row::NOTHING, e.cut, e.keep)
+            carry(site, e.transaction, Row::NOTHING, e.cut, e.keep)
         }
     }
 }

@@ -75,10 +75,11 @@ fn resume_all(
         i += 1;
         let transaction = transactions[at];
         if transaction.opened() {
-            let row = Row::restart(transaction, at as u8, site, kinds[at], records, count);
+            let number = at as u8;
+            let row = Row::restart(transaction, number, site, kinds[at], records, count);
             let effects = row.effects;
             let then = row.then;
-            let happened = effects.cut(left);
+            let happened = effects.cut(number, left);
             let after = transaction.after(site, happened);
             transactions[at] = after.settle(site, then);
             left = less(left, effects.count());

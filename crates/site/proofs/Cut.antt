@@ -16,7 +16,7 @@ use Rattle.site.specs.Numbers.{appending, entryOf}
 use Rattle.site.specs.Answers.{fieldsBy, sending, effectsIn}
 use Rattle.site.specs.Inside.{upTo}
 use Rattle.site.specs.laws.Lists.{take-append}
-use Rattle.site.specs.laws.Sets.{order-length}
+use Rattle.site.specs.laws.Order.{order-length}
 use Rattle.site.specs.laws.Parts.{five}
 use Rattle.site.specs.declared.effects.Effects.{Effects}
 

@@ -10,16 +10,18 @@ use lib.Dec.{eqb}
 use Rattle.codec.specs.Lists.{onlyIf}
 use Rattle.codec.specs.Sets.{member, empty, without, both, only}
 use Rattle.codec.specs.laws.Masks.{those-below}
+use Rattle.codec.specs.laws.Listed.{weight}
 use Rattle.site.specs.Presumption.{Outcome, commit, abort, silence, sameOutcome, Presumption, acks, presumptionNumber}
 use Rattle.site.specs.Cohort.{Cohort, remaining, masksOf, writesInit, presumptionOf, owing}
 use Rattle.site.specs.Step.{Message, prepare, voteYes, voteNo, readOnly, tell, ack, messages, messageKind, Effect, append, force, enter, send, given, Input, begin, timer, received, Row}
 use Rattle.site.specs.Coordinator.{CoordinatorPhase, Coordinator, ordered, tellAll, inOrder, preparing, committing, aborting, telling, endRecord, voted, counting, onYes, onNo, takingOut, onReadOnly, coordinatorTimer, acked, ackedIf, onAck, onBegin, leaving, leavingIf, coordinatorStep}
 use Rattle.site.specs.Participant.{outcomeRecord, voting, promising, firstVote, onPrepare, acking, finish, acknowledging, ackingIf, onTell, participantTimer, participantStep, ParticipantPhase}
 use Rattle.site.specs.Numbers.{Arguments, waitingSet, summary, fieldsOf, goFirst, entryOf, rowValues, appending, doing, rowRead, done}
-use Rattle.site.specs.laws.Sets.{Numbered, ordered-none}
+use Rattle.site.specs.laws.Sets.{Numbered}
+use Rattle.site.specs.laws.Order.{ordered-none}
 use Rattle.site.specs.laws.Remaining.{in-set, remaining-below, remaining-stays, remaining-order}
 use Rattle.site.proofs.Sent.{kind-known, ordered-by-turn, ordered-one}
-use Rattle.site.proofs.Summed.{weight, weight-ordered, rowOf, kindOf, numbersOf, sum-row, read-back}
+use Rattle.site.proofs.Summed.{weight-ordered, rowOf, kindOf, numbersOf, sum-row, read-back}
 
 only-below : (p : ℕ) → only p < 256
 unfolding only

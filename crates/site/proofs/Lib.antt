@@ -5,6 +5,7 @@ mod NoRow
 mod ByKind
 mod Summed
 mod Cut
+mod Turned
 mod Accepted
 mod Done
 mod Called

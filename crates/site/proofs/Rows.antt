@@ -14,7 +14,8 @@ use Rattle.site.specs.Coordinator.{endRecord, inOrder, tellAll}
 use Rattle.site.specs.Participant.{outcomeRecord}
 use Rattle.site.specs.Numbers.{appending, outcomeNumber, entryOf}
 use Rattle.site.specs.Answers.{closing}
-use Rattle.site.specs.laws.Sets.{Numbered, ordered-none}
+use Rattle.site.specs.laws.Sets.{Numbered}
+use Rattle.site.specs.laws.Order.{ordered-none}
 use Rattle.site.proofs.Sent.{ordered-one}
 
 pub entering-outcome : (o : Outcome) → entryOf (outcomeNumber o) ≡ enter o ∷ []

@@ -1,10 +1,10 @@
 -- Messages sent to a set. Assumes nothing.
 use mathlib.Core.Path.{_≡_, refl, ap, ap₂, sym, subst, _∙_}
 use mathlib.Core.Bool.{Bool, true, false, cond, not}
-use mathlib.Core.List.{List, [], _∷_, _++_, map}
+use mathlib.Core.List.{List, [], _∷_, _++_, map, append-nil}
 use Prim.Native.Nat.{ℕ, suc, _-_, _<_, _≤_}
 use native.Mathlib.Omega.{arith}
-use lib.ListN.{getD}
+use lib.ListN.{take, drop, getD, take-append-drop}
 use lib.Dec.{leb}
 use borrow.Author.Tests.{le-leb}
 use Rattle.codec.specs.Lists.{select, same}
@@ -15,8 +15,9 @@ use Rattle.site.specs.Presumption.{commit, abort}
 use Rattle.site.specs.Step.{Message, prepare, voteYes, voteNo, readOnly, tell, ack, messages, messageKind, send, given}
 use Rattle.site.specs.Coordinator.{round, inTurn, ordered}
 use Rattle.site.specs.Answers.{sending}
-use Rattle.site.specs.laws.Lists.{select-none}
-use Rattle.site.specs.laws.Sets.{Numbered, ordered-none}
+use Rattle.site.specs.laws.Lists.{select-none, select-append}
+use Rattle.site.specs.laws.Sets.{Numbered}
+use Rattle.site.specs.laws.Order.{ordered-none}
 
 -- ---- the order
 
@@ -41,9 +42,25 @@ one-alone p h =
     let e : p ≡ suc (p - 1) = omega (arith, h .0) in
     subst (λ (q : ℕ). listed (only q) ≡ q ∷ []) (sym e) (one-listed (p - 1) (omega (arith, h .0, h .1)))
 
+-- one in either part is one, whichever part is first
+one-swapped : (xs ys : List ℕ) (p : ℕ) → xs ++ ys ≡ p ∷ [] → ys ++ xs ≡ p ∷ []
+one-swapped [] ys p e = append-nil ys ∙ e
+one-swapped (x ∷ []) [] p e = e
+one-swapped (x ∷ []) (y ∷ ys) p e = cc
+one-swapped (x ∷ z ∷ xs) ys p e = cc
+
+one-in-turn : (t p : ℕ) → Numbered p → inTurn t (only p) ≡ p ∷ []
+unfolding inTurn round
+one-in-turn t p h =
+    select-append (λ q. member q (only p)) (drop t participants) (take t participants)
+    ∙ one-swapped (select (λ q. member q (only p)) (take t participants)) (select (λ q. member q (only p)) (drop t participants)) p
+    (sym (select-append (λ q. member q (only p)) (take t participants) (drop t participants))
+    ∙ ap (select (λ q. member q (only p))) (take-append-drop t participants)
+    ∙ unfold listed in one-alone p h)
+
 pub ordered-one : (t first p : ℕ) → Numbered p → ordered t first (only p) ≡ p ∷ []
-unfolding ordered inTurn round listed select
-ordered-one t first p h = rw (one-alone p h) (by (member p first) refl)
+unfolding ordered select
+ordered-one t first p h = rw (one-in-turn t p h) (by (member p first) refl)
   where
     by : (b : Bool) → member p first ≡ b → (select (λ q. member q first) (p ∷ []) ++ select (λ q. not (member q first)) (p ∷ [])) ≡ p ∷ []
     by true e = rw e refl

@@ -9,14 +9,14 @@ use lib.ListN.{getD}
 use lib.Dec.{eqb, leb, eqb→eq}
 use lib.Pow.{pow-pos}
 use borrow.Author.Tests.{eqb-true, ne-eqb, leb-true, lt-leb}
-use Rattle.codec.specs.Lists.{select}
-use Rattle.codec.specs.Sets.{participants, member, listed}
 use Rattle.codec.specs.laws.Tests.{below-at}
+use Rattle.codec.specs.laws.Listed.{weight, weight-listed}
 use Rattle.site.specs.Presumption.{Outcome, commit, abort}
 use Rattle.site.specs.Step.{Message, prepare, messages, messageKind, Effect, append, force, enter, send, given}
-use Rattle.site.specs.Coordinator.{round, inTurn, ordered}
+use Rattle.site.specs.Coordinator.{ordered}
 use Rattle.site.specs.Numbers.{appending, Summary, outcomeNumber, summaryBehind, summaryFrom, summary, entryOf, rowValues, rowRead}
 use Rattle.site.specs.Answers.{fieldsBy, sending, effectsIn}
+use Rattle.site.specs.laws.Order.{order-adds}
 use Rattle.site.specs.laws.Parts.{five}
 use Rattle.site.specs.declared.effects.Effects.{Effects}
 use Rattle.site.proofs.Sent.{kind-known}
@@ -28,35 +28,12 @@ chosen b x y r (inr h) = rw (h .0) (h .1)
 
 -- ---- the set that a list of participants is
 
-abbrev pub weight : List ℕ → ℕ
-weight [] = 0
-weight (p ∷ ps) = 2 ^ (p - 1) + weight ps
-
-weight-both : (l m : List ℕ) → weight (l ++ m) ≡ weight l + weight m
-weight-both [] m = omega arith
-weight-both (p ∷ l) m = omega (arith, weight-both l m)
-
-weight-split : (f : ℕ → Bool) (l : List ℕ) → weight (select f l) + weight (select (λ p. not (f p)) l) ≡ weight l
-unfolding select
-weight-split f [] = omega arith
-weight-split f (p ∷ l) = by (f p) (weight-split f l)
-  where
-    by : (b : Bool) → weight (select f l) + weight (select (λ p. not (f p)) l) ≡ weight l
-        → weight (cond b (p ∷ select f l) (select f l)) + weight (cond (not b) (p ∷ select (λ p. not (f p)) l) (select (λ p. not (f p)) l))
-        ≡ 2 ^ (p - 1) + weight l
-    by true e = omega (arith, e)
-    by false e = omega (arith, e)
-
-weight-listed : (to : ℕ) → to < 256 → weight (listed to) ≡ to
-unfolding listed select participants member
-weight-listed to h = eqb→eq _ _ (below-at 256 (λ to. eqb (weight (listed to)) to) tt to h)
+weight-adds : (l m : List ℕ) → weight (l ++ m) ≡ weight l + weight m
+weight-adds [] m = omega arith
+weight-adds (p ∷ l) m = omega (arith, weight-adds l m)
 
 pub weight-ordered : (t first to : ℕ) → to < 256 → weight (ordered t first to) ≡ to
-unfolding ordered inTurn round listed
-weight-ordered t first to h =
-    weight-both (select (λ p. member p first) (listed to)) (select (λ p. not (member p first)) (listed to))
-    ∙ weight-split (λ p. member p first) (listed to)
-    ∙ weight-listed to h
+weight-ordered t first to h = order-adds weight weight-adds t first to ∙ weight-listed to h
 
 -- ---- a row in five parts: record, force, entry, messages of one kind, record
 

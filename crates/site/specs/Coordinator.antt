@@ -3,6 +3,7 @@ use Prim.Native.Nat.{ℕ}
 use mathlib.Core.Bool.{Bool, true, false, cond, not, _&&_}
 use mathlib.Core.List.{List, [], _∷_, _++_, map}
 use mathlib.Core.Option.{Option, none, some}
+use lib.ListN.{take, drop}
 use Rattle.codec.specs.Lists.{select, onlyIf}
 use Rattle.codec.specs.Sets.{participants, member, empty, only, without, both, either}
 use Rattle.site.specs.Presumption.{Outcome, commit, abort, sameOutcome, silence}
@@ -34,9 +35,9 @@ untilAcked o w = cond (empty w) unknown (awaitingAcks o w)
 unfoldable pub telling : Outcome → ℕ → CoordinatorPhase → Row CoordinatorPhase
 telling o p c = record { effects = send (tell o) p ∷ []; phase = c }
 
--- the order of sending among ties, of transaction t: the lowest first
+-- 02: the order of sending among ties starts at participant t + 1 for transaction t and goes round from 8 to 1
 unfoldable pub round : ℕ → List ℕ
-round t = participants
+round t = drop t participants ++ take t participants
 
 -- those of a set, in that order
 unfoldable pub inTurn : ℕ → ℕ → List ℕ

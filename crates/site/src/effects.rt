@@ -2,14 +2,16 @@
 use codec::message::Parts;
 use codec::sets::both;
 use codec::sets::either;
-use codec::sets::lowest;
+use codec::sets::member;
 use codec::sets::minus;
+use codec::sets::only;
 use codec::sets::size;
 ghost use mathlib.Core.Path.{_≡_};
 ghost use mathlib.Core.Bool.{cond};
 ghost use Prim.Native.Nat.{ℕ, _-_, _≤_};
 ghost use lib.ListN.{length, take};
-ghost use Rattle.site.specs.Coordinator.{ordered};
+ghost use Rattle.codec.specs.Sets as sets;
+ghost use Rattle.site.specs.Coordinator.{inTurn, ordered};
 ghost use Rattle.site.specs.Numbers.{summary, entryOf};
 ghost use Rattle.site.specs.Answers.{effectsIn, sending, summaryIn};
 ghost use Rattle.site.specs.Inside.{upTo};
@@ -91,9 +93,9 @@ impl Effects {
         appends + forces + enters + self.sends() + closes
     }
 
-    // The first `most` effects of it.
-    pub fn cut(self, most: u8) -> Effects
-        ensures { λ r. ⌜ ((t : ℕ) → effectsIn t r ≡ take most (effectsIn t self)) ⌝ }
+    // The first `most` effects of it, in a transaction.
+    pub fn cut(self, transaction: u8, most: u8) -> Effects
+        ensures { λ r. ⌜ effectsIn transaction r ≡ take most (effectsIn transaction self) ⌝ }
     {
         let forces = less(most, one_if(self.appended != 0));
         let enters = less(forces, one_if(self.forced));
@@ -106,7 +108,7 @@ impl Effects {
             forced: self.forced & (forces != 0),
             entered: up_to(enters, self.entered),
             message: self.message,
-            to: first_sent(self.owing, self.to, sends),
+            to: first_sent(transaction, self.owing, self.to, sends),
             owing: self.owing,
             last: up_to(closes, self.last),
         }
@@ -179,12 +181,42 @@ fn entries(entered: u8) -> u8
     1
 }
 
-// Of a set the first `most` in the order of sends: those that owe go first.
-fn first_sent(owing: u8, to: u8, most: u8) -> u8
-    ensures { λ r. ⌜ ((t : ℕ) → ordered t owing r ≡ take most (ordered t owing to)) ⌝ }
+// Of a set the first `most` in the order of a transaction's sends: those that owe go first. What is no transaction goes as 0 does.
+fn first_sent(transaction: u8, owing: u8, to: u8, most: u8) -> u8
+    ensures { λ r. ⌜ ordered transaction owing r ≡ take most (ordered transaction owing to) ⌝ }
 {
+    let start = if Parts::LAST_TRANSACTION < transaction {
+        0
+    } else {
+        transaction
+    };
     let first = both(to, owing);
-    let a = lowest(first, most);
-    let b = lowest(minus(to, owing), less(most, size(first)));
-    either(a, b)
+    let count = size(first);
+    if most < count {
+        return first_in_turn(start, first, most);
+    }
+    let second = first_in_turn(start, minus(to, owing), most - count);
+    either(first, second)
+}
+
+// Of a set the first `most` in the round that starts at participant `start` + 1 and goes from 8 to 1.
+fn first_in_turn(start: u8, mask: u8, most: u8) -> u8
+    requires { ⌜ start ≤ 7 ⌝ }
+    ensures { λ r. ⌜ (inTurn start r ≡ take most (inTurn start mask)) × (sets.both r mask ≡ r) ⌝ }
+{
+    if size(mask) <= most {
+        return mask;
+    }
+    let mut taken: u8 = 0;
+    let mut left = most;
+    let mut i: u8 = 0;
+    while left != 0 {
+        let next = (start + i) % Parts::LAST_PARTICIPANT + 1;
+        if member(next, mask) {
+            taken = either(taken, only(next));
+            left -= 1;
+        }
+        i += 1;
+    }
+    taken
 }

@@ -17,7 +17,7 @@ use Rattle.site.specs.Step.{Effect, force, given}
 use Rattle.site.specs.Numbers.{inputOf, appending, entryOf}
 use Rattle.site.specs.Answers.{effectsIn, closing, sending}
 use Rattle.site.specs.declared.effects.Effects.{Effects}
-use Rattle.site.specs.laws.Sets.{ordered-none}
+use Rattle.site.specs.laws.Order.{ordered-none}
 use Rattle.joint.specs.State as plain
 use Rattle.joint.specs.State.{Run, Act, opened, takesPart, atSite, atTransaction, withMarked, perform, performAll, down}
 use Rattle.joint.specs.Event.{Event, opening, forcing, discarding, crash, marking, cutAt}

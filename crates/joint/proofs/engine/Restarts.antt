@@ -14,7 +14,7 @@ use Rattle.site.specs.Step.{messageKind, Effect, append, force, enter, send, Ro
 use Rattle.site.specs.Coordinator.{inOrder, tellAll, resuming, restartFrom, leaving, coordinatorRestart}
 use Rattle.site.specs.Participant.{voting, restartWith, participantRestart}
 use Rattle.site.specs.laws.Lists.{take-append, select-append}
-use Rattle.site.specs.laws.Sets.{order-length}
+use Rattle.site.specs.laws.Order.{order-length}
 use Rattle.joint.specs.State.{Run, Transaction, Act, holds, recordedCohort, update, atSite, atTransaction, started, withEntered, withSent, forgotten, perform, performAll}
 use Rattle.joint.specs.Plan.{Plan, acting, rowPlan, restarting, joined, restartAll}
 use Rattle.joint.specs.Run.{isAppend, isForce, isSend, count}

@@ -30,7 +30,7 @@ use Rattle.site.specs.declared.participant.ParticipantAnswer.{ParticipantAnswer
 use Rattle.site.specs.declared.participant.ParticipantAnswer.the-variants as participant
 use Rattle.site.proofs.coordinator.CoordinatorAnswer as coordinator-answer
 use Rattle.site.proofs.participant.ParticipantAnswer as participant-answer
-use Rattle.site.specs.laws.Sets.{ordered-none}
+use Rattle.site.specs.laws.Order.{ordered-none}
 use Rattle.joint.specs.State as plain
 use Rattle.joint.specs.State.{holds, recordedCohort, update, withCoordinator, withParticipant, withMarked, atSite, atTransaction, forgotten, stopped, down, performAll}
 use Rattle.joint.specs.Plan as plan

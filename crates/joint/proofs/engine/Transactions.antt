@@ -1,13 +1,13 @@
 -- What the program's changes of a transaction do to what it stands for.
 use Prim.Native.Nat.{ℕ, zero, suc, _+_, _-_, _≤_, _<_}
-use mathlib.Core.Path.{_≡_, refl, sym, ap, ap₂, _∙_, fun-ext}
+use mathlib.Core.Path.{_≡_, refl, sym, ap, _∙_, fun-ext}
 use mathlib.Core.Bool.{Bool, true, false, cond, not, _&&_, _||_, and-true, and-false, and-eq-true-iff}
-use mathlib.Core.List.{List, [], _∷_, _++_, map}
-use lib.ListN.{length, getD, set}
+use mathlib.Core.List.{List, [], _∷_, map}
+use lib.ListN.{length, getD, set, length-append}
 use lib.Seq.{getD-set-same, getD-set-other}
 use lib.Dec.{eqb, leb, ltb, eqb→eq}
 use native.Mathlib.Omega.{arith}
-use borrow.Author.Tests.{eqb-true, eqb-false, ltb-true, ltb-false, lt-ltb, le-ltb, le-leb, leb-true}
+use borrow.Author.Tests.{eqb-true, eqb-false, ne-eqb, ltb-true, ltb-false, lt-ltb, le-ltb, le-leb, leb-true}
 use Rattle.codec.specs.Lists.{select, any}
 use Rattle.codec.specs.Sets.{participants, member, listed, either}
 use Rattle.codec.specs.laws.Tests.{true-of, below-at}
@@ -18,12 +18,13 @@ use Rattle.site.specs.Presumption.{commit, abort, sameOutcome}
 use Rattle.site.specs.Cohort.{Cohort}
 use Rattle.site.specs.Step.{Message, prepare, messages, messageKind, send, given}
 use Rattle.site.specs.Coordinator as coordinator
-use Rattle.site.specs.Coordinator.{round, inTurn, ordered}
+use Rattle.site.specs.Coordinator.{ordered}
 use Rattle.site.specs.Participant as participant
 use Rattle.site.specs.Answers.{participantIn, hasKind, sending}
 use Rattle.site.specs.declared.phases.CoordinatorPhase.the-variants as phases
 use Rattle.site.specs.declared.phases.ParticipantPhase.{ParticipantPhase}
-use Rattle.site.specs.laws.Sets.{ordered-none}
+use Rattle.site.specs.laws.Lists.{select-append}
+use Rattle.site.specs.laws.Order.{order-adds, ordered-none}
 use Rattle.joint.specs.State as plain
 use Rattle.joint.specs.State.{takesPart, update, withParticipant, withMarked, withSent, withEntered, forgotten}
 use Rattle.joint.specs.Plan.{openedAs}
@@ -117,15 +118,6 @@ sent-each s m (p ∷ ps) x =
     sent-each s m ps (withSent p (messageKind m) x)
     ∙ transaction-path refl (fun-ext (λ q. fun-ext (λ j. among (eqb q p) (any (eqb q) ps) (eqb j (messageKind m)) (x .sent q j)))) refl
 
-any-both : (f : ℕ → Bool) (l m : List ℕ) → any f (l ++ m) ≡ (any f l || any f m)
-unfolding any
-any-both f [] m = refl
-any-both f (x ∷ l) m = by (f x) (any-both f l m)
-  where
-    by : (b : Bool) → any f (l ++ m) ≡ (any f l || any f m) → (b || any f (l ++ m)) ≡ ((b || any f l) || any f m)
-    by true e = refl
-    by false e = e
-
 -- who is among those of a list that pass a test passes it
 any-select : (q : ℕ) (f : ℕ → Bool) (l : List ℕ) → any (eqb q) (select f l) ≡ (any (eqb q) l && f q)
 unfolding any select
@@ -138,12 +130,6 @@ any-select q f (x ∷ l) = by (f x) refl (eqb q x) refl (any-select q f l)
     by true p false h i = rw h i
     by false p true h i = i ∙ rw (ap f (eqb-true q x h) ∙ p) (and-false (any (eqb q) l))
     by false p false h i = i
-
--- as the members of a set are in two parts, or in one
-split : (a f : Bool) → ((a && f) || (a && not f)) ≡ a
-split true true = refl
-split true false = refl
-split false f = refl
 
 is-one : (q : ℕ) → (1 ≤ q) × (q ≤ 8) → any (eqb q) participants ≡ true
 unfolding participants any
@@ -159,12 +145,21 @@ any-listed q to h = any-select q (λ p. member p to) participants ∙ by (member
     by false e = and-false (any (eqb q) participants)
     by true e = and-true (any (eqb q) participants) ∙ is-one q (numbered q (member-participant q to h e))
 
+-- some pass a test: as many as are chosen by it
+any-counted : (f : ℕ → Bool) (l : List ℕ) → any f l ≡ not (eqb (length (select f l)) 0)
+unfolding any select
+any-counted f [] = refl
+any-counted f (x ∷ l) = by (f x) (any-counted f l)
+  where
+    by : (b : Bool) → any f l ≡ not (eqb (length (select f l)) 0) → (b || any f l) ≡ not (eqb (length (cond b (x ∷ select f l) (select f l))) 0)
+    by true e = rw (ne-eqb (suc (length (select f l))) 0 (λ z. absurd (omega (arith, z)))) refl
+    by false e = e
+
 any-ordered : (t q first to : ℕ) → to < 256 → any (eqb q) (ordered t first to) ≡ member q to
-unfolding ordered inTurn round listed
 any-ordered t q first to h =
-    any-both (eqb q) (select (λ p. member p first) (listed to)) (select (λ p. not (member p first)) (listed to))
-    ∙ ap₂ _||_ (any-select q (λ p. member p first) (listed to)) (any-select q (λ p. not (member p first)) (listed to))
-    ∙ split (any (eqb q) (listed to)) (member q first)
+    any-counted (eqb q) (ordered t first to)
+    ∙ ap (λ (n : ℕ). not (eqb n 0)) (order-adds (λ l. length (select (eqb q) l)) (λ l m. rw (select-append, length-append) refl) t first to)
+    ∙ sym (any-counted (eqb q) (listed to))
     ∙ any-listed q to h
 
 or-comm : (a b : Bool) → (a || b) ≡ (b || a)

@@ -6,13 +6,14 @@ use Prim.Native.Nat.{ℕ, zero, suc, _<_}
 use native.Mathlib.Omega.{arith}
 use lib.Dec.{eqb}
 use borrow.Author.Tests.{not-true}
-use Rattle.codec.specs.Sets.{member, listed, those, only, both, either, minus, part}
+use Rattle.codec.specs.Sets.{member, those, only, both, either, minus, part}
 use Rattle.codec.specs.laws.Masks.{those-alike, those-below, in-those}
 use Rattle.codec.specs.laws.Remaining as masks
 use Rattle.site.specs.Presumption.{Outcome, acks}
 use Rattle.site.specs.Cohort.{Cohort, remaining, presumptionOf, owing}
-use Rattle.site.specs.Coordinator.{ordered, takingOut, leaving, restartFrom, coordinatorRestart}
-use Rattle.site.specs.laws.Sets.{Numbered, in-order}
+use Rattle.site.specs.Coordinator.{inTurn, ordered, takingOut, leaving, restartFrom, coordinatorRestart}
+use Rattle.site.specs.laws.Sets.{Numbered}
+use Rattle.site.specs.laws.Order.{in-order}
 
 -- who is in a set that a test makes
 pub in-set : (f : ℕ → Bool) (p : ℕ) → Numbered p → member p (those f) ≡ f p
@@ -81,7 +82,7 @@ pub order-within : (t a b to : ℕ) → ((p : ℕ) → Numbered p → member p t
 unfolding both minus
 order-within t a b to h =
     in-order t a to
-    ∙ ap₂ (λ (x y : ℕ). listed x ++ listed y)
+    ∙ ap₂ (λ (x y : ℕ). inTurn t x ++ inTurn t y)
     (those-alike (λ p. member p to && member p a) (λ p. member p to && member p b) (λ i k. by (λ x. x) (suc i) (omega arith, omega (arith, k)) (member (suc i) to) refl))
     (those-alike (λ p. member p to && not (member p a)) (λ p. member p to && not (member p b))
     (λ i k. by not (suc i) (omega arith, omega (arith, k)) (member (suc i) to) refl))

@@ -8,35 +8,35 @@ use Rattle.joint.proofs.changes.carry.Tie as tie
 
 returns : tie.Need-returns
 unfolding changeIn
-returns c = λ w s t here fits.
+returns c = λ w s here fits.
     let a = c .before .args in
-    carried-whole w s t (a .row) (a .cut) (a .keep) (c .if1 .taken)
+    carried-whole w s (a .transaction) (a .row) (a .cut) (a .keep) (c .if1 .taken)
 
 returns-2 : tie.Need-returns-2
 unfolding changeIn answerIn
-returns-2 c = λ w s t here fits.
+returns-2 c = λ w s here fits.
     let a = c .before .before .before .before .args in
-    cut-beyond w s t (a .row) (a .cut) (a .keep) (c .before .before .before .if1 .left) (omega (arith, c .before .count .ensures t))
+    cut-beyond w s (a .transaction) (a .row) (a .cut) (a .keep) (c .before .before .before .if1 .left) (omega (arith, c .before .count .ensures (a .transaction)))
 
 returns-3 : tie.Need-returns-3
 unfolding changeIn answerIn
-returns-3 c = λ w s t here fits.
+returns-3 c = λ w s here fits.
     let f = c .before in
     let k = f .before .before in
     let n = k .before .before in
     let a = n .before .before .before .args in
-    keep-beyond w s t (a .row) (a .cut) (a .keep) (n .before .before .if1 .left) (k .cut .result) (k .cut .ensures t) (omega (arith, n .count .ensures t))
-    (omega (arith, f .unforced-count .ensures, unforced-after (a .site) (f .before .after .result) w s t (a .row .effects) (k .cut .result) (a .cut) here fits (k .cut .ensures t) (f .before .after .ensures)))
+    keep-beyond w s (a .transaction) (a .row) (a .cut) (a .keep) (n .before .before .if1 .left) (k .cut .result) (k .cut .ensures) (omega (arith, n .count .ensures (a .transaction)))
+    (omega (arith, f .unforced-count .ensures, unforced-after (a .site) (f .before .after .result) w s (a .transaction) (a .row .effects) (k .cut .result) (a .cut) here fits (k .cut .ensures) (f .before .after .ensures)))
 
 returns-4 : tie.Need-returns-4
 unfolding changeIn
-returns-4 c = λ w s t here fits.
+returns-4 c = λ w s here fits.
     let f = c .before in
     let k = f .before .before in
     let n = k .before .before in
     let a = n .before .before .before .args in
-    carried-cut w s t (a .row) (a .cut) (a .keep) (n .before .before .if1 .left) (k .cut .result) (k .cut .ensures t) (omega (arith, n .count .ensures t))
-    (omega (arith, f .unforced-count .ensures, unforced-after (a .site) (f .before .after .result) w s t (a .row .effects) (k .cut .result) (a .cut) here fits (k .cut .ensures t) (f .before .after .ensures)))
+    carried-cut w s (a .transaction) (a .row) (a .cut) (a .keep) (n .before .before .if1 .left) (k .cut .result) (k .cut .ensures) (omega (arith, n .count .ensures (a .transaction)))
+    (omega (arith, f .unforced-count .ensures, unforced-after (a .site) (f .before .after .result) w s (a .transaction) (a .row .effects) (k .cut .result) (a .cut) here fits (k .cut .ensures) (f .before .after .ensures)))
 
 pub carry-spec : {M : Type 1} → statement M
 carry-spec =

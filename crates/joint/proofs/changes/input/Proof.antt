@@ -111,7 +111,7 @@ returns-6 c =
     let st = c .before .before .before .before in
     let row = c .before .before .found .given .0 .0 in
     let found = rw (c .before .before .found .given .1) at (st .step .ensures w (e .transaction) own) in
-    c .carry .ensures w (e .site) (e .transaction) here (input-fits w (start i .pre) (cutFrom (e .cut) (e .keep)) (passed i w here own) row found room)
+    c .carry .ensures w (e .site) here (input-fits w (start i .pre) (cutFrom (e .cut) (e .keep)) (passed i w here own) row found room)
     ∙ sym (input-carried w (start i .pre) (cutFrom (e .cut) (e .keep)) (passed i w here own) row found)
 
 returns-7 : tie.Need-returns-7
@@ -123,7 +123,7 @@ returns-7 c =
     let e = a .e in
     let st = c .before .before .before .before .before in
     let none = rw (c .before .before .before .enum-told .given .1) at (st .step .ensures w (e .transaction) own) in
-    c .carry2 .ensures w (e .site) (e .transaction) here (nothing-fits (a .site) w (e .site) (e .transaction) here)
+    c .carry2 .ensures w (e .site) here (nothing-fits (a .site) w (e .site) (e .transaction) here)
     ∙ sym (input-nothing w (start i .pre) (cutFrom (e .cut) (e .keep)) (passed i w here own) none (omega arith))
 
 pub input-spec : {M : Type 1} → statement M

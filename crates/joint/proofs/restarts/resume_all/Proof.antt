@@ -61,7 +61,7 @@ loop-again c =
     resuming-row (a .site) (a .cut) (a .kinds .of) _ (a .transactions) _ (l o .loop .left) (l o .loop .sends) (l o .loop .i) (l o .loop .inv) (below o) (is-opened o _ (t .if1 .taken))
     (r .restart .result) hs (v .settle .result) (c .before .less .result) (c .sends .result)
     (λ x e. r .restart .ensures x (read o _ ∙ e))
-    (h .cut .ensures (l o .loop .i))
+    (h .cut .ensures)
     (v .settle .ensures ∙ ap (thenTransaction (a .site) (r .restart .result .then)) (v .before .after .ensures (l o .loop .i) ∙ ap (transactionAfter (a .site) hs) (read o _)))
     (c .before .less .ensures ∙ ap (λ (k : ℕ). l o .loop .left - k) (n .count .ensures (l o .loop .i)))
     (c .sends .ensures .0 (l o .loop .i) ∙ sym (row-sends (l o .loop .i) (h .cut .result)))

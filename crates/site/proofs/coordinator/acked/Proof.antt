@@ -5,7 +5,7 @@ use Rattle.site.specs.Numbers.{appending, entryOf}
 use Rattle.site.specs.Answers.{outcomeIn}
 use Rattle.site.specs.Step.{messages, given}
 use Rattle.site.specs.Coordinator.{leaving, acked}
-use Rattle.site.specs.laws.Sets.{ordered-none}
+use Rattle.site.specs.laws.Order.{ordered-none}
 use Rattle.site.proofs.Rows.{end-appended}
 use Rattle.site.proofs.coordinator.acked.Statement.{statement}
 use Rattle.site.proofs.coordinator.acked.Tie as tie

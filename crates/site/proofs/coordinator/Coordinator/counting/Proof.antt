@@ -6,7 +6,7 @@ use Rattle.site.specs.Numbers.{appending, entryOf}
 use Rattle.site.specs.Step.{messages, given}
 use Rattle.site.specs.Cohort.{Cohort}
 use Rattle.site.specs.Coordinator.{voted, counting, leaving}
-use Rattle.site.specs.laws.Sets.{ordered-none}
+use Rattle.site.specs.laws.Order.{ordered-none}
 use Rattle.site.proofs.coordinator.Coordinator.counting.Statement.{statement}
 use Rattle.site.proofs.coordinator.Coordinator.counting.Tie as tie
 

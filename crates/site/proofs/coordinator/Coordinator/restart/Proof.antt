@@ -4,7 +4,7 @@ use Rattle.site.specs.Answers.{effectsIn, closing, sending}
 use Rattle.site.specs.Numbers.{appending, entryOf}
 use Rattle.site.specs.Step.{messages, given}
 use Rattle.site.specs.Coordinator.{leaving, restartFrom, coordinatorRestart}
-use Rattle.site.specs.laws.Sets.{ordered-none}
+use Rattle.site.specs.laws.Order.{ordered-none}
 use Rattle.site.proofs.coordinator.Coordinator.restart.Statement.{statement}
 use Rattle.site.proofs.coordinator.Coordinator.restart.Tie as tie
 

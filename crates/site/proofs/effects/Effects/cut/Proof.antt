@@ -6,7 +6,7 @@ use Rattle.site.proofs.effects.Effects.cut.Statement.{statement}
 use Rattle.site.proofs.effects.Effects.cut.Tie as tie
 
 returns : tie.Need-returns
-returns c t =
+returns c =
     let a = c .before .before .before .before .before .before .before .before .before .before .before .before .before .before .args in
     let e = a .self in
     let forces = c .before .before .before .before .before .before .before .before .before .before .before .less in
@@ -14,12 +14,12 @@ returns c t =
     let sends = c .before .before .before .before .before .before .before .less3 in
     let closes = c .before .before .before .before .before .less4 in
     rw (c .before .before .before .before .up-to .ensures, c .before .before .up-to2 .ensures, c .up-to3 .ensures)
-    (cut-law t e (a .most) (forces .result) (enters .result) (sends .result) (closes .result) (c .before .first-sent .result)
+    (cut-law (a .transaction) e (a .most) (forces .result) (enters .result) (sends .result) (closes .result) (c .before .first-sent .result)
     (forces .ensures ∙ ap (λ (k : ℕ). a .most - k) (c .before .before .before .before .before .before .before .before .before .before .before .before .one-if .ensures .0))
     (enters .ensures ∙ ap (λ (k : ℕ). forces .result - k) (c .before .before .before .before .before .before .before .before .before .before .one-if2 .ensures .0))
     (sends .ensures ∙ ap (λ (k : ℕ). enters .result - k) (c .before .before .before .before .before .before .before .before .entries .ensures .0))
-    (closes .ensures ∙ ap (λ (k : ℕ). sends .result - k) (c .before .before .before .before .before .before .sends .ensures .0 t))
-    (c .before .first-sent .ensures t))
+    (closes .ensures ∙ ap (λ (k : ℕ). sends .result - k) (c .before .before .before .before .before .before .sends .ensures .0 (a .transaction)))
+    (c .before .first-sent .ensures))
 
 pub cut-spec : {M : Type 1} → statement M
 cut-spec =

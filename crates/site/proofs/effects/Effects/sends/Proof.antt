@@ -1,6 +1,6 @@
 use mathlib.Core.Path.{_∙_, sym}
 use native.Mathlib.Omega.{arith}
-use Rattle.codec.specs.laws.Lowest.{size-most}
+use Rattle.codec.specs.laws.Listed.{size-most}
 use Rattle.site.proofs.Cut.{no-sends, sending-length}
 use borrow.Author.Needs.{needs}
 use Rattle.site.proofs.effects.Effects.sends.Statement.{statement}

@@ -4,7 +4,7 @@ use Rattle.site.specs.Numbers.{appending, entryOf}
 use Rattle.site.specs.Step.{messages, given, answered}
 use Rattle.site.specs.Answers.{presumptionIn}
 use Rattle.site.specs.Participant.{participantTimer}
-use Rattle.site.specs.laws.Sets.{ordered-none}
+use Rattle.site.specs.laws.Order.{ordered-none}
 use Rattle.site.proofs.NoRow.{no-own-timer}
 use borrow.Author.Needs.{needs}
 use Rattle.site.proofs.participant.Participant.on_timer.Statement.{statement}

@@ -5,7 +5,7 @@ use Rattle.site.specs.Answers.{hasKind, effectsIn, closing, sending}
 use Rattle.site.specs.Numbers.{appending, entryOf}
 use Rattle.site.specs.Step.{messages, given}
 use Rattle.site.specs.Participant.{restartWith, participantRestart}
-use Rattle.site.specs.laws.Sets.{ordered-none}
+use Rattle.site.specs.laws.Order.{ordered-none}
 use Rattle.site.proofs.ByKind.{no-restart, restarts}
 use Rattle.site.proofs.participant.Participant.restart.Statement.{statement}
 use Rattle.site.proofs.participant.Participant.restart.Tie as tie
