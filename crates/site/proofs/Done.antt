@@ -18,8 +18,8 @@ use Rattle.site.specs.Coordinator.{CoordinatorPhase, Coordinator, ordere
 use Rattle.site.specs.Participant.{outcomeRecord, voting, promising, firstVote, onPrepare, acking, finish, acknowledging, ackingIf, onTell, participantTimer, participantStep, ParticipantPhase}
 use Rattle.site.specs.Numbers.{Arguments, waitingSet, summary, fieldsOf, goFirst, entryOf, rowValues, appending, doing, rowRead, done}
 use Rattle.site.specs.laws.Sets.{Numbered}
-use Rattle.site.specs.laws.Order.{ordered-none}
-use Rattle.site.specs.laws.Remaining.{in-set, remaining-below, remaining-stays, remaining-order}
+use Rattle.site.specs.laws.Order.{ordered-none, remaining-order}
+use Rattle.site.specs.laws.Remaining.{in-set, remaining-below, remaining-stays}
 use Rattle.site.proofs.Sent.{kind-known, ordered-by-turn, ordered-one}
 use Rattle.site.proofs.Summed.{weight-ordered, rowOf, kindOf, numbersOf, sum-row, read-back}
 

@@ -1,6 +1,6 @@
 -- The order of sends: the round of a transaction, a set in turn, those first that go first, and the first so many of them. Assumes nothing.
 use mathlib.Core.Path.{_≡_, refl, ap, ap₂, sym, _∙_}
-use mathlib.Core.Bool.{Bool, true, false, cond, not, _&&_, _||_, or-false}
+use mathlib.Core.Bool.{Bool, true, false, cond, not, _&&_, _||_, and-true, or-false}
 use mathlib.Core.List.{List, [], _∷_, _++_}
 use Prim.Native.Nat.{ℕ, zero, suc, _+_, _-_, _≤_, _<_}
 use native.Mathlib.Omega.{arith}
@@ -11,9 +11,12 @@ use Rattle.codec.specs.Sets.{participants, member, listed, those, both, either,
 use Rattle.codec.specs.laws.Tests.{alike, alike-eq, bools-at}
 use Rattle.codec.specs.laws.Masks.{those-alike, those-below, those-members, in-those}
 use Rattle.codec.specs.laws.Members.{none-in}
+use Rattle.site.specs.Presumption.{Outcome}
+use Rattle.site.specs.Cohort.{Cohort, remaining, owing}
 use Rattle.site.specs.Coordinator.{round, inTurn, ordered}
 use Rattle.site.specs.laws.Lists.{select-none, select-select, select-append, take-append}
 use Rattle.site.specs.laws.Sets.{Numbered}
+use Rattle.site.specs.laws.Remaining.{in-set, remaining-owing}
 
 -- ---- what adds up over lists is the same in every order
 
@@ -92,12 +95,8 @@ select-alike f g h (p ∷ l) a = rw (h p (a .0), select-alike f g h l (a .1))
 pub in-turn-those : (t : ℕ) (f : ℕ → Bool) → inTurn t (those f) ≡ select f (round t)
 unfolding inTurn round
 in-turn-those t f =
-    select-alike (λ p. member p (those f)) f at (round t)
+    select-alike (λ p. member p (those f)) f (in-set f) (round t)
     (numbered-append (drop t participants) (take t participants) (numbered-drop t participants all-numbered) (numbered-take t participants all-numbered))
-  where
-    at : (p : ℕ) → Numbered p → member p (those f) ≡ f p
-    at zero h = absurd (omega (arith, h .0))
-    at (suc i) h = in-those f i (omega (arith, h .1))
 
 -- ---- those first that go first
 
@@ -118,6 +117,30 @@ in-order t first to =
   where
     selected : (f : ℕ → Bool) → select f (inTurn t to) ≡ select (λ p. member p to && f p) (round t)
     selected f = unfold inTurn in select-select (λ p. member p to) f (round t)
+
+-- ---- who goes first
+
+-- to a set the order goes by those alone of its members that go first
+pub order-within : (t a b to : ℕ) → ((p : ℕ) → Numbered p → member p to ≡ true → member p a ≡ member p b) → ordered t a to ≡ ordered t b to
+unfolding both minus
+order-within t a b to h =
+    in-order t a to
+    ∙ ap₂ (λ (x y : ℕ). inTurn t x ++ inTurn t y)
+    (those-alike (λ p. member p to && member p a) (λ p. member p to && member p b) (λ i k. by (λ x. x) (suc i) (omega arith, omega (arith, k)) (member (suc i) to) refl))
+    (those-alike (λ p. member p to && not (member p a)) (λ p. member p to && not (member p b))
+    (λ i k. by not (suc i) (omega arith, omega (arith, k)) (member (suc i) to) refl))
+    ∙ sym (in-order t b to)
+  where
+    by : (f : Bool → Bool) (p : ℕ) → Numbered p → (m : Bool) → member p to ≡ m → (m && f (member p a)) ≡ (m && f (member p b))
+    by f p n true e = ap f (h p n e)
+    by f p n false e = refl
+
+-- to some that remain it is the order of the cohort as opened
+pub remaining-order : (t : ℕ) (g : Cohort) (out : ℕ) (o : Outcome) (to : ℕ) → ((p : ℕ) → Numbered p → member p to ≡ true → member p out ≡ false)
+    → ordered t (owing g o) to ≡ ordered t (owing (remaining g out) o) to
+remaining-order t g out o to h =
+    order-within t (owing g o) (owing (remaining g out) o) to
+    (λ p n e. sym (remaining-owing g out o p n ∙ rw (h p n e) (and-true (member p (owing g o)))))
 
 -- ---- the first so many
 

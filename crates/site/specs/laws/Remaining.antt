@@ -1,19 +1,17 @@
 -- The cohort that remains where a set is taken out, and the record by which a coordinator restarts. Assumes nothing.
-use mathlib.Core.Path.{_≡_, refl, ap, ap₂, sym, _∙_}
+use mathlib.Core.Path.{_≡_, refl, ap, sym, _∙_}
 use mathlib.Core.Bool.{Bool, true, false, cond, not, _&&_, _||_, and-true, and-false, and-eq-true-iff}
-use mathlib.Core.List.{_++_}
 use Prim.Native.Nat.{ℕ, zero, suc, _<_}
 use native.Mathlib.Omega.{arith}
 use lib.Dec.{eqb}
 use borrow.Author.Tests.{not-true}
-use Rattle.codec.specs.Sets.{member, those, only, both, either, minus, part}
-use Rattle.codec.specs.laws.Masks.{those-alike, those-below, in-those}
+use Rattle.codec.specs.Sets.{member, those, only, either, minus, part}
+use Rattle.codec.specs.laws.Masks.{those-below, in-those}
 use Rattle.codec.specs.laws.Remaining as masks
 use Rattle.site.specs.Presumption.{Outcome, acks}
 use Rattle.site.specs.Cohort.{Cohort, remaining, presumptionOf, owing}
-use Rattle.site.specs.Coordinator.{inTurn, ordered, takingOut, leaving, restartFrom, coordinatorRestart}
+use Rattle.site.specs.Coordinator.{takingOut, leaving, restartFrom, coordinatorRestart}
 use Rattle.site.specs.laws.Sets.{Numbered}
-use Rattle.site.specs.laws.Order.{in-order}
 
 -- who is in a set that a test makes
 pub in-set : (f : ℕ → Bool) (p : ℕ) → Numbered p → member p (those f) ≡ f p
@@ -74,30 +72,6 @@ module _ (g : Cohort) (out : ℕ) where
 pub remaining-none : (g : Cohort) → g .members < 256 → g .presumeCommit < 256 → remaining g 0 ≡ g
 unfolding remaining
 remaining-none g h c = rw (masks.minus-none (g .members) h, masks.minus-none (g .presumeCommit) c)
-
--- ---- the order of sends
-
--- to a set it goes by those alone of its members that go first
-pub order-within : (t a b to : ℕ) → ((p : ℕ) → Numbered p → member p to ≡ true → member p a ≡ member p b) → ordered t a to ≡ ordered t b to
-unfolding both minus
-order-within t a b to h =
-    in-order t a to
-    ∙ ap₂ (λ (x y : ℕ). inTurn t x ++ inTurn t y)
-    (those-alike (λ p. member p to && member p a) (λ p. member p to && member p b) (λ i k. by (λ x. x) (suc i) (omega arith, omega (arith, k)) (member (suc i) to) refl))
-    (those-alike (λ p. member p to && not (member p a)) (λ p. member p to && not (member p b))
-    (λ i k. by not (suc i) (omega arith, omega (arith, k)) (member (suc i) to) refl))
-    ∙ sym (in-order t b to)
-  where
-    by : (f : Bool → Bool) (p : ℕ) → Numbered p → (m : Bool) → member p to ≡ m → (m && f (member p a)) ≡ (m && f (member p b))
-    by f p n true e = ap f (h p n e)
-    by f p n false e = refl
-
--- to some that remain it is the order of the cohort as opened
-pub remaining-order : (t : ℕ) (g : Cohort) (out : ℕ) (o : Outcome) (to : ℕ) → ((p : ℕ) → Numbered p → member p to ≡ true → member p out ≡ false)
-    → ordered t (owing g o) to ≡ ordered t (owing (remaining g out) o) to
-remaining-order t g out o to h =
-    order-within t (owing g o) (owing (remaining g out) o) to
-    (λ p n e. sym (remaining-owing g out o p n ∙ rw (h p n e) (and-true (member p (owing g o)))))
 
 -- ---- restart: the masks that count are those of record 2 where there is one, else those of record 1
 
