@@ -211,9 +211,11 @@ uint8_t dpr_message_parts(uint16_t number, uint8_t parts[3]);
  * The fields of a record are as passed to this call; but DPR_RECORD_COMMIT has members and presume_commit each without
  * the set taken out after the step.
  * Keep to the order: after a loss of power the effects that happened have to be the first of them.
- * DPR_PREPARE goes to the lowest box first. DPR_COMMIT and DPR_ABORT go first to the boxes of the set that owe an ack for
- * it, the lowest first, then to the others, the lowest first. For DPR_COMMIT the boxes that are not in presume_commit owe
- * one, for DPR_ABORT those that are in it.
+ * Sends go round: from box handover + 1 up to box 8, then from box 1 up to box handover. DPR_PREPARE goes round to all of
+ * the set. DPR_COMMIT and DPR_ABORT go round to the boxes of the set that owe an ack for it, then once more to the others.
+ * For DPR_COMMIT the boxes that are not in presume_commit owe one, for DPR_ABORT those that are in it. On handover 5, to
+ * the boxes 1, 2, 6 and 7, of which 2 and 7 presume commit: DPR_PREPARE 6 7 1 2, DPR_COMMIT 6 1 7 2, DPR_ABORT 7 2 6 1.
+ * The number is the same for every handover; the order is not.
  *
  * The arguments are bytes: C cuts a wider number before the call is made.
  *

@@ -1,6 +1,6 @@
-/* dpr_drill as a C firmware calls it: K1 to K9 of document 01, boxes that only looked, forced writes, the examples of 01's table of
- * refusals, and buffers of every length around the text's. The whole text and all the memory around is compared; the first difference
- * ends the program. */
+/* dpr_drill as a C firmware calls it: K1 to K9 of document 01, boxes that only looked, forced writes, the order of sends, the examples of
+ * 01's table of refusals, and buffers of every length around the text's. The whole text and all the memory around is compared; the first
+ * difference ends the program. */
 #include "dpr.h"
 
 #include <stdio.h>
@@ -51,7 +51,8 @@ static void drills(const char *name, const char *wanted, const uint8_t *events, 
 #define NONE 0xFF, 0 /* no cut, no keep */
 #define OPEN(handover, members, presume_commit) 0, handover, members, presume_commit, NONE
 #define BEGIN(handover) 1, handover, 0, 0, NONE
-#define DELIVER(box, kind) 2, 0, box, kind, NONE
+#define DELIVER_OF(handover, box, kind) 2, handover, box, kind, NONE
+#define DELIVER(box, kind) DELIVER_OF(0, box, kind)
 #define DELIVER_CUT(box, kind, cut, keep) 2, 0, box, kind, cut, keep
 #define TIMER(site) 3, 0, site, 0, NONE
 #define FORCE(site) 4, 0, site, 0, NONE
@@ -124,6 +125,17 @@ static void forces(void) {
   DRILL("cut after it", "1 0 0 0 0\n2 0 1 1 0\n" NOTHING ONE_BOX(1, 0), OPEN(0, 1, 1), 1, 0, 0, 0, 2, 0);
 }
 
+/* A cut between sends, and then whom it reached: handover 1 starts at box 2 and goes round from box 8 to box 1. */
+#define TO_THREE(kind) DELIVER_OF(1, 1, kind), DELIVER_OF(1, 2, kind), DELIVER_OF(1, 3, kind)
+#define THREE_BOXES(hub, box1, box2, box3) FORCES(hub) FORCES(box1) FORCES(box2) FORCES(box3) ZERO ZERO ZERO ZERO ZERO
+static void order(void) {
+  DRILL("Prepare to 2 and 3", "1 0 0 0 0\n2 0 0 0 2\n3 7 0 0 0\n4 0 1 1 1\n5 0 1 1 1\nHANDOVER 1 ---------\n" THREE_BOXES(0, 0, 1, 1),
+        OPEN(1, 7, 0), 1, 1, 0, 0, 2, 0, TO_THREE(DPR_PREPARE));
+  DRILL("Abort to 3, which owes an ack",
+        "1 0 0 0 0\n2 0 1 1 3\n3 0 0 0 1\n4 7 0 0 0\n5 7 0 0 0\n6 0 1 1 1\nHANDOVER 1 A--A-----\n" THREE_BOXES(1, 0, 0, 1),
+        OPEN(1, 7, DPR_BIT(3)), BEGIN(1), 3, 1, 0, 0, 2, 0, TO_THREE(DPR_ABORT));
+}
+
 /* The examples of the table, in its order; 8 is a code since Job 3, and there box 0 is out of range. */
 static void refusals(void) {
   DRILL("1, code 8", "1 1 0 0 0\n" NONE_OPENED, 8, 0, 0, 0, NONE);
@@ -166,6 +178,7 @@ int main(void) {
   examples();
   read_only();
   forces();
+  order();
   refusals();
   longest();
   printf("firmware in C: %u checks, ok\n", checks);

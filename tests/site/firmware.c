@@ -1,5 +1,5 @@
-/* dpr_site_step as a C firmware calls it: the examples of one site's step on numbers (docs/DECISIONS.md), and whole handovers
- * of a hub and two boxes, which machine.h plays. The first difference ends the program. */
+/* dpr_site_step as a C firmware calls it: the examples of one site's step on numbers (docs/DECISIONS.md), whole handovers of a
+ * hub and two boxes, and the order of sends to eight, which machine.h plays. The first difference ends the program. */
 #include "machine.h"
 
 _Static_assert(DPR_BIT(1) == 0x01 && DPR_BIT(8) == 0x80, "bit b - 1 is box b");
@@ -325,11 +325,88 @@ static void read_only_handovers(void) {
   after(1, "3 0 0 A: 7 5 |");
 }
 
+static void deliver_each(unsigned count, const char *effects) {
+  while (count--)
+    deliver(effects);
+}
+
+/* Job 5: each handover starts at another box */
+static void order(void) {
+  static const char *const prepares[8] = {
+      "s1:0 s2:0 s3:0 s4:0 s5:0 s6:0 s7:0 s8:0", "s2:0 s3:0 s4:0 s5:0 s6:0 s7:0 s8:0 s1:0",
+      "s3:0 s4:0 s5:0 s6:0 s7:0 s8:0 s1:0 s2:0", "s4:0 s5:0 s6:0 s7:0 s8:0 s1:0 s2:0 s3:0",
+      "s5:0 s6:0 s7:0 s8:0 s1:0 s2:0 s3:0 s4:0", "s6:0 s7:0 s8:0 s1:0 s2:0 s3:0 s4:0 s5:0",
+      "s7:0 s8:0 s1:0 s2:0 s3:0 s4:0 s5:0 s6:0", "s8:0 s1:0 s2:0 s3:0 s4:0 s5:0 s6:0 s7:0",
+  };
+  for (uint8_t handover = 0; handover < 8; handover++) {
+    open_number("Prepare to all", handover, 255, 0);
+    step(DPR_HUB, DPR_BEGIN, 0, prepares[handover]);
+  }
+
+  open_number("5.03.2", 1, 7, DPR_BIT(1));
+  step(DPR_HUB, DPR_BEGIN, 0, "a1 f s2:0 s3:0 s1:0");
+  deliver("a5 f s2:1");
+  deliver("a5 f s3:1");
+  deliver("a5 f s1:1");
+  deliver_each(2, "");
+  deliver("a2 f eC s2:3 s3:3 s1:3");
+  open_number("5.01.4", 1, 7, DPR_BIT(1) | DPR_BIT(3));
+  step(DPR_HUB, DPR_BEGIN, 0, "a1 f s2:0 s3:0 s1:0");
+  timer(DPR_HUB, "eA s3:4 s1:4 s2:4");
+  open_number("5.03.3", 1, 7, DPR_BIT(3));
+  step(DPR_HUB, DPR_BEGIN, 0, "a1 f s2:0 s3:0 s1:0");
+  timer(DPR_HUB, "eA s3:4 s2:4 s1:4");
+
+  /* the example of dpr.h */
+  open_number("6 7 1 2", 5, DPR_BIT(1) | DPR_BIT(2) | DPR_BIT(6) | DPR_BIT(7), DPR_BIT(2) | DPR_BIT(7));
+  step(DPR_HUB, DPR_BEGIN, 0, "a1 f s6:0 s7:0 s1:0 s2:0");
+  deliver("a5 f s6:1");
+  deliver("a5 f s7:1");
+  deliver("a5 f s1:1");
+  deliver("a5 f s2:1");
+  deliver_each(3, "");
+  deliver("a2 f eC s6:3 s1:3 s7:3 s2:3");
+  open_number("7 2 6 1", 5, DPR_BIT(1) | DPR_BIT(2) | DPR_BIT(6) | DPR_BIT(7), DPR_BIT(2) | DPR_BIT(7));
+  step(DPR_HUB, DPR_BEGIN, 0, "a1 f s6:0 s7:0 s1:0 s2:0");
+  timer(DPR_HUB, "eA s7:4 s2:4 s6:4 s1:4");
+
+  /* 1, 4, 5 and 8 presume commit, 2, 3, 6 and 7 abort: both groups start anew at the box of the handover */
+  open_number("commit of eight", 4, 255, 0x99);
+  only_looked(6);
+  step(DPR_HUB, DPR_BEGIN, 0, "a1 f s5:0 s6:0 s7:0 s8:0 s1:0 s2:0 s3:0 s4:0");
+  deliver("a5 f s5:1");
+  deliver("s6:7");
+  deliver("a5 f s7:1");
+  deliver("a5 f s8:1");
+  deliver("a5 f s1:1");
+  deliver("a5 f s2:1");
+  deliver("a5 f s3:1");
+  deliver("a5 f s4:1");
+  deliver_each(7, "");
+  deliver("a2 f eC s7:3 s2:3 s3:3 s5:3 s8:3 s1:3 s4:3");
+  timer(DPR_HUB, "s7:3 s2:3 s3:3");
+  restart_hub("eC s7:3 s2:3 s3:3 s5:3 s8:3 s1:3 s4:3");
+
+  open_number("abort of eight by timer", 6, 255, 0x99);
+  step(DPR_HUB, DPR_BEGIN, 0, "a1 f s7:0 s8:0 s1:0 s2:0 s3:0 s4:0 s5:0 s6:0");
+  timer(DPR_HUB, "eA s8:4 s1:4 s4:4 s5:4 s7:4 s2:4 s3:4 s6:4");
+  timer(DPR_HUB, "s8:4 s1:4 s4:4 s5:4");
+  restart_hub("eA s8:4 s1:4 s4:4 s5:4 s7:4 s2:4 s3:4 s6:4");
+
+  open_number("abort of eight by No", 3, 255, 0x99);
+  timer(4, "eA");
+  step(DPR_HUB, DPR_BEGIN, 0, "a1 f s4:0 s5:0 s6:0 s7:0 s8:0 s1:0 s2:0 s3:0");
+  deliver("s4:2");
+  deliver_again(8, "eA s5:4 s8:4 s1:4 s6:4 s7:4 s2:4 s3:4");
+  timer(DPR_HUB, "s5:4 s8:4 s1:4");
+}
+
 int main(void) {
   examples();
   read_only_examples();
   handovers();
   read_only_handovers();
+  order();
   printf("firmware in C: %u checks, ok\n", checks);
   return 0;
 }

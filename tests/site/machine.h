@@ -1,4 +1,4 @@
-/* A hub and two boxes with one handover, for firmware.c. They know of the protocol what dpr.h says: they act on the number
+/* A hub and its boxes with one handover, for firmware.c. They know of the protocol what dpr.h says: they act on the number
  * of each step, and restart the hub by its log. Effects, logs, outcomes and messages are compared. */
 #include "dpr.h"
 
@@ -28,7 +28,7 @@ static void show(uint64_t step, char *text, size_t size) {
 }
 
 /* Each log is the bytes of its records, with the length of the stable part. */
-enum { BOXES = 2, HANDOVER = 5, BYTES = 32, MESSAGES = 32 };
+enum { BOXES = 8, BYTES = 32, MESSAGES = 64 };
 
 struct site {
   uint8_t phase, waiting, taken_out, mark, log[BYTES];
@@ -38,22 +38,26 @@ struct site {
 
 static struct {
   const char *name;
-  uint8_t members, presume_commit; /* as the hub passes them */
+  uint8_t handover, members, presume_commit; /* as the hub passes them */
   struct site sites[1 + BOXES];
   struct { uint8_t box, kind; } sent[MESSAGES];
   unsigned sends, delivered;
   char trace[128]; /* the effects of the last step, in the order in which they happened */
 } run;
 
-static void open_handover(const char *name, uint8_t members, uint8_t presume_commit) {
+static void open_number(const char *name, uint8_t handover, uint8_t members, uint8_t presume_commit) {
   memset(&run, 0, sizeof run);
   run.name = name;
+  run.handover = handover;
   run.members = members;
   run.presume_commit = presume_commit;
   run.sites[DPR_HUB].phase = DPR_HUB_OPEN;
   for (uint8_t box = 1; box <= BOXES; box++)
     run.sites[box].phase = members & DPR_BIT(box) ? DPR_BOX_WORKING : DPR_BOX_UNKNOWN;
 }
+
+/* Any handover; of 5 box 1 comes before box 2. */
+static void open_handover(const char *name, uint8_t members, uint8_t presume_commit) { open_number(name, 5, members, presume_commit); }
 
 static void only_looked(uint8_t box) { run.sites[box].mark = 1; }
 
@@ -71,7 +75,7 @@ static void append(struct site *site, uint8_t kind, uint8_t box, uint8_t taken_o
   if (!kind)
     return;
   at[0] = kind;
-  at[1] = HANDOVER;
+  at[1] = run.handover;
   site->length += 2;
   if (kind == DPR_RECORD_INIT || kind == DPR_RECORD_COMMIT) {
     uint8_t without = kind == DPR_RECORD_COMMIT ? taken_out : 0;
@@ -92,16 +96,24 @@ static void enter(struct site *site, uint8_t outcome) {
   trace(outcome == DPR_OUTCOME_COMMIT ? "%seC" : "%seA", 0, 0);
 }
 
-static void send_each(uint8_t kind, uint8_t boxes) {
-  for (uint8_t box = 1; box <= 8; box++)
-    if (boxes & DPR_BIT(box)) {
-      expect(box <= BOXES && run.sends < MESSAGES, run.name, "a message to no site", "", "");
-      run.sent[run.sends].box = box;
-      run.sent[run.sends++].kind = kind;
-      trace("%ss%u:%u", box, kind);
-    }
+static void send_to(uint8_t kind, uint8_t box) {
+  expect(run.members & DPR_BIT(box) && run.sends < MESSAGES, run.name, "a message to no member", "", "");
+  run.sent[run.sends].box = box;
+  run.sent[run.sends++].kind = kind;
+  trace("%ss%u:%u", box, kind);
 }
 
+/* One by one: from box handover + 1 up to 8, then from 1 up to handover. */
+static void send_each(uint8_t kind, uint8_t boxes) {
+  for (uint8_t box = run.handover + 1; box <= BOXES; box++)
+    if (boxes & DPR_BIT(box))
+      send_to(kind, box);
+  for (uint8_t box = 1; box <= run.handover; box++)
+    if (boxes & DPR_BIT(box))
+      send_to(kind, box);
+}
+
+/* First those that owe an ack. */
 static void send(uint8_t kind, uint8_t boxes) {
   uint8_t owing = kind == DPR_COMMIT ? (uint8_t)~run.presume_commit : kind == DPR_ABORT ? run.presume_commit : 0;
   send_each(kind, boxes & owing);
@@ -126,7 +138,7 @@ static void act(uint8_t number, uint8_t box, uint64_t step) {
 
 static uint64_t call(uint8_t site, uint8_t kind, uint8_t box) {
   const struct site *s = &run.sites[site];
-  return dpr_site_step(site, kind, HANDOVER, box, box ? presumption(box) : 0, s->phase, s->waiting, run.members,
+  return dpr_site_step(site, kind, run.handover, box, box ? presumption(box) : 0, s->phase, s->waiting, run.members,
                        run.presume_commit, s->mark, s->taken_out);
 }
 

@@ -4,6 +4,7 @@ use reference::codec::*;
 use reference::joint::{Phase, Plan, Run, Transaction};
 use reference::log::Log;
 use reference::read_only::{met, NAMES, NEVER};
+use reference::send_order;
 use reference::step::{CoordinatorPhase, Effect};
 use reference::totals::{self, totals};
 use std::collections::BTreeMap;
@@ -95,9 +96,10 @@ pub struct Coverage {
     /// By participant, kinds of records, and whether it is cut.
     restarts: BTreeMap<(bool, Vec<u8>, bool), u64>,
     discards: BTreeMap<Vec<u8>, u64>,
-    /// What Job 3 adds, by its name, and what Job 4 counts.
+    /// What Job 3 adds, by its name, what Job 4 counts, and what cuts show of Job 5's order.
     read_only: BTreeMap<&'static str, u64>,
     forced: BTreeMap<&'static str, u64>,
+    order: BTreeMap<String, u64>,
     /// By transactions opened with a site, and by the digits of its forces, its quotient and its remainder.
     opened: [u64; 9],
     digits: [[u64; 5]; 3],
@@ -151,6 +153,9 @@ impl Coverage {
         }
         if let Some(name) = totals::met(run, event, &judged) {
             *self.forced.entry(name).or_default() += 1;
+        }
+        for name in send_order::met(run, event, &judged) {
+            *self.order.entry(name).or_default() += 1;
         }
         self.answers[code as usize][*judged.as_ref().err().unwrap_or(&0) as usize] += 1;
         match judged {
@@ -322,6 +327,9 @@ impl Coverage {
         for name in totals::NAMES {
             least(*self.forced.get(name).unwrap_or(&0), 500, name.to_string());
         }
+        for name in send_order::names() {
+            least(*self.order.get(&name).unwrap_or(&0), 5, name);
+        }
         for (opened, met) in self.opened.into_iter().enumerate() {
             least(met, 500, format!("a site with {opened} transactions"));
         }
@@ -362,5 +370,7 @@ impl Coverage {
         println!("of Job 3: {}", added.join("; "));
         let counted = totals::NAMES.map(|name| format!("{name} {}", self.forced.get(name).unwrap_or(&0)));
         println!("of Job 4: {}", counted.join("; "));
+        let (least, most) = (self.order.values().min(), self.order.values().max());
+        println!("of Job 5: {} names, each {} to {} times", self.order.len(), least.unwrap_or(&0), most.unwrap_or(&0));
     }
 }

@@ -16,6 +16,7 @@ use library::{fail, text_of, Library};
 use lists::{list, Style, STYLES};
 use reference::drill::{drill, watched_drill};
 use reference::monitor;
+use reference::order_lists::order_lists;
 use reference::random::{event_list, Rng};
 use std::time::Instant;
 
@@ -98,7 +99,14 @@ fn vectors(trial: &mut Trial) {
             fail(&format!("vectors: not '{}'", line.trim()), &input, SPACE);
         }
     }
-    assert_eq!((trial.coverage.lists, claims), (232, [162, 87, 2]), "vectors: lists and claims");
+    assert_eq!((trial.coverage.lists, claims), (258, [188, 87, 2]), "vectors: lists and claims");
+}
+
+/// Rows cut between any two sends, of every transaction; what was sent then is delivered.
+fn orders(trial: &mut Trial) {
+    for (i, events) in order_lists().iter().enumerate() {
+        trial.list(&events.concat(), i % 3);
+    }
 }
 
 /// Lists whose last event is broken, at every length; no event at all.
@@ -210,8 +218,9 @@ fn number(name: &str) -> usize {
 fn main() {
     let started = Instant::now();
     let mut trial = Trial { library: Library::new(), coverage: Coverage::default(), rng: Rng::new(20), longest: 0 };
-    let parts: [(&str, fn(&mut Trial)); 8] = [
+    let parts: [(&str, fn(&mut Trial)); 9] = [
         ("vectors", vectors),
+        ("orders", orders),
         ("broken", broken),
         ("deep", deep),
         ("short", short),

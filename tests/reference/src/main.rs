@@ -6,15 +6,17 @@ use reference::facts;
 use reference::joint::*;
 use reference::monitor;
 use reference::numbers::*;
+use reference::order_lists::*;
 use reference::random::*;
 use reference::random_images::*;
 use reference::random_steps::*;
 use reference::read_only;
+use reference::send_order;
 use reference::totals;
 use std::collections::BTreeMap;
 use std::io::{self, BufRead, BufWriter, Write};
 
-const USAGE: &str = "usage: reference drill|dump|read|write|step|message|safe|facts|met
+const USAGE: &str = "usage: reference drill|dump|read|write|step|message|safe|facts|met|orders
        reference random SEED COUNT MAXLEN
        reference random-images SEED COUNT
        reference random-steps SEED COUNT";
@@ -136,25 +138,33 @@ fn answer_lines(answer: impl Fn(&str) -> Option<String>) -> io::Result<()> {
     out.flush()
 }
 
-/// What of Jobs 3 and 4 all the lists meet: `can count name`, and `cannot count name` for what none can meet.
+/// What of Jobs 3 to 5 all the lists meet: `can count name`, and `cannot count name` for what none can meet.
 fn answer_met() -> io::Result<()> {
-    let mut counts: BTreeMap<&str, usize> = BTreeMap::new();
+    let mut counts: BTreeMap<String, usize> = BTreeMap::new();
     for line in io::stdin().lock().lines() {
-        let mut found = Vec::new();
+        let mut found: Vec<String> = Vec::new();
         let (_, run) = watched_drill(&hex(&line?).unwrap_or_default(), |run, event| {
             let judged = run.judge(event);
-            found.extend(read_only::met(run, event, &judged));
-            found.extend(totals::met(run, event, &judged));
+            found.extend(read_only::met(run, event, &judged).into_iter().map(String::from));
+            found.extend(totals::met(run, event, &judged).map(String::from));
+            found.extend(send_order::met(run, event, &judged));
         });
-        found.extend(totals::totals(&run.history).into_iter().filter_map(|of| totals::met_by(of.numbers())));
+        let sites = totals::totals(&run.history).into_iter().filter_map(|of| totals::met_by(of.numbers()));
+        found.extend(sites.map(String::from));
         found.into_iter().for_each(|name| *counts.entry(name).or_default() += 1);
     }
-    let names = [("can", &read_only::NAMES[..]), ("can", &totals::NAMES), ("cannot", &read_only::NEVER)];
-    for (can, names) in names {
+    let names = |names: &[&str]| names.iter().map(|name| name.to_string()).collect::<Vec<_>>();
+    let can = [names(&read_only::NAMES), names(&totals::NAMES), send_order::names()].concat();
+    for (can, names) in [("can", can), ("cannot", names(&read_only::NEVER))] {
         names.iter().for_each(|name| println!("{can} {} {name}", counts.remove(name).unwrap_or(0)));
     }
     assert!(counts.is_empty(), "names that no list of names has: {counts:?}");
     Ok(())
+}
+
+/// Events as a request names them.
+fn event_line(list: &[Event]) -> String {
+    list.iter().map(|event| to_hex(event)).collect::<Vec<_>>().join("; ")
 }
 
 fn generate(count: u64, seed: u64, one: impl Fn(&mut Rng) -> String) -> io::Result<()> {
@@ -180,10 +190,13 @@ fn main() -> io::Result<()> {
         (["safe"], _) => answer_lines(|line| Some(verdict(monitor::safe(&hex(line)?)))),
         (["facts"], _) => answer_lines(|line| Some(verdict(facts::facts(&hex(line)?)))),
         (["met"], _) => answer_met(),
-        (["random", _, _, _], &[seed, count, most]) => generate(count, seed, |rng| {
-            let list: Vec<String> = event_list(rng, most as usize).iter().map(|e| to_hex(e)).collect();
-            list.join("; ")
-        }),
+        (["orders"], _) => {
+            order_lists().iter().for_each(|list| println!("{}", event_line(list)));
+            Ok(())
+        }
+        (["random", _, _, _], &[seed, count, most]) => {
+            generate(count, seed, |rng| event_line(&event_list(rng, most as usize)))
+        }
         (["random-images", _, _], &[seed, count]) => generate(count, seed, |rng| to_hex(&random_image(rng))),
         (["random-steps", _, _], &[seed, count]) => generate(count, seed, |rng| {
             let numbers: Vec<String> = random_step(rng).iter().map(|n| n.to_string()).collect();

@@ -95,7 +95,7 @@ mod tests {
         for kinds in [&[][..], &[3], &[2, 3], &[1, 2, 3], &[4], &[1, 4]] {
             assert_eq!(coordinator(kinds, 7, 2), (Unknown, String::new()));
         }
-        assert_eq!(coordinator(&[1], 7, 2), (Aborting(10), "eA s2:4 s4:4 s1:4 s3:4 s5:4".to_string()));
+        assert_eq!(coordinator(&[1], 7, 2), (Aborting(10), "eA s4:4 s2:4 s5:4 s1:4 s3:4".to_string()));
         for kinds in [&[2][..], &[1, 2]] {
             assert_eq!(coordinator(kinds, 7, 1), (Committing(6), "eC s2:3 s3:3 s1:3".to_string()));
             assert_eq!(coordinator(kinds, 7, 7), (Unknown, "eC".to_string()));

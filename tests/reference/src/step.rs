@@ -112,16 +112,26 @@ impl Names {
         Effect::Send(Message { transaction: self.transaction, participant, kind })
     }
 
-    /// Prepare to all, lowest first.
+    /// A message to a set, in turn.
+    fn messages(&self, kind: u8, to: Mask) -> impl Iterator<Item = Effect> + '_ {
+        in_turn(self.transaction, to).map(move |b| self.message(b, kind))
+    }
+
+    /// Prepare to all.
     fn prepares(&self) -> Vec<Effect> {
-        each(self.members).map(|b| self.message(b, PREPARE)).collect()
+        self.messages(PREPARE, self.members).collect()
     }
 
     /// The outcome to a set: those that owe an ack first, then the others.
     pub fn outcomes(&self, outcome: Outcome, to: Mask) -> Vec<Effect> {
-        let owing = self.owing(outcome);
-        each(to & owing).chain(each(to & !owing)).map(|b| self.message(b, outcome.message())).collect()
+        let (kind, owing) = (outcome.message(), self.owing(outcome));
+        self.messages(kind, to & owing).chain(self.messages(kind, to & !owing)).collect()
     }
+}
+
+/// The participants of a mask in the turn of a transaction: from participant transaction + 1 up to 8, then from 1.
+pub fn in_turn(transaction: u8, mask: Mask) -> impl Iterator<Item = u8> {
+    (0..PARTICIPANTS).map(move |i| (transaction + i) % PARTICIPANTS + 1).filter(move |&b| has(mask, b))
 }
 
 #[derive(Clone, Copy, PartialEq, Eq, Debug)]
@@ -302,5 +312,47 @@ pub fn participant_step(
         }
         (ABORT, Aborted | Unknown) => Some((phase, if presumes_commit { vec![send(ABORT_ACK)] } else { vec![] })),
         _ => None,
+    }
+}
+
+#[cfg(test)]
+mod tests {
+    use super::*;
+
+    fn told(row: Option<(CoordinatorState, Vec<Effect>)>) -> Vec<u8> {
+        let to = |effect: &Effect| match effect {
+            Effect::Send(message) => Some(message.participant),
+            _ => None,
+        };
+        row.expect("a row").1.iter().filter_map(to).collect()
+    }
+
+    #[test]
+    fn each_transaction_has_its_turn() {
+        let turns = [0, 1, 2, 6, 7].map(|transaction| in_turn(transaction, 255).collect::<Vec<_>>());
+        assert_eq!(turns[0], [1, 2, 3, 4, 5, 6, 7, 8]);
+        assert_eq!(turns[1], [2, 3, 4, 5, 6, 7, 8, 1]);
+        assert_eq!(turns[2], [3, 4, 5, 6, 7, 8, 1, 2]);
+        assert_eq!(turns[3], [7, 8, 1, 2, 3, 4, 5, 6]);
+        assert_eq!(turns[4], [8, 1, 2, 3, 4, 5, 6, 7]);
+        assert_eq!(in_turn(4, 0b1001_1001).collect::<Vec<_>>(), [5, 8, 1, 4]);
+    }
+
+    /// 1, 4, 5 and 8 presume commit, 2, 3, 6 and 7 abort; the turn starts at 4.
+    #[test]
+    fn every_row_goes_in_turn() {
+        use CoordinatorPhase::*;
+        let names = Names { transaction: 3, members: 255, presume_commit: 0b1001_1001 };
+        let told = |phase, taken_out, stimulus| {
+            told(coordinator_step(names, CoordinatorState { phase, taken_out }, stimulus))
+        };
+        let deliver = |kind, participant| Stimulus::Deliver { kind, participant };
+        assert_eq!(told(Open, 0, Stimulus::Begin), [4, 5, 6, 7, 8, 1, 2, 3]);
+        assert_eq!(told(Collecting(bit(5)), 0, deliver(YES, 5)), [6, 7, 2, 3, 4, 5, 8, 1]);
+        assert_eq!(told(Collecting(bit(6)), bit(4), deliver(READ_ONLY, 6)), [7, 2, 3, 5, 8, 1]);
+        assert_eq!(told(Collecting(255), 0, deliver(NO, 5)), [4, 8, 1, 6, 7, 2, 3]);
+        assert_eq!(told(Collecting(1), bit(7), Stimulus::Timer), [4, 5, 8, 1, 6, 2, 3]);
+        assert_eq!(told(Committing(0b0110_0110), 0, Stimulus::Timer), [6, 7, 2, 3]);
+        assert_eq!(told(Aborting(0b1000_1001), 0, Stimulus::Timer), [4, 8, 1]);
     }
 }

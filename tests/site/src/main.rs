@@ -15,6 +15,7 @@ mod numbers;
 mod random;
 #[allow(dead_code)]
 mod rows;
+mod sends;
 #[allow(dead_code)]
 #[path = "../../reference/src/step.rs"]
 mod step;
@@ -44,7 +45,7 @@ fn vectors(trial: &mut Trial, _: &mut Random) {
         trial.call(given);
     }
     println!("vectors: {wide} more with a number above 255, which no byte carries");
-    assert_eq!((trial.calls(), wide), (52, 1), "vectors: lines");
+    assert_eq!((trial.calls(), wide), (57, 1), "vectors: lines");
 }
 
 /// Every call that is accepted.
@@ -239,8 +240,9 @@ fn same_again(trial: &mut Trial, random: &mut Random) {
 }
 
 fn main() {
-    let parts: [(&'static str, fn(&mut Trial, &mut Random)); 10] = [
+    let parts: [(&'static str, fn(&mut Trial, &mut Random)); 11] = [
         ("vectors", vectors),
+        ("order of sends", sends::orders),
         ("same again", same_again),
         ("single changes", single_changes),
         ("every accepted call", all_accepted),
