@@ -7,6 +7,7 @@ mod lean;
 #[path = "../../../tests/drill_text/src/lists.rs"]
 mod lists;
 mod run;
+mod site;
 #[allow(dead_code)]
 #[path = "../../site/src/lean.rs"]
 mod step;
@@ -14,6 +15,7 @@ mod step;
 use lists::{list, Style, PLAIN};
 use reference::drill::{drill, drill_events};
 use reference::joint::{Plan, Run, NO_CUT};
+use reference::order_lists::order_lists;
 use reference::random::{Event, Rng};
 use std::hint::black_box;
 
@@ -131,12 +133,16 @@ fn check() {
         }
         println!("{mix}: the texts agree; {accepted:.0} % of the events are accepted, {with_effects:.0} % have effects");
     }
-    // the drill in plain Rust on more lists, also broken ones and one without an event
+    // the drill in plain Rust on more lists, also broken ones and one without an event, and cut between sends
     let mut rng = Rng::new(7);
+    let mut lists: Vec<Vec<u8>> = order_lists().iter().map(|list| list.concat()).collect();
     for i in 0..3_000 {
         let length = 1 + rng.below(400);
         let mut events = list(&mut rng, &lists::STYLES[i % lists::STYLES.len()], length);
         events.truncate(if i == 0 { 0 } else { events.len() - i % 6 });
+        lists.push(events);
+    }
+    for events in lists {
         let expected: String = drill(&events).iter().flat_map(|line| [line, "\n"]).collect();
         assert!(text(lean_drill, &events, expected.len()) == expected.as_bytes(), "the drill in plain Rust: {events:?}");
     }

@@ -1,6 +1,7 @@
 //! The joint run of the drill in plain Rust. A set of participants is a mask, and so are the kinds of the stable records of
 //! a transaction at a site, since these stand in rising order.
 
+use crate::site::Site;
 use crate::step::*;
 
 pub const EVENT: usize = 6;
@@ -49,38 +50,6 @@ impl Transaction {
     }
 }
 
-#[derive(Clone, Copy)]
-pub struct Site {
-    /// The phase of each transaction here.
-    phases: [u8; 8],
-    /// Kinds of the stable records of each transaction.
-    stable: [u8; 8],
-    /// Transaction and bit of the kind, the oldest first. Each transaction has one at most between two events.
-    unforced: [(u8, u8); 10],
-    count: u8,
-    pub forces: u64,
-}
-
-impl Site {
-    fn append(&mut self, h: u8, kind: u8) {
-        self.unforced[self.count as usize] = (h, kind);
-        self.count += 1;
-    }
-
-    fn force(&mut self) {
-        self.keep(self.count);
-        self.forces = self.forces.saturating_add(1);
-    }
-
-    /// The oldest unforced records become stable, the others are lost.
-    fn keep(&mut self, keep: u8) {
-        for &(h, kind) in &self.unforced[..keep as usize] {
-            self.stable[h as usize] |= kind;
-        }
-        self.count = 0;
-    }
-}
-
 pub struct Run {
     /// Bit s: site s is up.
     up: u16,
@@ -95,16 +64,16 @@ fn bit(participant: u8) -> u8 {
     1 << (participant - 1)
 }
 
-/// The first n of a set, lowest first.
-fn lowest(mut set: u8, n: u32) -> u8 {
+/// The first n of a set in the turn of a transaction: from participant h + 1 up to 8, then from 1.
+fn first_in_turn(set: u8, h: u8, n: u32) -> u8 {
     if n >= set.count_ones() {
         return set;
     }
-    let all = set;
+    let mut rest = set.rotate_right(h as u32);
     for _ in 0..n {
-        set &= set - 1;
+        rest &= rest - 1;
     }
-    all & !set
+    set & !rest.rotate_left(h as u32)
 }
 
 /// The records, first and last, whether it forces, the outcome, the message, and to whom it goes.
@@ -120,9 +89,8 @@ fn effects(row: Step) -> u32 {
 
 impl Run {
     pub fn fresh() -> Run {
-        let site = Site { phases: [UNKNOWN; 8], stable: [0; 8], unforced: [(0, 0); 10], count: 0, forces: 0 };
         let transactions = [Transaction::default(); 8];
-        Run { up: 0x1FF, transactions, waiting: [0; 8], taken_out: [0; 8], sites: [site; 9] }
+        Run { up: 0x1FF, transactions, waiting: [0; 8], taken_out: [0; 8], sites: [Site::fresh(); 9] }
     }
 
     fn is_up(&self, site: u8) -> bool {
@@ -319,8 +287,8 @@ impl Run {
         }
         if to != 0 {
             let owing = to & t.owing(message);
-            let first = lowest(owing, left);
-            let rest = lowest(to & !owing, left - first.count_ones());
+            let first = first_in_turn(owing, h, left);
+            let rest = first_in_turn(to & !owing, h, left - first.count_ones());
             t.sent[message as usize] |= first | rest;
             let sends = (first | rest).count_ones();
             answer.sends += sends as u8;
