@@ -97,6 +97,9 @@ impl Effects {
     pub fn cut(self, transaction: u8, most: u8) -> Effects
         ensures { λ r. ⌜ effectsIn transaction r ≡ take most (effectsIn transaction self) ⌝ }
     {
+        if self.count() <= most {
+            return self;
+        }
         let forces = less(most, one_if(self.appended != 0));
         let enters = less(forces, one_if(self.forced));
         let sends = less(enters, entries(self.entered));
@@ -185,18 +188,14 @@ fn entries(entered: u8) -> u8
 fn first_sent(transaction: u8, owing: u8, to: u8, most: u8) -> u8
     ensures { λ r. ⌜ ordered transaction owing r ≡ take most (ordered transaction owing to) ⌝ }
 {
-    let start = if Parts::LAST_TRANSACTION < transaction {
-        0
-    } else {
-        transaction
-    };
+    let start = pick(Parts::LAST_TRANSACTION < transaction, 0, transaction);
     let first = both(to, owing);
     let count = size(first);
-    if most < count {
-        return first_in_turn(start, first, most);
-    }
-    let second = first_in_turn(start, minus(to, owing), most - count);
-    either(first, second)
+    // Not all of those that owe; or all of them, and then of the others.
+    let within = most < count;
+    let group = pick(within, first, minus(to, owing));
+    let taken = first_in_turn(start, group, pick(within, most, less(most, count)));
+    either(pick(within, 0, first), taken)
 }
 
 // Of a set the first `most` in the round that starts at participant `start` + 1 and goes from 8 to 1.

@@ -6,6 +6,8 @@ use Prim.Native.Nat.{ℕ, zero, suc, _+_, _-_, _≤_, _<_}
 use native.Mathlib.Omega.{arith}
 use lib.ListN.{length, take, drop, getD, length-append, take-append-drop}
 use lib.Seq.{take-all}
+use lib.Dec.{ltb}
+use borrow.Author.Tests.{ltb-true, ltb-false}
 use Rattle.codec.specs.Lists.{select}
 use Rattle.codec.specs.Sets.{participants, member, listed, those, both, either, minus}
 use Rattle.codec.specs.laws.Tests.{alike, alike-eq, bools-at}
@@ -218,20 +220,17 @@ module _ (t first to n a b : ℕ) (ha : a < 256) (hb : b < 256)
       ∙ ap₂ _++_ ea (eb ∙ ap (λ (k : ℕ). take (n - k) (inTurn t (minus to first))) (sym (in-turn-adds length length-append t (both to first))))
       ∙ sym (ap (take n) (in-order t first to) ∙ take-append n (inTurn t (both to first)) (inTurn t (minus to first)))
 
--- the cut is in the first group: nobody of the second is sent to
-pub cut-in-first : (t first to n a : ℕ) → a < 256 → both a (both to first) ≡ a → inTurn t a ≡ take n (inTurn t (both to first)) → n ≤ length (listed (both to first))
-    → ordered t first a ≡ take n (ordered t first to)
+-- the cut is in the first group, and nobody of the second is sent to; or it is behind it, and all of the first are. r: those of that group
+pub cut-in-groups : (t first to n r : ℕ) (within : Bool) → ltb n (length (listed (both to first))) ≡ within → r < 256
+    → both r (cond within (both to first) (minus to first)) ≡ r
+    → inTurn t r ≡ take (cond within n (n - length (listed (both to first)))) (inTurn t (cond within (both to first) (minus to first)))
+    → ordered t first (either (cond within 0 (both to first)) r) ≡ take n (ordered t first to)
 unfolding both either
-cut-in-first t first to n a ha pa ea h =
-    let none : both 0 (minus to first) ≡ 0 = those-alike (λ p. member p 0 && member p (minus to first)) (λ p. member p 0) (λ i l. rw (none-in (suc i)) refl) ∙ those-members 0 (omega arith) in
-    let same : either a 0 ≡ a = those-alike (λ p. member p a || member p 0) (λ p. member p a) (λ i l. rw (none-in (suc i)) (or-false (member (suc i) a))) ∙ those-members a ha in
-    let z : n - length (listed (both to first)) ≡ 0 = omega (arith, h) in
-    rw same at (order-cut t first to n a 0 ha (omega arith) pa none ea (rw z (in-turn-none t)))
-
--- or behind it: all of the first group are
-pub cut-in-second : (t first to n b : ℕ) → b < 256 → both b (minus to first) ≡ b → inTurn t b ≡ take (n - length (listed (both to first))) (inTurn t (minus to first)) → length (listed (both to first)) ≤ n
-    → ordered t first (either (both to first) b) ≡ take n (ordered t first to)
-unfolding both
-cut-in-second t first to n b hb pb eb h =
-    order-cut t first to n (both to first) b (those-below (λ p. member p to && member p first)) hb (both-same (both to first) (those-below (λ p. member p to && member p first))) pb
-    (sym (take-all n (inTurn t (both to first)) (omega (arith, h, in-turn-adds length length-append t (both to first))))) eb
+cut-in-groups t first to n r true e h p q =
+    let none : both 0 (minus to first) ≡ 0 = those-alike (λ k. member k 0 && member k (minus to first)) (λ k. member k 0) (λ i l. rw (none-in (suc i)) refl) ∙ those-members 0 (omega arith) in
+    let same : either r 0 ≡ either 0 r = those-alike (λ k. member k r || member k 0) (λ k. member k 0 || member k r) (λ i l. rw (none-in (suc i)) (or-false (member (suc i) r))) in
+    let z : n - length (listed (both to first)) ≡ 0 = omega (arith, ltb-true n (length (listed (both to first))) e) in
+    rw same at (order-cut t first to n r 0 h (omega arith) p none q (rw z (in-turn-none t)))
+cut-in-groups t first to n r false e h p q =
+    order-cut t first to n (both to first) r (those-below (λ k. member k to && member k first)) h (both-same (both to first) (those-below (λ k. member k to && member k first))) p
+    (sym (take-all n (inTurn t (both to first)) (omega (arith, ltb-false n (length (listed (both to first))) e, in-turn-adds length length-append t (both to first))))) q

@@ -1,13 +1,22 @@
 use Prim.Native.Nat.{ℕ, _-_}
-use mathlib.Core.Path.{ap, _∙_}
+use mathlib.Core.Path.{ap, sym, _∙_}
+use native.Mathlib.Omega.{arith}
+use lib.Seq.{take-all}
+use Rattle.site.specs.Answers.{effectsIn}
 use Rattle.site.proofs.Cut.{cut-law}
 use borrow.Author.Needs.{needs}
 use Rattle.site.proofs.effects.Effects.cut.Statement.{statement}
 use Rattle.site.proofs.effects.Effects.cut.Tie as tie
 
+-- all of them happen
 returns : tie.Need-returns
 returns c =
-    let a = c .before .before .before .before .before .before .before .before .before .before .before .before .before .before .args in
+    let a = c .before .before .args in
+    sym (take-all (a .most) (effectsIn (a .transaction) (a .self)) (omega (arith, c .if1 .taken, c .before .count .ensures (a .transaction))))
+
+returns-2 : tie.Need-returns-2
+returns-2 c =
+    let a = c .before .before .before .before .before .before .before .before .before .before .before .before .before .before .before .before .args in
     let e = a .self in
     let forces = c .before .before .before .before .before .before .before .before .before .before .before .less in
     let enters = c .before .before .before .before .before .before .before .before .before .less2 in
@@ -26,6 +35,7 @@ cut-spec =
     tie.close
     (tie.spec
     (λ c κs. search needs)
+    returns
     (λ c κs. search needs)
     (λ c κs. search needs)
     (λ c κs. search needs)
@@ -37,4 +47,5 @@ cut-spec =
     (λ c κs. search needs)
     (λ c κs. search needs)
     (λ c κs. search needs)
-    returns)
+    (λ c κs. search needs)
+    returns-2)
