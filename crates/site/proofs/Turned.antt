@@ -2,8 +2,8 @@
 use mathlib.Core.Path.{_≡_, refl, ap, ap₂, sym, _∙_}
 use mathlib.Core.Bool.{Bool, true, false, cond, _&&_, _||_}
 use mathlib.Core.Logic.{⊎-elim}
-use mathlib.Core.List.{List, [], _∷_, _++_}
-use Prim.Native.Nat.{ℕ, zero, suc, _+_, _-_, _%_, _≤_, _<_}
+use mathlib.Core.List.{[], _∷_, _++_}
+use Prim.Native.Nat.{ℕ, suc, _+_, _-_, _%_, _≤_, _<_}
 use native.Mathlib.Omega.{arith}
 use lib.ListN.{length, take, drop, getD, length-append, length-drop, length-take, take-append-drop, drop-of-length-le}
 use lib.Seq.{take-all, take-suc, take-append-seam}
@@ -45,6 +45,7 @@ front-more s i j h k l = alike-eq _ _ (below-at 8 (test s i) (below-at-2 8 8 (λ
     test : ℕ → ℕ → ℕ → Bool
     test s i j = alike (member (suc j) (front s (suc i))) (member (suc j) (front s i) || eqb (suc j) (place s i))
 
+-- and in turn it is these
 front-listed : (s i : ℕ) → s < 8 → i < 9 → select (λ p. member p (front s i)) (round s) ≡ take i (round s)
 unfolding round participants member select same
 front-listed s i h k =

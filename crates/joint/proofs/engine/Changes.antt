@@ -9,7 +9,7 @@ use lib.Dec.{eqb, leb}
 use native.Mathlib.Omega.{arith}
 use borrow.Author.Tests.{eq-eqb, ne-eqb, le-leb, lt-leb, leb-true}
 use Rattle.codec.specs.Lists.{any, every, first, select, onlyIf}
-use Rattle.codec.specs.Sets.{participants, member, empty, listed}
+use Rattle.codec.specs.Sets.{empty, listed}
 use Rattle.codec.specs.Records.{LogRecord, ofTransaction}
 use Rattle.codec.specs.Answers.{recordIn}
 use Rattle.codec.specs.declared.record.Record.{Record}

@@ -1,6 +1,6 @@
 -- Openings: the transactions opened with a site are the accepted opens whose members name it.
-use Prim.Native.Nat.{ℕ, zero, suc, _+_, _≤_, _<_}
-use mathlib.Core.Path.{_≡_, refl, sym, ap, ap₂, subst, _∙_, fun-ext}
+use Prim.Native.Nat.{ℕ, suc, _+_, _≤_, _<_}
+use mathlib.Core.Path.{_≡_, refl, sym, ap, subst, _∙_, fun-ext}
 use mathlib.Core.Bool.{Bool, true, false, cond, not, _&&_, _||_, or-false, and-true, and-false, true≢false}
 use mathlib.Core.List.{List, [], _∷_, _++_}
 use mathlib.Core.Option.{some, Option·some-injective}
@@ -8,13 +8,13 @@ use native.Mathlib.Omega.{arith}
 use lib.ListN.{length, getD, take, length-append}
 use lib.Seq.{getD-take}
 use lib.Dec.{eqb}
-use borrow.Author.Tests.{eq-eqb, ne-eqb, eqb-true}
-use Rattle.codec.specs.Lists.{select, any, every, same, first}
+use borrow.Author.Tests.{ne-eqb, eqb-true}
+use Rattle.codec.specs.Lists.{select, any, every, same}
 use Rattle.codec.specs.Sets.{empty, listed}
 use Rattle.codec.specs.laws.Tests.{every-at, same-list}
 use Rattle.site.specs.Cohort.{Cohort}
-use Rattle.joint.specs.State.{Run, Transaction, fresh, update, atTransaction, names, opened, takesPart, withMarked, performAll}
-use Rattle.joint.specs.Event.{Event, opening, beginning, delivery, timeout, forcing, discarding, crash, restart, marking, eventOf, Parsed, parse}
+use Rattle.joint.specs.State.{Run, fresh, update, atTransaction, names, opened, takesPart, withMarked, performAll}
+use Rattle.joint.specs.Event.{opening, eventOf, Parsed, parse}
 use Rattle.joint.specs.Refusals.{isDown, refusals}
 use Rattle.joint.specs.Plan.{Plan, settling, openedAs, transactions, plan}
 use Rattle.joint.specs.Run.{Result, refuse, carry, cutShort, partly, event, after}
@@ -28,7 +28,7 @@ use Rattle.joint.proofs.base.Ranges.{only-some, parse-range}
 use Rattle.joint.proofs.base.History.{Accepted, EventCase, refused, whole, cut, event-case, by-events, after-snoc}
 use Rattle.joint.proofs.base.Plans.{All, not-struck}
 use Rattle.joint.proofs.base.Recorded.{Settles, plan-keeps, down-keeps, unsent, acts-keep}
-use Rattle.joint.proofs.base.Looked.{fieldsOf, event-bytes, never-cut, steps-append}
+use Rattle.joint.proofs.base.Looked.{event-bytes, never-cut, steps-append}
 
 -- ---- an opening and its bytes
 

@@ -9,8 +9,8 @@ use native.Mathlib.Omega.{arith}
 use borrow.Author.Tests.{le-ltb}
 use denote.Enum.Declared.{tagOf}
 use types.Run.{OneOf, miss}
-use Rattle.codec.specs.Lists.{any, select}
-use Rattle.codec.specs.Sets.{participants, member, listed}
+use Rattle.codec.specs.Lists.{any}
+use Rattle.codec.specs.Sets.{participants, member}
 use Rattle.codec.specs.laws.Tests.{below-at, true-of}
 use Rattle.site.specs.Step.{Row, Effect, Answer, refused, noRow, row, answered, answerIf, given}
 use Rattle.site.specs.Cohort.{Cohort, presumptionOf}
