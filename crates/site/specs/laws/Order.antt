@@ -111,7 +111,7 @@ unfolding ordered select
 ordered-none t first = rw (in-turn-none t) refl
 
 -- one set in turn, and then another
-pub in-order : (t first to : ℕ) → ordered t first to ≡ inTurn t (both to first) ++ inTurn t (minus to first)
+in-order : (t first to : ℕ) → ordered t first to ≡ inTurn t (both to first) ++ inTurn t (minus to first)
 unfolding ordered both minus
 in-order t first to =
     rw (in-turn-those t (λ p. member p to && member p first), in-turn-those t (λ p. member p to && not (member p first)))
@@ -123,7 +123,7 @@ in-order t first to =
 -- ---- who goes first
 
 -- to a set the order goes by those alone of its members that go first
-pub order-within : (t a b to : ℕ) → ((p : ℕ) → Numbered p → member p to ≡ true → member p a ≡ member p b) → ordered t a to ≡ ordered t b to
+order-within : (t a b to : ℕ) → ((p : ℕ) → Numbered p → member p to ≡ true → member p a ≡ member p b) → ordered t a to ≡ ordered t b to
 unfolding both minus
 order-within t a b to h =
     in-order t a to
@@ -211,7 +211,7 @@ module _ (t first to n a b : ℕ) (ha : a < 256) (hb : b < 256)
       ∙ in-second (member (suc i) a) (member (suc i) b) (member (suc i) to) (member (suc i) first) (within-first i h) (within-second i h))
       ∙ those-members b hb
 
-  pub order-cut : inTurn t a ≡ take n (inTurn t (both to first))
+  order-cut : inTurn t a ≡ take n (inTurn t (both to first))
       → inTurn t b ≡ take (n - length (listed (both to first))) (inTurn t (minus to first))
       → ordered t first (either a b) ≡ take n (ordered t first to)
   order-cut ea eb =
