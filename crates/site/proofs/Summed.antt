@@ -203,7 +203,7 @@ looked-last e a (inl h) = rw (h .1, h .0) (by (onlyLast e) refl)
 
 -- what fits into the bytes of the call
 
-pub record Small (x : Summary) : Type 0 where
+record Small (x : Summary) : Type 0 where
   pub forced : x .forced ≤ 1
   pub entered : x .entered ≤ 2
   pub message : x .message ≤ 7
@@ -232,8 +232,8 @@ summary-small (force ∷ es) = behind-small (force ∷ es)
 summary-small (enter o ∷ es) = behind-small (enter o ∷ es)
 summary-small (send m p ∷ es) = behind-small (send m p ∷ es)
 
-pub fits : (es : List Effect) (x : Summary) → x ≡ summary es → Small x
-fits es x e = rw e (summary-small es)
+pub fits : (es : List Effect) (x : Summary) → x ≡ summary es → (x .forced ≤ 1) × (x .entered ≤ 2) × (x .message ≤ 7)
+fits es x e = let s = summary-small es in rw e (s .forced, s .entered, s .message)
 
 -- the row's numbers are read back from the values, where the kind of its first record has four bits
 pub read-back : (phase w out : ℕ) (es : List Effect) → summary es .first < 16 → rowRead (0 ∷ rowValues phase w out es) ≡ summary es

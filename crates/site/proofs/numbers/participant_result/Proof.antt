@@ -12,9 +12,7 @@ enum-told : tie.Need-enum-told
 enum-told c = search needs
 
 packed-requires-2 : tie.Need-packed-requires-2
-packed-requires-2 c κs =
-    let x = fits _ (summaryIn (c .summary .result)) (c .summary .ensures 0) in
-    (x .forced, x .entered, x .message)
+packed-requires-2 c κs = fits _ (summaryIn (c .summary .result)) (c .summary .ensures 0)
 
 returns : tie.Need-returns
 unfolding participantResult participantValues answerNumber noValues packed

@@ -5,11 +5,16 @@ use Rattle.site.specs.Presumption.{commit, abort}
 use Rattle.site.specs.Step.{answered}
 use Rattle.site.specs.Coordinator.{telling, onYes, leavingIf}
 use Rattle.site.specs.Answers.{cohortIn, outcomeIn}
+use Rattle.site.specs.laws.Sets.{Numbered}
 use Rattle.site.proofs.Sent.{member-numbered}
 use Rattle.site.proofs.Rows.{tell-one}
 use borrow.Author.Needs.{needs}
 use Rattle.site.proofs.coordinator.Coordinator.on_yes.Statement.{statement}
 use Rattle.site.proofs.coordinator.Coordinator.on_yes.Tie as tie
+
+-- who votes is a participant
+sender : (s : tie.Start) → Numbered (s .args .participant)
+sender s = member-numbered (s .args .participant) (s .args .self .members) (omega arith) (s .pre)
 
 enum-told : tie.Need-enum-told
 enum-told c = search needs
@@ -32,11 +37,10 @@ returns-4 : tie.Need-returns-4
 unfolding answered leavingIf onYes telling
 returns-4 c t =
     let s = c .before .before .before .before in
-    let h = member-numbered (s .args .participant) (s .args .self .members) (omega arith) (s .pre) in
     rw (
       c .telling .ensures t,
       c .before .only .ensures,
-      tell-one t (cohortIn (s .args .self)) commit (s .args .participant) h,
+      tell-one t (cohortIn (s .args .self)) commit (s .args .participant) (sender s),
       c .before .before .enum-told2 .given .1,
     )
 
@@ -44,11 +48,10 @@ returns-5 : tie.Need-returns-5
 unfolding answered leavingIf onYes telling
 returns-5 c t =
     let s = c .before .before .before .before in
-    let h = member-numbered (s .args .participant) (s .args .self .members) (omega arith) (s .pre) in
     rw (
       c .telling2 .ensures t,
       c .before .only2 .ensures,
-      tell-one t (cohortIn (s .args .self)) abort (s .args .participant) h,
+      tell-one t (cohortIn (s .args .self)) abort (s .args .participant) (sender s),
       c .before .before .enum-told3 .given .1,
     )
 
@@ -56,12 +59,11 @@ returns-6 : tie.Need-returns-6
 unfolding answered leavingIf onYes telling
 returns-6 c t =
     let s = c .before .before .before .before .before .before in
-    let h = member-numbered (s .args .participant) (s .args .self .members) (omega arith) (s .pre) in
     let o = outcomeIn (c .before .before .silence .result) in
     rw (
       c .telling3 .ensures t,
       c .before .only3 .ensures,
-      tell-one t (cohortIn (s .args .self)) o (s .args .participant) h,
+      tell-one t (cohortIn (s .args .self)) o (s .args .participant) (sender s),
       c .before .before .silence .ensures,
       c .before .before .before .presumption .ensures,
       c .before .before .before .before .enum-told4 .given .1,
