@@ -1,6 +1,7 @@
 -- What all other proofs stand on: Booleans, lists, updates, the moments of a run's history, and plans.
 pub mod Booleans
 pub mod Lists
+pub mod Survivors
 pub mod Updates
 pub mod Ranges
 pub mod History

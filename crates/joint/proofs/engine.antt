@@ -9,6 +9,7 @@ pub mod Sites
 pub mod RowSites
 pub mod Walks
 pub mod Trims
+pub mod Survives
 pub mod Rows
 pub mod Inputs
 pub mod InputEvents

@@ -87,7 +87,7 @@ cutInRange code cut keep =
     ∷ (eqb keep 0 || not (eqb cut 255) || eqb code 6)
     ∷ [])
 
--- where power goes: after so many effects, with so many unforced records kept. A crash is an event of no effects, cut there
+-- where power goes: after so many effects, and which unforced records are kept. A crash is an event of no effects, cut there
 unfoldable pub cutAt : Bool → Bool → ℕ → ℕ → Option (ℕ × ℕ)
 cutAt true uncut n keep = some (0, keep)
 cutAt false true n keep = none

@@ -144,18 +144,19 @@ goesDown (follows.Discarded last) = false
 goesDown (follows.Down keep) = true
 goesDown follows.Marked = false
 
-unfoldable pub drops : Then → Bool
-drops follows.Same = false
-drops (follows.Coordinator c out) = false
-drops (follows.Participant c) = false
-drops (follows.Opened m c) = false
-drops (follows.Discarded last) = true
-drops (follows.Down keep) = false
-drops follows.Marked = false
+-- records may move: one is dropped, or some of the unforced ones survive
+unfoldable pub moves : Then → Bool
+moves follows.Same = false
+moves (follows.Coordinator c out) = false
+moves (follows.Participant c) = false
+moves (follows.Opened m c) = false
+moves (follows.Discarded last) = true
+moves (follows.Down keep) = not (eqb keep 0)
+moves follows.Marked = false
 
--- a row appends a record or drops one
+-- a row appends, drops or keeps a record
 unfoldable pub writesLog : Row → Bool
-writesLog x = not (eqb (x .effects .appended) 0) || not (eqb (x .effects .last) 0) || drops (x .then)
+writesLog x = not (eqb (x .effects .appended) 0) || not (eqb (x .effects .last) 0) || moves (x .then)
 
 -- a site after a row of transaction t
 unfoldable pub rowSite : ℕ → Row → plain.Site → plain.Site
@@ -284,12 +285,12 @@ resumed r s cut =
     let happen = take cut (p .acts) in
     record { transaction = p .settle (performAll s happen r) .transaction; left = cut - length (p .acts); sends = count isSend happen }
 
--- in run r, whose site s has the records rs
-unfoldable pub restartedIn : ℕ → plain.Run → List Record → Restarted → Seen
-restartedIn s r rs x =
+-- of site s in run r
+unfoldable pub restartedIn : ℕ → plain.Run → Restarted → Seen
+restartedIn s r x =
     record {
       answer = answerIn (x .answer);
-      run = record { site = update s (λ _. siteFrom (x .site) rs) (r .site); transaction = transactionsIn (x .transactions) };
+      run = record { site = update s (λ _. siteFrom (x .log .site) (x .log .records .of)) (r .site); transaction = transactionsIn (x .transactions) };
     }
 
 -- ---- events one after the other

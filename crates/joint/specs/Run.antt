@@ -27,11 +27,12 @@ refuse r n = record { answer = n; site = 0; acts = []; run = r }
 unfoldable pub partly : Run → Plan → ℕ → Run
 partly r p n = performAll (p .site) (take n (p .acts)) r
 
--- there are n effects, and k unforced records after them
+-- there are n effects, and k names unforced records that are there after them
 unfoldable pub canCut : Run → Plan → ℕ → ℕ → Bool
 canCut r p n k = every (leb n (length (p .acts)) ∷ mayKeep k (partly r p n .site (p .site) .unforced) ∷ [])
 
--- cut: the first n effects happen, then the site is down, with k unforced records kept. 9: cut above the effects, keep above the unforced records then there
+-- cut: the first n effects happen, then the site is down, and the unforced records that k names are kept. 9: cut above the effects, a bit of keep at or
+-- above the number of unforced records then there
 unfoldable pub cutShort : Bool → Run → Plan → ℕ → ℕ → Result
 cutShort true r p n k = record { answer = 0; site = p .site; acts = take n (p .acts); run = down (p .site) k (partly r p n) }
 cutShort false r p n k = refuse r 9

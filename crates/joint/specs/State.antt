@@ -1,10 +1,10 @@
 -- The state of the plain run, and what each effect, a cut and a crash change in it.
 -- The plain run is what 01's steps, events and refusals make from a list of events alone; no field of the program defines it.
-use Prim.Native.Nat.{ℕ, zero, suc}
+use Prim.Native.Nat.{ℕ, zero, suc, _/_, _%_, _^_}
 use mathlib.Core.Bool.{Bool, true, false, cond, not, _&&_, _||_}
 use mathlib.Core.List.{List, [], _∷_, _++_}
-use lib.ListN.{length, take}
-use lib.Dec.{eqb, leb}
+use lib.ListN.{length}
+use lib.Dec.{eqb}
 use Rattle.codec.specs.Lists.{any}
 use Rattle.codec.specs.Sets.{member, empty}
 use Rattle.codec.specs.Records.{LogRecord, ofTransaction, membersIn, presumeCommitIn}
@@ -108,13 +108,14 @@ appended x s = record { up = s .up; stable = s .stable; unforced = s .unforced +
 unfoldable pub forced : Site → Site
 forced s = record { up = s .up; stable = s .stable ++ s .unforced; unforced = [] }
 
--- which of the unforced records survive where the site goes down: the first `keep`
-abbrev pub survivors : ℕ → List LogRecord → List LogRecord
-survivors keep unforced = take keep unforced
+-- Which of the unforced records survive where the site goes down: keep is a mask, and bit i stands for unforced record i, oldest first. Their order stays
+unfoldable pub survivors {ℓ} : {A : Type ℓ} → ℕ → List A → List A
+survivors keep [] = []
+survivors keep (x ∷ xs) = cond (eqb (keep % 2) 1) (x ∷ survivors (keep / 2) xs) (survivors (keep / 2) xs)
 
--- what `keep` may be then: at most their number
-abbrev pub mayKeep : ℕ → List LogRecord → Bool
-mayKeep keep unforced = leb keep (length unforced)
+-- what keep may be then: no bit is set at or above their number
+unfoldable pub mayKeep {ℓ} : {A : Type ℓ} → ℕ → List A → Bool
+mayKeep keep unforced = eqb (keep / 2 ^ length unforced) 0
 
 -- down: the survivors become stable, the rest is lost
 unfoldable pub stopped : ℕ → Site → Site

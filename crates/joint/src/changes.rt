@@ -51,7 +51,7 @@ fn carry(site: Site, transaction: u8, row: Row, cut: u8, keep: u8) -> Change
     }
     let happened = effects.cut(transaction, cut);
     let after = site.after(happened);
-    if after.unforced_count() < (keep as usize) {
+    if !after.may_keep(keep) {
         return Change::Refused(Answer::CutTooFar);
     }
     Change::Happens(Row {
@@ -173,7 +173,7 @@ pub(crate) fn crash(site: Site, keep: u8) -> Change
     if !site.up {
         return Change::Refused(Answer::SiteDown);
     }
-    if site.unforced_count() < (keep as usize) {
+    if !site.may_keep(keep) {
         return Change::Refused(Answer::CutTooFar);
     }
     Change::Happens(Row {

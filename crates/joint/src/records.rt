@@ -21,7 +21,7 @@ ghost use Rattle.codec.specs.Records.{ofTransaction};
 ghost use Rattle.codec.specs.Answers.{recordIn, written};
 ghost use Rattle.codec.specs.Image.{writeImage};
 ghost use Rattle.site.specs.Answers.{cohortIn, hasKind, effectsIn};
-ghost use Rattle.joint.specs.State.{holds, recordedCohort};
+ghost use Rattle.joint.specs.State.{holds, recordedCohort, stopped};
 ghost use Rattle.joint.specs.Plan as plan;
 ghost use Rattle.joint.specs.Answers.{siteFrom, noRecords};
 ghost use Rattle.joint.specs.Inside.{oldestAt, sought, putAt, putRow, rowSite, Fits};
@@ -122,14 +122,38 @@ impl Records {
         let after = site.after(effects);
         match then {
             Then::Discarded(_) => records.trim(after, transaction),
-            Then::Down(keep) => SiteLog {
-                site: after.stop(keep),
-                records,
-            },
+            Then::Down(keep) => records.stop(after, keep),
             _ => SiteLog {
                 site: after,
                 records,
             },
+        }
+    }
+
+    // The site goes down. Of its unforced records those survive whose bit is set, bit 0 for the oldest, and close up behind
+    // the stable ones.
+    pub(crate) fn stop(self, site: Site, keep: u8) -> SiteLog
+        ensures { λ r. ⌜ siteFrom (r .site) (r .records .of) ≡ stopped keep (siteFrom site (self .of)) ⌝ }
+    {
+        let count = site.count();
+        let stable = site.stable_count();
+        let mut records = self.of;
+        let mut to = stable;
+        let mut i = stable;
+        while i < count {
+            let x = records[i];
+            records[to] = x;
+            let bit = ((keep as u32) >> (i - stable)) % 2;
+            to += bit as usize;
+            i += 1;
+        }
+        SiteLog {
+            site: Site {
+                up: false,
+                stable: to as u8,
+                unforced: 0,
+            },
+            records: Records { of: records },
         }
     }
 

@@ -79,8 +79,11 @@ fn go(run: Run, bytes: &[u8], answers: &mut [u8], events: usize) -> Ran
                 store(last, answers, out);
                 if let Answer::Accepted(counts) = last {
                     run.forces[s] = add_held(run.forces[s], counts.forces);
-                    let changed = next.site;
+                    let log = next.log;
+                    let changed = log.site;
                     run.sites[s] = changed;
+                    let changed = log.records;
+                    run.records[s] = changed;
                     let changed = next.transactions;
                     run.transactions = changed;
                 }

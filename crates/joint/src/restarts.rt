@@ -4,6 +4,7 @@ use crate::answers::Counts;
 use crate::events::Restart;
 use crate::records::Kinds;
 use crate::records::Records;
+use crate::records::SiteLog;
 use crate::rows::Row;
 use crate::run::Run;
 use crate::sites::Site;
@@ -27,10 +28,10 @@ pub struct Resumed {
     pub sends: u8,
 }
 
-// A restart's answer, and the site and all transactions after it.
+// A restart's answer, and the site with its records and all transactions after it.
 pub struct Restarted {
     pub answer: Answer,
-    pub site: Site,
+    pub log: SiteLog,
     pub transactions: [Transaction; Run::TRANSACTIONS],
 }
 
@@ -100,12 +101,12 @@ pub(crate) fn restart(
     e: Restart,
 ) -> Restarted
     requires { ⌜ e .site ≤ 8 ⌝ }
-    ensures { λ r. ⌜ ((x : plain.Run) → siteFrom site (records .of) ≡ x .site (e .site) → transactionsIn transactions ≡ x .transaction → restartedIn (e .site) x (records .of) r ≡ taken x (event.restart (e .site)) (cutFrom (e .cut) (e .keep))) ⌝ }
+    ensures { λ r. ⌜ ((x : plain.Run) → siteFrom site (records .of) ≡ x .site (e .site) → transactionsIn transactions ≡ x .transaction → restartedIn (e .site) x r ≡ taken x (event.restart (e .site)) (cutFrom (e .cut) (e .keep))) ⌝ }
 {
     if site.up {
         return Restarted {
             answer: Answer::SiteUp,
-            site,
+            log: SiteLog { site, records },
             transactions,
         };
     }
@@ -121,20 +122,23 @@ pub(crate) fn restart(
     if e.cut == Run::NO_CUT {
         return Restarted {
             answer,
-            site: site.start(),
+            log: SiteLog {
+                site: site.start(),
+                records,
+            },
             transactions: after,
         };
     }
-    if (resumed.left != 0) | (site.unforced_count() < (e.keep as usize)) {
+    if (resumed.left != 0) | !site.may_keep(e.keep) {
         return Restarted {
             answer: Answer::CutTooFar,
-            site,
+            log: SiteLog { site, records },
             transactions,
         };
     }
     Restarted {
         answer,
-        site: site.stop(e.keep),
+        log: records.stop(site, e.keep),
         transactions: forget_all(after, e.site as usize),
     }
 }

@@ -27,8 +27,8 @@ ghost use Rattle.joint.specs.Answers.{transactionIn};
 ghost use Rattle.joint.specs.Inside.{planIn, foundIn, writesLog, goesDown, MayReceive};
 
 // What follows a row's effects: a phase is set, at the coordinator with the set taken out, a transaction is opened, the
-// oldest record is dropped (and whether the participant forgets with it), the site goes down and keeps so many of its
-// unforced records, or the participant is marked as one that only looked.
+// oldest record is dropped (and whether the participant forgets with it), the site goes down and keeps the unforced
+// records that a mask names, or the participant is marked as one that only looked.
 pub enum Then {
     Same,
     Coordinator {
@@ -62,7 +62,7 @@ impl Row {
         then: Then::Same,
     };
 
-    // Whether it appends a record or drops one.
+    // Whether it appends, drops or keeps a record.
     pub fn writes(self) -> bool
         ensures { λ r. ⌜ r ≡ writesLog self ⌝ }
     {
@@ -73,6 +73,7 @@ impl Row {
         }
         match then {
             Then::Discarded(_) => true,
+            Then::Down(keep) => keep != 0,
             _ => false,
         }
     }

@@ -13,7 +13,7 @@ ghost use Rattle.codec.specs.declared.record.Record.{Record};
 ghost use Rattle.site.specs.Step.{force, given};
 ghost use Rattle.site.specs.Numbers.{appending};
 ghost use Rattle.site.specs.Answers.{effectsIn};
-ghost use Rattle.joint.specs.State.{forced, stopped, started};
+ghost use Rattle.joint.specs.State.{forced, mayKeep, stopped, started};
 ghost use Rattle.joint.specs.Answers.{siteFrom};
 ghost use Rattle.joint.specs.Inside.{stableOf, countOf, putAt, putRow, siteAfter, rowSite, writesLog, Fits};
 
@@ -52,7 +52,7 @@ impl Site {
         count
     }
 
-    pub fn unforced_count(self) -> usize
+    fn unforced_count(self) -> usize
         ensures { λ r. ⌜ r ≡ countOf self - stableOf self ⌝ }
     {
         self.count() - self.stable_count()
@@ -101,16 +101,22 @@ impl Site {
         forced.append(effects.last)
     }
 
-    // The site goes down, and keeps so many of its unforced records.
-    pub(crate) fn stop(self, keep: u8) -> Site
-        ensures { λ r. ⌜ ((rs : List Record) → length rs ≡ 24 → siteFrom r rs ≡ stopped keep (siteFrom self rs)) ⌝ }
+    // Whether every set bit of a mask stands for an unforced record.
+    pub(crate) fn may_keep(self, keep: u8) -> bool
+        ensures { λ r. ⌜ ((rs : List Record) → length rs ≡ 24 → r ≡ mayKeep keep (siteFrom self rs .unforced)) ⌝ }
     {
-        let mut site = self;
-        site.up = false;
-        if keep < site.unforced {
-            site.unforced = keep;
+        (keep as u32) >> self.unforced_count() == 0
+    }
+
+    // The site goes down, and no unforced record survives.
+    fn stop(self) -> Site
+        ensures { λ r. ⌜ ((rs : List Record) → siteFrom r rs ≡ stopped 0 (siteFrom self rs)) ⌝ }
+    {
+        Site {
+            up: false,
+            stable: self.stable,
+            unforced: 0,
         }
-        site.force()
     }
 
     pub(crate) fn start(self) -> Site
@@ -121,7 +127,7 @@ impl Site {
         site
     }
 
-    // After a row that appends and drops no record.
+    // After a row that leaves the records where they are.
     pub(crate) fn settle(self, row: Row) -> Site
         requires { ⌜ writesLog row ≡ false ⌝ }
         ensures { λ r. ⌜ ((rs : List Record) (t : ℕ) → length rs ≡ 24 → siteFrom r rs ≡ rowSite t row (siteFrom self rs)) ⌝ }
@@ -130,7 +136,7 @@ impl Site {
         let then = row.then;
         let after = self.force_if(effects.forced);
         match then {
-            Then::Down(keep) => after.stop(keep),
+            Then::Down(_) => after.stop(),
             _ => after,
         }
     }

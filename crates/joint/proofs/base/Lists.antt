@@ -58,10 +58,6 @@ each-map P Q f (x ∷ xs) a = (f x (a .0), each-map P Q f xs (a .1))
 
 -- ---- the first n, and the rest
 
-pub take-none {ℓ} : {A : Type ℓ} (k : ℕ) → take {A = A} k [] ≡ []
-take-none zero = refl
-take-none (suc k) = refl
-
 pub drop-map {ℓ κ} : {A : Type ℓ} {B : Type κ} (f : A → B) (xs : List A) → drop 1 (map f xs) ≡ map f (drop 1 xs)
 drop-map f [] = refl
 drop-map f (x ∷ xs) = refl

@@ -19,7 +19,7 @@ use Rattle.site.specs.Answers.{effectsIn, closing, sending}
 use Rattle.site.specs.declared.effects.Effects.{Effects}
 use Rattle.site.specs.laws.Order.{ordered-none}
 use Rattle.joint.specs.State as plain
-use Rattle.joint.specs.State.{Run, Act, opened, takesPart, atSite, atTransaction, withMarked, perform, performAll, down}
+use Rattle.joint.specs.State.{Run, Act, mayKeep, opened, takesPart, atSite, atTransaction, withMarked, perform, performAll, down}
 use Rattle.joint.specs.Event.{Event, opening, forcing, discarding, crash, marking, cutAt}
 use Rattle.joint.specs.Refusals.{unopened, stranger, isDown, refusals}
 use Rattle.joint.specs.Plan.{Plan, plan, step, settling, acting, orNothing, openedAs, closes, newest, closed, mayDiscard, trimmed, remembers, forgottenUnless, discard, isWorking}
@@ -50,21 +50,16 @@ nothing-acts : (t : ℕ) → acting t (effectsIn t noEffects) ≡ []
 unfolding acting
 nothing-acts t = ap (acting t) (no-effects t)
 
--- ---- the counts of a log
-
-pub unforced-length : (x : Site) (rs : List Record) → length rs ≡ 24 → length (siteFrom x rs .unforced) ≡ countOf x - stableOf x
-unfolding siteFrom
-unforced-length x rs e = simp (length-take, length-drop, length-map) (omega (arith, e))
-
--- how many records are unforced after the first effects of a row
-pub unforced-after : (x y : Site) (w : Run) (s t : ℕ) (e h : Effects) (cut : ℕ) → Here x w s → Fits (effectsIn t e) (w .site s) → effectsIn t h ≡ take cut (effectsIn t e)
+-- the program's test of a keep, after the first effects of a row
+pub may-keep-after : (x y : Site) (w : Run) (s t : ℕ) (e h : Effects) (cut keep : ℕ) (b : Bool) → Here x w s → Fits (effectsIn t e) (w .site s) → effectsIn t h ≡ take cut (effectsIn t e)
     → ((rs : List Record) (t : ℕ) → length rs ≡ 24 → Fits (effectsIn t h) (siteFrom x rs) → siteFrom y (putRow (countOf x) t h rs) ≡ siteAfter t (effectsIn t h) (siteFrom x rs))
-    → length (siteAfter t (effectsIn t h) (w .site s) .unforced) ≡ countOf y - stableOf y
-unforced-after x y w s t e h cut (rs, (n, own)) fits happens after =
+    → ((rs : List Record) → length rs ≡ 24 → b ≡ mayKeep keep (siteFrom y rs .unforced))
+    → b ≡ mayKeep keep (siteAfter t (effectsIn t h) (w .site s) .unforced)
+may-keep-after x y w s t e h cut keep b (rs, (n, own)) fits happens after test =
     let room : Fits (effectsIn t h) (siteFrom x rs) = rw own (fits-cut (effectsIn t e) (effectsIn t h) (w .site s) cut happens fits) in
-    ap (λ (a : plain.Site). length (siteAfter t (effectsIn t h) a .unforced)) (sym own)
-    ∙ ap (λ (a : plain.Site). length (a .unforced)) (sym (after rs t n room))
-    ∙ unforced-length y (putRow (countOf x) t h rs) (row-length (countOf x) t h rs ∙ n)
+    test (putRow (countOf x) t h rs) (row-length (countOf x) t h rs ∙ n)
+    ∙ ap (λ (a : plain.Site). mayKeep keep (a .unforced)) (after rs t n room)
+    ∙ ap (λ (a : plain.Site). mayKeep keep (siteAfter t (effectsIn t h) a .unforced)) own
 
 -- ---- a row, whole or cut
 
@@ -87,34 +82,35 @@ module _ (w : Run) (s t : ℕ) (x : Row) where
       acts : acting t (effectsIn t h) ≡ take cut (acting t es)
       acts = ap (acting t) happens ∙ sym (acting-take t cut es)
 
-      left : length (partly w (planIn s t x) cut .site s .unforced) ≡ length (siteAfter t (effectsIn t h) (w .site s) .unforced)
+      left : mayKeep keep (partly w (planIn s t x) cut .site s .unforced) ≡ mayKeep keep (siteAfter t (effectsIn t h) (w .site s) .unforced)
       unfolding partly
       left =
-          ap (λ (l : List Act). length (performAll s l w .site s .unforced)) (sym acts)
-          ∙ ap (λ (r : Run). length (r .site s .unforced)) (performed s t (effectsIn t h) w)
-          ∙ ap (λ (a : plain.Site). length (a .unforced)) (update-same s (λ _. siteAfter t (effectsIn t h) (w .site s)) (w .site))
+          ap (λ (l : List Act). mayKeep keep (performAll s l w .site s .unforced)) (sym acts)
+          ∙ ap (λ (r : Run). mayKeep keep (r .site s .unforced)) (performed s t (effectsIn t h) w)
+          ∙ ap (λ (a : plain.Site). mayKeep keep (a .unforced)) (update-same s (λ _. siteAfter t (effectsIn t h) (w .site s)) (w .site))
 
-      pub keep-beyond : length (siteAfter t (effectsIn t h) (w .site s) .unforced) < keep → refusedBy 9 w ≡ seen (carry w (planIn s t x) (cutFrom cut keep))
+      pub keep-beyond : mayKeep keep (siteAfter t (effectsIn t h) (w .site s) .unforced) ≡ false → refusedBy 9 w ≡ seen (carry w (planIn s t x) (cutFrom cut keep))
       unfolding carry cutAt cutShort canCut every
       keep-beyond k =
-          rw (ne-eqb cut 255 n, le-leb cut (length (acting t es)) (omega (arith, fits, acting-length t es)), lt-leb keep (length (partly w (planIn s t x) cut .site s .unforced)) (omega (arith, k, left)))
+          rw (ne-eqb cut 255 n, le-leb cut (length (acting t es)) (omega (arith, fits, acting-length t es)), left, k)
           (sym (refuse-seen w 9))
 
-      pub carried-cut : keep ≤ length (siteAfter t (effectsIn t h) (w .site s) .unforced)
+      pub carried-cut : mayKeep keep (siteAfter t (effectsIn t h) (w .site s) .unforced) ≡ true
           → seen (carry w (planIn s t (record { effects = h; then = follows.Down keep })) none) ≡ seen (carry w (planIn s t x) (cutFrom cut keep))
       unfolding carry cutAt cutShort canCut every partly thenIn
       carried-cut k =
-          rw (ne-eqb cut 255 n, le-leb cut (length (acting t es)) (omega (arith, fits, acting-length t es)), le-leb keep (length (partly w (planIn s t x) cut .site s .unforced)) (omega (arith, k, left)))
+          let kept : mayKeep keep (performAll s (take cut (acting t es)) w .site s .unforced) ≡ true = (unfold partly in left) ∙ k in
+          rw (ne-eqb cut 255 n, le-leb cut (length (acting t es)) (omega (arith, fits, acting-length t es)), kept)
           (ap (λ (l : List Act). seen (record { answer = 0; site = s; acts = l; run = down s keep (performAll s l w) })) acts)
 
 pub up-here : (x : Site) (w : Run) (s : ℕ) → Here x w s → x .up ≡ w .site s .up
 unfolding siteFrom
 up-here x w s (rs, (n, own)) = ap (λ (a : plain.Site). a .up) own
 
-pub unforced-here : (x : Site) (w : Run) (s : ℕ) → Here x w s → length (w .site s .unforced) ≡ countOf x - stableOf x
-unforced-here x w s (rs, (n, own)) = ap (λ (a : plain.Site). length (a .unforced)) (sym own) ∙ unforced-length x rs n
+pub may-keep-here : (x : Site) (w : Run) (s keep : ℕ) (b : Bool) → Here x w s → ((rs : List Record) → length rs ≡ 24 → b ≡ mayKeep keep (siteFrom x rs .unforced))
+    → b ≡ mayKeep keep (w .site s .unforced)
+may-keep-here x w s keep b (rs, (n, own)) test = test rs n ∙ ap (λ (a : plain.Site). mayKeep keep (a .unforced)) own
 
--- the 24 records have room for none
 pub nothing-fits : (x : Site) (w : Run) (s t : ℕ) → Here x w s → Fits (effectsIn t noEffects) (w .site s)
 unfolding size siteFrom counted select
 nothing-fits x w s t (rs, (n, own)) =
@@ -238,20 +234,20 @@ module _ (w : Run) (s t : ℕ) where
   crash-down keep up = down-struck (crash s) crash-struck up (some (0, keep))
 
   module _ (keep : ℕ) (up : w .site s .up ≡ true) where
-    crashes : taken w (crash s) (some (0, keep)) ≡ seen (cutShort (leb keep (length (w .site s .unforced)) && true) w (settling s (λ x. x)) 0 keep)
+    crashes : taken w (crash s) (some (0, keep)) ≡ seen (cutShort (mayKeep keep (w .site s .unforced) && true) w (settling s (λ x. x)) 0 keep)
     unfolding plan carryPlan carry canCut every partly performAll
     crashes = not-refused w (crash s) (some (0, keep)) (rw up at crash-struck)
 
-    pub crash-beyond : length (w .site s .unforced) < keep → refusedBy 9 w ≡ taken w (crash s) (some (0, keep))
+    pub crash-beyond : mayKeep keep (w .site s .unforced) ≡ false → refusedBy 9 w ≡ taken w (crash s) (some (0, keep))
     unfolding cutShort
-    crash-beyond h = sym (crashes ∙ rw (lt-leb keep (length (w .site s .unforced)) h) (refuse-seen w 9))
+    crash-beyond h = sym (crashes ∙ rw h (refuse-seen w 9))
 
-    pub crash-stops : keep ≤ length (w .site s .unforced)
+    pub crash-stops : mayKeep keep (w .site s .unforced) ≡ true
         → seen (carry w (planIn s t (record { effects = noEffects; then = follows.Down keep })) none) ≡ taken w (crash s) (some (0, keep))
     unfolding cutShort carry partly performAll thenIn
     crash-stops h =
         ap (λ (l : List Act). seen (record { answer = 0; site = s; acts = l; run = down s keep (performAll s l w) })) (nothing-acts t)
-        ∙ sym (crashes ∙ rw (le-leb keep (length (w .site s .unforced)) h) refl)
+        ∙ sym (crashes ∙ rw h refl)
 
 -- ---- discard
 

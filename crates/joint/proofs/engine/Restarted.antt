@@ -6,11 +6,10 @@ use mathlib.Core.Bool.{Bool, true, false, not, _&&_, _||_, and-true}
 use mathlib.Core.List.{List, [], _∷_}
 use lib.ListN.{length, take}
 use lib.Seq.{take-all}
-use lib.Dec.{eqb, leb, ltb}
+use lib.Dec.{eqb, leb}
 use borrow.Author.Tests.{eqb-true, eqb-false, eq-eqb, ne-eqb, le-leb, lt-leb}
 use Rattle.codec.specs.Lists.{select, every, first}
-use Rattle.codec.specs.laws.Tests.{leb-ltb}
-use Rattle.joint.specs.State.{Run, Site, Transaction, Act, update, opened, started, stopped, forgotten, down, performAll}
+use Rattle.joint.specs.State.{Run, Site, Transaction, Act, mayKeep, update, opened, started, stopped, forgotten, down, performAll}
 use Rattle.joint.specs.Event.{restart, cutAt}
 use Rattle.joint.specs.Refusals.{refusals}
 use Rattle.joint.specs.Plan.{Plan, restartAll, transactions, plan}
@@ -18,6 +17,7 @@ use Rattle.joint.specs.Run.{Answer, isAppend, isForce, isSend, count, an
 use Rattle.joint.specs.Answers.{refusalNumber, Seen, seen}
 use Rattle.joint.specs.Inside.{taken, cutFrom, Resumption, resumed}
 use Rattle.joint.proofs.base.Lists.{each-take, select-length}
+use Rattle.joint.proofs.engine.InputEvents.{not-not}
 use Rattle.joint.proofs.engine.Placed.{update-own, update-twice, run-path}
 use Rattle.joint.proofs.engine.Restarts.{Quiet, unlogged, quiet-count, quiet-site, Restarts, restarts}
 
@@ -32,12 +32,12 @@ sent n = record { number = 0; records = 0; forces = 0; sends = n }
 update-here {ℓ} : {A : Type ℓ} (i : ℕ) (g : A → A) (f : ℕ → A) → update i (λ _. g (f i)) f ≡ update i g f
 update-here i g f = sym (update-twice i g (λ _. f i) f) ∙ ap (update i g) (update-own i f)
 
-can-cut : (m l k n : ℕ) → every (leb m l ∷ leb k n ∷ []) ≡ not (not (eqb (m - l) 0) || ltb n k)
+can-cut : (m l : ℕ) (k : Bool) → every (leb m l ∷ k ∷ []) ≡ not (not (eqb (m - l) 0) || not k)
 unfolding every
-can-cut m l k n = rw (leb-ltb k n) (go (eqb (m - l) 0) refl)
+can-cut m l k = go (eqb (m - l) 0) refl
   where
-    go : (b : Bool) → eqb (m - l) 0 ≡ b → (leb m l && (not (ltb n k) && true)) ≡ not (not b || ltb n k)
-    go true q = rw (le-leb m l (omega (arith, eqb-true (m - l) 0 q))) (and-true (not (ltb n k)))
+    go : (b : Bool) → eqb (m - l) 0 ≡ b → (leb m l && (k && true)) ≡ not (not b || not k)
+    go true q = rw (le-leb m l (omega (arith, eqb-true (m - l) 0 q))) (and-true k ∙ sym (not-not k))
     go false q = rw (lt-leb m l (omega (arith, eqb-false (m - l) 0 q))) refl
 
 module _ (x : Run) (s cut keep : ℕ) (a : Site) (e : a ≡ x .site s) where
@@ -104,25 +104,25 @@ module _ (x : Run) (s cut keep : ℕ) (a : Site) (e : a ≡ x .site s) where
         ∙ rw (eq-eqb cut 255 w) refl
         ∙ carried
 
-    -- it is cut: n unforced records are there, and the program's test is whether the cut is too far
-    module _ (w : cut ≡ 255 → ⊥) (n : ℕ) (u : length (a .unforced) ≡ n) where
-      cut-carried : (b : Bool) → (not (eqb (z .left) 0) || ltb n keep) ≡ b → Gives (seen (cutShort (not b) x p cut keep))
+    -- it is cut: n is whether the keep is allowed, and the program's test is whether the cut is too far
+    module _ (w : cut ≡ 255 → ⊥) (n : Bool) (u : n ≡ mayKeep keep (a .unforced)) where
+      cut-carried : (b : Bool) → (not (eqb (z .left) 0) || not n) ≡ b → Gives (seen (cutShort (not b) x p cut keep))
       unfolding resumed canCut partly cutAt carry
       cut-carried b t =
           let left : cut - length (p .acts) ≡ z .left = sym (ap (λ (z : Resumption). z .left) own) in
-          let kept : length (performAll (p .site) happen x .site (p .site) .unforced) ≡ n =
-          ap (λ (k : ℕ). length (performAll k happen x .site k .unforced)) (h .number)
-          ∙ ap (λ (f : ℕ → Site). length (f s .unforced)) (quiet-site s happen quiet x)
-          ∙ ap (λ (a : Site). length (a .unforced)) (sym e)
-          ∙ u in
-          let test = can-cut cut (length (p .acts)) keep _ ∙ ap₂ (λ (m k : ℕ). not (not (eqb m 0) || ltb k keep)) left kept ∙ ap not t in
+          let kept : mayKeep keep (performAll (p .site) happen x .site (p .site) .unforced) ≡ n =
+          ap (λ (k : ℕ). mayKeep keep (performAll k happen x .site k .unforced)) (h .number)
+          ∙ ap (λ (f : ℕ → Site). mayKeep keep (f s .unforced)) (quiet-site s happen quiet x)
+          ∙ ap (λ (a : Site). mayKeep keep (a .unforced)) (sym e)
+          ∙ sym u in
+          let test = can-cut cut (length (p .acts)) (mayKeep keep (performAll (p .site) happen x .site (p .site) .unforced)) ∙ ap₂ (λ (m : ℕ) (k : Bool). not (not (eqb m 0) || not k)) left kept ∙ ap not t in
           ap (λ (c : Bool). seen (cutShort c x p cut keep)) (sym test) ∙ rw (ne-eqb cut 255 w) refl ∙ carried
 
-      pub restart-too-far : (not (eqb (z .left) 0) || ltb n keep) ≡ true → (f : ℕ → Transaction) → f ≡ x .transaction → Gives (leaves x s (refusalNumber 9) a f)
+      pub restart-too-far : (not (eqb (z .left) 0) || not n) ≡ true → (f : ℕ → Transaction) → f ≡ x .transaction → Gives (leaves x s (refusalNumber 9) a f)
       unfolding cutShort
       restart-too-far t f q = unchanged 9 f q ∙ cut-carried true t
 
-      pub restart-cut : (not (eqb (z .left) 0) || ltb n keep) ≡ false → (b : Site) → b ≡ stopped keep a
+      pub restart-cut : (not (eqb (z .left) 0) || not n) ≡ false → (b : Site) → b ≡ stopped keep a
           → (f : ℕ → Transaction) → f ≡ (λ t. forgotten s (z .transaction t)) → Gives (leaves x s (sent (z .sends)) b f)
       unfolding resumed cutShort down partly
       restart-cut t b q f k =

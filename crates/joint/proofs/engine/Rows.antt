@@ -36,7 +36,7 @@ use Rattle.joint.specs.State.{holds, recordedCohort, update, withCoordin
 use Rattle.joint.specs.Plan as plan
 use Rattle.joint.specs.Plan.{Plan, acting, rowPlan, planned, step, restarting, trimmed, forgottenUnless}
 use Rattle.joint.specs.Answers.{partIn, transactionIn}
-use Rattle.joint.specs.Inside.{siteAfter, transactionAfter, thenIn, thenSite, thenTransaction, goesDown, drops, MayReceive}
+use Rattle.joint.specs.Inside.{siteAfter, transactionAfter, thenIn, thenSite, thenTransaction, goesDown, MayReceive}
 use Rattle.joint.specs.declared.transactions.Transaction.{Transaction}
 use Rattle.joint.specs.declared.rows.Then.{Then}
 use Rattle.joint.specs.declared.rows.Then.the-variants as follows
@@ -63,16 +63,6 @@ not-down (follows.Opened m c) k = refl
 not-down (follows.Discarded b) k = refl
 not-down (follows.Down keep) k = absurd (miss (0 ∷ 1 ∷ 2 ∷ 3 ∷ 4 ∷ 6 ∷ []) 5 tt k)
 not-down follows.Marked k = refl
-
-pub not-dropping : (th : Then) → OneOf (0 ∷ 1 ∷ 2 ∷ 3 ∷ 5 ∷ 6 ∷ []) (tagOf the-type th) → false ≡ drops th
-unfolding drops
-not-dropping follows.Same k = refl
-not-dropping (follows.Coordinator c out) k = refl
-not-dropping (follows.Participant c) k = refl
-not-dropping (follows.Opened m c) k = refl
-not-dropping (follows.Discarded b) k = absurd (miss (0 ∷ 1 ∷ 2 ∷ 3 ∷ 5 ∷ 6 ∷ []) 4 tt k)
-not-dropping (follows.Down keep) k = refl
-not-dropping follows.Marked k = refl
 
 pub kept-transaction : (s : ℕ) (th : Then) (x : plain.Transaction) → OneOf (0 ∷ 5 ∷ []) (tagOf the-type th) → x ≡ thenTransaction s th x
 unfolding thenTransaction

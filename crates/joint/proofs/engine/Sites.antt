@@ -1,14 +1,14 @@
 -- What a site's two counts and the records beside them stand for. No count is asked to be small: beyond the records there is nothing to take.
-use Prim.Native.Nat.{ℕ, zero, suc, _+_, _≤_, _<_, min}
+use Prim.Native.Nat.{ℕ, zero, suc, _+_, _-_, _/_, _^_, _<_}
 use mathlib.Core.Path.{_≡_, refl, sym, ap, _∙_}
 use mathlib.Core.Bool.{Bool, true, false, cond, _||_}
-use mathlib.Core.List.{List, [], _∷_, _++_, map}
+use mathlib.Core.List.{List, [], _∷_, _++_, map, append-nil}
 use native.Mathlib.Numerals.{add-one}
 use native.Mathlib.Omega.{arith}
-use borrow.Author.Tests.{ne-eqb, eqb-true, eqb-false, leb-true, leb-false}
+use borrow.Author.Tests.{ne-eqb, eqb-true, eqb-false, leb-true}
 use lib.ListN.{length, take, drop, set, length-take, length-drop, length-map, length-set}
 use lib.Dec.{eqb, leb}
-use lib.Seq.{take-add, take-take, take-all, take-set-le, take-suc-set, drop-set-add, set-out}
+use lib.Seq.{take-add, take-set-le, take-suc-set, drop-set-add, set-out}
 use Rattle.codec.specs.Records.{LogRecord}
 use Rattle.codec.specs.Answers.{recordIn}
 use Rattle.codec.specs.declared.record.Record.{Record}
@@ -19,6 +19,7 @@ use Rattle.joint.specs.State as plain
 use Rattle.joint.specs.Answers.{siteFrom}
 use Rattle.joint.specs.Inside.{size, stableOf, countOf, putAt, putRow, siteAfter, Fits}
 use Rattle.joint.specs.declared.sites.Site.{Site}
+use Rattle.joint.proofs.base.Survivors.{survivors-lost}
 use Rattle.joint.proofs.engine.Effects.{kind-none, kind-some}
 
 -- ---- lists
@@ -27,19 +28,6 @@ take-own : {A : Type 0} (n : ℕ) (l : List A) → take (length (take n l)) l �
 take-own zero l = refl
 take-own (suc n) [] = refl
 take-own {A} (suc n) (x ∷ l) = ap (λ (r : List A). x ∷ r) (take-own n l)
-
-take-min : {A : Type 0} (m n : ℕ) (l : List A) → take m (take n l) ≡ take (min m n) l
-take-min {A} m n l = go (leb m n) refl
-  where
-    go : (b : Bool) → leb m n ≡ b → take m (take n l) ≡ take (min m n) l
-    go true q =
-        let le : m ≤ n = leb-true m n q in
-        let e : min m n ≡ m = omega arith in
-        rw e (take-take m n l le)
-    go false q =
-        let lt : n < m = leb-false m n q in
-        let e : min m n ≡ n = omega arith in
-        rw e (take-all m (take n l) (simp length-take (omega arith)))
 
 pub map-set : {A B : Type 0} (f : A → B) (l : List A) (i : ℕ) (y : A) → map f (set l i y) ≡ set (map f l) i (f y)
 map-set f [] i y = refl
@@ -98,6 +86,15 @@ module _ (x : Site) (rs : List Record) where
     unfolding size
     log-counted = ap length joined ∙ simp (length-take, length-map, all)
 
+    pub unforced-counted : length (siteFrom x rs .unforced) ≡ countOf x - stableOf x
+    unfolding siteFrom
+    unforced-counted = simp (length-take, length-drop, length-map) (omega (arith, all))
+
+    -- whether each set bit stands for an unforced record
+    pub may-keep : (keep : ℕ) → eqb (keep / 2 ^ (countOf x - stableOf x)) 0 ≡ plain.mayKeep keep (siteFrom x rs .unforced)
+    unfolding plain.mayKeep
+    may-keep keep = rw unforced-counted refl
+
     pub stable-taken : take (stableOf x) (map recordIn rs) ≡ siteFrom x rs .stable
     unfolding siteFrom
     stable-taken = rw (← stable-counted) (take-own (x .stable) (map recordIn rs))
@@ -121,13 +118,10 @@ module _ (x : Site) (rs : List Record) where
   unfolding siteFrom plain.forced
   force-stands all = site-path (log-taken all) refl
 
-  pub stop-stands : (keep n : ℕ) → n ≡ min keep (x .unforced)
-      → plain.forced (siteFrom (record { up = false; stable = x .stable; unforced = n }) rs) ≡ plain.stopped keep (siteFrom x rs)
-  unfolding siteFrom plain.forced plain.stopped
-  stop-stands keep n e =
-      site-path
-      (ap (λ (r : List LogRecord). take (x .stable) (map recordIn rs) ++ r) (rw e (sym (take-min keep (x .unforced) (drop (x .stable) (map recordIn rs))))))
-      refl
+  -- no unforced record survives
+  pub stop-stands : siteFrom (record { up = false; stable = x .stable; unforced = 0 }) rs ≡ plain.stopped 0 (siteFrom x rs)
+  unfolding siteFrom plain.stopped
+  stop-stands = site-path (sym (rw survivors-lost (append-nil (take (x .stable) (map recordIn rs))))) refl
 
   -- a record of kind 0 is none; any other is the last of the log, and there was room
   module _ (k : Record) (all : length rs ≡ 24) (fits : Fits (effectOf k) (siteFrom x rs)) where

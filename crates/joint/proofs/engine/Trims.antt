@@ -40,7 +40,7 @@ module _ {ℓ} {A : Type ℓ} where
   without-length k xs h = simp (length-append, length-take, length-drop) (omega arith)
 
   -- two lists are split at m
-  split-same : {a b c d : List A} (m : ℕ) → a ++ b ≡ c ++ d → length a ≡ m → length c ≡ m → (a ≡ c) × (b ≡ d)
+  pub split-same : {a b c d : List A} (m : ℕ) → a ++ b ≡ c ++ d → length a ≡ m → length c ≡ m → (a ≡ c) × (b ≡ d)
   split-same {a} {b} {c} {d} m e p q =
       (sym (take-at a b m p) ∙ ap (take m) e ∙ take-at c d m q, sym (drop-at a b m p) ∙ ap (drop m) e ∙ drop-at c d m q)
 

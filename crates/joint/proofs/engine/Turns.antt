@@ -256,22 +256,20 @@ step-low (steps.Discard e) h = (h .1, h .0)
 step-low (steps.Crash e) h = (h, omega arith)
 step-low (steps.Mark e) h = (h .1, h .0)
 
--- ---- a restart: one site's counts and all transactions are stored, if it is accepted
+-- ---- a restart: one site with its records, and all transactions, are stored, if it is accepted
 
 module _ (r : Run) (f : Full r) (s : ℕ) (low : s ≤ 8) (d : Site) (e : Records) (c : Restarted) (ev : events.Event) (cut : Option (ℕ × ℕ))
     (promise : (x : plain.Run) → siteFrom (getD (r .sites) s d) (getD (r .records) s e .of) ≡ x .site s → transactionsIn (r .transactions) ≡ x .transaction
-    → restartedIn s x (getD (r .records) s e .of) c ≡ taken x ev cut) where
-  restarts : restartedIn s (runIn r) (getD (r .records) s noRecords .of) c ≡ taken (runIn r) ev cut
+    → restartedIn s x c ≡ taken x ev cut) where
+  restarts : restartedIn s (runIn r) c ≡ taken (runIn r) ev cut
   unfolding runIn
-  restarts =
-      ap (λ (y : Records). restartedIn s (runIn r) (y .of) c) (getD-within (r .records) s noRecords e (omega (arith, f .logs, low)))
-      ∙ promise (runIn r) (site-read r s d e (f .nine) (f .logs) low) refl
+  restarts = promise (runIn r) (site-read r s d e (f .nine) (f .logs) low) refl
 
   pub restart-stored : (forces : List ℕ)
-      → _≡_ {A = Seen} (record { answer = answerIn (c .answer); run = runIn (record { sites = set (r .sites) s (c .site); records = r .records; transactions = c .transactions; forces = forces }) }) (taken (runIn r) ev cut)
+      → _≡_ {A = Seen} (record { answer = answerIn (c .answer); run = runIn (record { sites = set (r .sites) s (c .log .site); records = set (r .records) s (c .log .records); transactions = c .transactions; forces = forces }) }) (taken (runIn r) ev cut)
   unfolding restartedIn runIn
   restart-stored forces =
-      (λ i. record { answer = answerIn (c .answer); run = record { site = counts-stored (r .sites) (r .records) s (c .site) (f .nine) low i; transaction = transactionsIn (c .transactions) } })
+      (λ i. record { answer = answerIn (c .answer); run = record { site = site-stored (r .sites) (r .records) s (c .log .site) (f .nine) low (c .log .records) (f .logs) i; transaction = transactionsIn (c .transactions) } })
       ∙ restarts
 
   pub restart-refused : OneOf (1 ∷ 2 ∷ 3 ∷ 4 ∷ 5 ∷ 6 ∷ 7 ∷ 8 ∷ 9 ∷ []) (tagOf the-type (c .answer)) → _≡_ {A = Seen} (record { answer = answerIn (c .answer); run = runIn r }) (taken (runIn r) ev cut)

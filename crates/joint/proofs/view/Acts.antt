@@ -15,7 +15,8 @@ use Rattle.joint.specs.State.{Run, Site, Transaction, Act, holds, record
 use Rattle.joint.specs.Run.{isForce}
 use Rattle.joint.specs.Safety.{Moment, moments, enters, sends, isEntry, isEntryAt, isVote}
 use Rattle.site.specs.laws.Lists.{select-append}
-use Rattle.joint.proofs.base.Lists.{among, select-take, any-append}
+use Rattle.joint.proofs.base.Lists.{any-append}
+use Rattle.joint.proofs.base.Survivors.{maskOf, select-survivors}
 use Rattle.joint.proofs.base.Updates.{update-at, update-keeps, update-same, update-other}
 use Rattle.joint.proofs.view.View.{siteView, withoutEntries, view, view-path, viewAt, viewPerform, viewEffects, viewDown}
 
@@ -34,10 +35,10 @@ forced-view : (t : ℕ) (x : Site) → siteView t (forced x) ≡ forced (siteVie
 unfolding siteView forced select
 forced-view t x = simp select-append
 
--- a crash keeps some first ones of the view's unforced records
-stopped-view : (t n : ℕ) (x : Site) → siteView t (stopped n x) ≡ stopped (among (ofTransaction t) n (x .unforced)) (siteView t x)
+-- a crash keeps, of the view's unforced records, those that its own bits name
+stopped-view : (t n : ℕ) (x : Site) → siteView t (stopped n x) ≡ stopped (maskOf (ofTransaction t) n (x .unforced)) (siteView t x)
 unfolding siteView stopped select
-stopped-view t n x = simp (select-append, select-take)
+stopped-view t n x = simp (select-append, select-survivors)
 
 -- the kinds of a transaction's records are those in its own part of the log
 pub holds-select : (t k : ℕ) (log : List LogRecord) → holds t k (select (ofTransaction t) log) ≡ holds t k log
@@ -203,7 +204,7 @@ forgotten-bare zero x = refl
 forgotten-bare (suc n) x = refl
 
 pub down-view : (t s n : ℕ) (ms : List Moment) (r : Run)
-    → view t ms (down s n r) ≡ viewDown s (among (ofTransaction t) n (r .site s .unforced)) (view t ms r)
+    → view t ms (down s n r) ≡ viewDown s (maskOf (ofTransaction t) n (r .site s .unforced)) (view t ms r)
 unfolding view down viewDown
 down-view t s n ms r =
     view-path (forgotten-bare s (r .transaction t)) (update-at (siteView t) (stopped n) _ s (r .site) (stopped-view t n (r .site s))) (λ p. refl) (λ z o. refl)

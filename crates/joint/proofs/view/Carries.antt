@@ -17,6 +17,7 @@ use Rattle.joint.specs.Run.{Result, partly, cutShort, carry, isForce}
 use Rattle.joint.specs.Safety.{Moment, moments}
 use Rattle.site.specs.laws.Lists.{select-append}
 use Rattle.joint.proofs.base.Lists.{Each, each-take, each-chosen, map-take, among, select-take}
+use Rattle.joint.proofs.base.Survivors.{maskOf}
 use Rattle.joint.proofs.view.View.{View, view, viewAt, viewPerform, viewEffects}
 use Rattle.joint.proofs.view.Turn.{Carried, whole, cutAfter, forces, crashes, Turns, still, turn}
 use Rattle.joint.proofs.view.Acts.{seen, effectsOf, seenEffects, acts-view, down-view}
@@ -101,4 +102,4 @@ module _ (bytes : List ℕ) (t : ℕ) (Out : ℕ → Type 0) (ms : List Moment) 
   cut-turns n k =
       h .turns ms _
       (rw (down-view, acts-view bytes r t (p .site) (take n (p .acts)) ms r, seen-take)
-      (cutAfter (among (seen t) n (p .acts)) (among (ofTransaction t) k (partly r p n .site (p .site) .unforced))))
+      (cutAfter (among (seen t) n (p .acts)) (maskOf (ofTransaction t) k (partly r p n .site (p .site) .unforced))))

@@ -97,6 +97,6 @@ unfoldable pub viewEffects : ℕ → ℕ → List Effect → View → View
 viewEffects s t [] v = v
 viewEffects s t (e ∷ es) v = viewEffects s t es (viewPerform s t e v)
 
--- site s goes down; n of the transaction's unforced records are kept
+-- site s goes down; of the transaction's unforced records those that the mask n names are kept
 unfoldable pub viewDown : ℕ → ℕ → View → View
 viewDown s n v = record { transaction = forgotten s (v .transaction); site = update s (stopped n) (v .site); voted = v .voted; entered = v .entered }

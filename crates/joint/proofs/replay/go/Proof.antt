@@ -16,7 +16,7 @@ use Rattle.joint.specs.declared.answers.Answer.the-variants as variants
 use Rattle.joint.proofs.engine.Arrays.{length-shown}
 use Rattle.joint.proofs.engine.Whole.{run-whole}
 use Rattle.joint.proofs.engine.Replays.{adds-none, ahead-start, ahead-ends}
-use Rattle.joint.proofs.engine.Turns.{Full, turned-refused, malformed-seen, parsed-seen, restart-stored, restart-refused, happens-seen, refused-change}
+use Rattle.joint.proofs.engine.Turns.{Full, whole-stored, turned-refused, malformed-seen, parsed-seen, restart-stored, restart-refused, happens-seen, refused-change}
 use Rattle.joint.proofs.engine.Refused.{refused-number}
 use Rattle.joint.proofs.replay.go.Statement.{statement}
 use Rattle.joint.proofs.replay.go.Tie as tie
@@ -83,26 +83,35 @@ element-write-run : tie.Need-element-write-run Inv-loop μ-loop
 element-write-run c = omega (arith, restart-low (restart-of c))
 
 element-set-from-changed : tie.Need-element-set-from-changed Inv-loop μ-loop
-element-set-from-changed c = omega (arith, restart-low (restart-of (c .before)))
+element-set-from-changed c = omega (arith, restart-low (restart-of (c .before .before)))
+
+mul-changed-2 : tie.Need-mul-changed-2 Inv-loop μ-loop
+mul-changed-2 c = search needs
+
+element-set-from-changed-2 : tie.Need-element-set-from-changed-2 Inv-loop μ-loop
+element-set-from-changed-2 c = omega (arith, restart-low (restart-of (c .before .before .before)))
+
+logged-restart : (c : tie.After-restart Inv-loop μ-loop) → length (c .restart .result .log .records .of) ≡ 24
+logged-restart c = search length-shown
 
 sized : (c : tie.After-restart Inv-loop μ-loop) → length (c .restart .result .transactions) ≡ 8
 sized c = search length-shown
 
 loop-less-2 : tie.Need-loop-less-2 Inv-loop μ-loop
-loop-less-2 c = let r = read-of (restart-of (c .before .before)) in let t = top r in omega (arith, r .before .before .before .before .loop-test .taken)
+loop-less-2 c = let r = read-of (restart-of (c .before .before .before .before)) in let t = top r in omega (arith, r .before .before .before .before .loop-test .taken)
 
 loop-again-2 : tie.Need-loop-again-2 Inv-loop μ-loop
 loop-again-2 c =
-    let a = c .before .before in
+    let a = c .before .before .before .before in
     let k = restart-of a in
     let r = read-of k in
     let e = restarting k in
     let s = restarted a .restart in
     next r (restart-answer a)
-    (record { sites = set (run r .sites) (e .site) (s .result .site); records = run r .records; transactions = s .result .transactions; forces = restart-counted a }) _
-    (record { nine = length-set (run r .sites) (e .site) _ ∙ full r .nine; logs = full r .logs; whole = full r .whole; eight = sized (restarted a); counters = length-set (run r .forces) (e .site) _ ∙ full r .counters })
+    (record { sites = set (run r .sites) (e .site) (s .result .log .site); records = set (run r .records) (e .site) (s .result .log .records); transactions = s .result .transactions; forces = restart-counted a }) _
+    (record { nine = length-set (run r .sites) (e .site) _ ∙ full r .nine; logs = length-set (run r .records) (e .site) _ ∙ full r .logs; whole = whole-stored (run r .records) (e .site) _ (full r .logs) (restart-low k) (logged-restart (restarted a)) (full r .whole); eight = sized (restarted a); counters = length-set (run r .forces) (e .site) _ ∙ full r .counters })
     (λ _. restart-turned a _ refl (restart-stored (run r) (full r) (e .site) (restart-low k) _ _ _ _ _ (s .ensures) _ ∙ parsed-seen (w r) (x r) _ (restart-parsed k)))
-    (rw (accepted a) at (c .before .before .before .before .before .before .before .before .before .store2 .ensures))
+    (rw (accepted a) at (c .before .before .before .before .before .before .before .before .before .before .before .store2 .ensures))
 
 loop-again-3 : tie.Need-loop-again-3 Inv-loop μ-loop
 loop-again-3 c =
@@ -166,8 +175,8 @@ cast-settle c = record { fits = omega (arith, low (taking (c .before))) }
 settle-requires : tie.Need-settle-requires Inv-loop μ-loop
 settle-requires c κs = omega (arith, low (taking (c .before)))
 
-mul-t97 : tie.Need-mul-t97 Inv-loop μ-loop
-mul-t97 c = record { fits = omega (arith, few (came c)) }
+mul-t101 : tie.Need-mul-t101 Inv-loop μ-loop
+mul-t101 c = record { fits = omega (arith, few (came c)) }
 
 element-set-from-run : tie.Need-element-set-from-run Inv-loop μ-loop
 element-set-from-run c = omega (arith, few (came c))
@@ -181,23 +190,23 @@ element-copy-out-records-3 c = omega (arith, low (came (c .before .before)))
 cast-after-2 : tie.Need-cast-after-2 Inv-loop μ-loop
 cast-after-2 c = record { fits = omega (arith, few (came (c .before .before .before))) }
 
-mul-changed-2 : tie.Need-mul-changed-2 Inv-loop μ-loop
-mul-changed-2 c = record { fits = omega (arith, low (came (c .before .before .before .before .before))) }
-
-element-set-from-changed-2 : tie.Need-element-set-from-changed-2 Inv-loop μ-loop
-element-set-from-changed-2 c = omega (arith, low (came (c .before .before .before .before .before)))
-
 mul-changed-3 : tie.Need-mul-changed-3 Inv-loop μ-loop
-mul-changed-3 c = record { fits = omega (arith, low (came (c .before .before .before .before .before .before))) }
+mul-changed-3 c = record { fits = omega (arith, low (came (c .before .before .before .before .before))) }
 
 element-set-from-changed-3 : tie.Need-element-set-from-changed-3 Inv-loop μ-loop
-element-set-from-changed-3 c = omega (arith, low (came (c .before .before .before .before .before .before)))
+element-set-from-changed-3 c = omega (arith, low (came (c .before .before .before .before .before)))
+
+mul-changed-4 : tie.Need-mul-changed-4 Inv-loop μ-loop
+mul-changed-4 c = record { fits = omega (arith, low (came (c .before .before .before .before .before .before))) }
+
+element-set-from-changed-4 : tie.Need-element-set-from-changed-4 Inv-loop μ-loop
+element-set-from-changed-4 c = omega (arith, low (came (c .before .before .before .before .before .before)))
 
 settle-requires-2 : tie.Need-settle-requires-2 Inv-loop μ-loop
 settle-requires-2 c κs = sym (c .before .writes .ensures) ∙ c .if2 .left
 
-mul-t119 : tie.Need-mul-t119 Inv-loop μ-loop
-mul-t119 c = record { fits = omega (arith, low (came (c .before .before .before))) }
+mul-t123 : tie.Need-mul-t123 Inv-loop μ-loop
+mul-t123 c = record { fits = omega (arith, low (came (c .before .before .before))) }
 
 element-set-from-run-2 : tie.Need-element-set-from-run-2 Inv-loop μ-loop
 element-set-from-run-2 c = omega (arith, low (came (c .before .before .before)))
@@ -282,6 +291,8 @@ go-spec =
     element-write-run
     (λ c. search needs)
     element-set-from-changed
+    mul-changed-2
+    element-set-from-changed-2
     loop-less-2
     loop-again-2
     (λ c. search needs)
@@ -325,19 +336,19 @@ go-spec =
     after-requires
     cast-settle
     settle-requires
-    mul-t97
+    mul-t101
     element-set-from-run
     (λ c κs. tt)
     mul-records-3
     element-copy-out-records-3
     cast-after-2
     (λ c κs. tt)
-    mul-changed-2
-    element-set-from-changed-2
     mul-changed-3
     element-set-from-changed-3
+    mul-changed-4
+    element-set-from-changed-4
     settle-requires-2
-    mul-t119
+    mul-t123
     element-set-from-run-2
     (λ c κs. tt)
     forget-all-requires

@@ -11,7 +11,6 @@ use Rattle.joint.specs.Answers.{siteFrom, transactionsIn, answerIn}
 use Rattle.joint.specs.Inside.{resumedIn, resumed, restartedIn}
 use Rattle.joint.proofs.engine.Arrays.{length-shown}
 use Rattle.joint.proofs.engine.Sites.{stable-taken}
-use Rattle.joint.proofs.engine.Changes.{unforced-length}
 use Rattle.joint.proofs.engine.Restarted.{restart-up, restart-whole, restart-too-far, restart-cut}
 use Rattle.joint.proofs.restarts.restart.Statement.{statement}
 use Rattle.joint.proofs.restarts.restart.Tie as tie
@@ -47,21 +46,21 @@ returns-2 c x e f =
 returns-3 : tie.Need-returns-3
 unfolding restartedIn answerIn resumedIn siteFrom
 returns-3 c x e f =
-    let u = c .before .before in
+    let u = c .before in
     let g = u .before .before in
     let d = g .before .before .before in
     restart-too-far x _ _ _ _ e (d .before .before .before .if1 .left) _ (resumption d x e f) (g .if2 .left)
-    (u .unforced-count .result) (unforced-length (start d .args .site) (records d) (size d) ∙ sym (u .unforced-count .ensures)) (c .if3 .taken) _ f
+    (u .may-keep .result) (u .may-keep .ensures (records d) (size d)) (c .if3 .taken) _ f
 
 returns-4 : tie.Need-returns-4
 unfolding restartedIn answerIn resumedIn siteFrom
 returns-4 c x e f =
     let w = c .before .before in
-    let u = w .before .before .before in
+    let u = w .before .before in
     let g = u .before .before in
     let d = g .before .before .before in
     restart-cut x _ _ _ _ e (d .before .before .before .if1 .left) _ (resumption d x e f) (g .if2 .left)
-    (u .unforced-count .result) (unforced-length (start d .args .site) (records d) (size d) ∙ sym (u .unforced-count .ensures)) (w .before .if3 .left) _ (w .stop .ensures (records d) (size d)) _ (c .forget-all .ensures)
+    (u .may-keep .result) (u .may-keep .ensures (records d) (size d)) (w .before .if3 .left) _ (w .stop .ensures) _ (c .forget-all .ensures)
 
 pub restart-spec : {M : Type 1} → statement M
 restart-spec =
@@ -73,10 +72,9 @@ restart-spec =
     (λ c κs. search needs)
     (λ c κs. tt)
     returns-2
-    (λ c κs. tt)
-    (λ c. search needs)
+    (λ c κs. search needs)
     returns-3
-    (λ c κs. tt)
+    (λ c κs. search needs)
     (λ c. search needs)
     (λ c κs. search needs)
     returns-4)

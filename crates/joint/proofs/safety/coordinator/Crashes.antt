@@ -1,4 +1,4 @@
--- The coordinator loses power: from each standing, in the middle of a row too, with each keep.
+-- The coordinator loses power: from each standing, in the middle of a row too, with each keep. At most one of the transaction's records is unforced.
 use Prim.Native.Nat.{ℕ, zero, suc}
 use mathlib.Core.Path.{_≡_, refl}
 use mathlib.Core.Bool.{Bool, true, false, not, _&&_}
@@ -13,12 +13,12 @@ use Rattle.joint.specs.State.{unknownPart, stopped, withCoordinator, wit
 use Rattle.joint.proofs.base.Booleans.{or-left, not-true, mp}
 use Rattle.joint.proofs.view.View.{View, viewAt, viewSettle, viewDown}
 use Rattle.joint.proofs.safety.Tables.{has, done}
-use Rattle.joint.proofs.safety.Invariant.{Log, l0, l1, kindsIn, classOf, resumed, waiting, resting, down, Standing, never, initial, collecting, decided, logFits, properLog, awaitsCommit, initLog, between, siteWith, sentIn, Mid, PhaseAs, Inv, cohortOf}
+use Rattle.joint.proofs.safety.Invariant.{Log, l0, l1, kindsIn, classOf, resumed, waiting, resting, down, Standing, never, initial, collecting, decided, logFits, properLog, awaitsCommit, initLog, between, recordFor, siteWith, sentIn, Mid, PhaseAs, Inv, cohortOf}
 use Rattle.joint.proofs.safety.coordinator.Logs.{withEnd, commitLog, waiting-down, resting-down, closed-fits, closed-kinds, abort-unwritten, closed-has, closed-proper, may-close, abort-down, abort-resumed, commit-down, commit-resumed, commit-has, commit-kinds, initial-proper, commit-proper, none-proper, first-proper}
 use Rattle.joint.proofs.safety.coordinator.Steps.{From, Shift, shift-keeps, standsAs, stand, forget-mid, from-same, from-none, same-votes, abort-votes, no-votes}
 use Rattle.joint.proofs.safety.coordinator.Ways.{way-commit, way-lost, way-done, way-self, way-down}
 use Rattle.codec.specs.laws.Tests.{of-true}
-use Rattle.joint.proofs.base.Lists.{take-none}
+use Rattle.joint.proofs.base.Survivors.{keepsFirst, survivors-none, survivors-one}
 
 -- ---- what a crash or a row leads to
 
@@ -31,18 +31,19 @@ pub record Next (t : ℕ) (h : Standing) (w : View) : Type 0 where
 -- ---- logs
 
 module _ (g : Cohort) (out t : ℕ) (u : Bool) where
-  -- nothing is unforced, or nothing is kept
+  -- nothing is unforced; the one unforced record is lost, or kept
   stopped-none : (k : ℕ) (ks : List ℕ) → stopped k (siteWith g out t 0 u ks []) ≡ siteWith g out t 0 false ks []
   unfolding stopped
-  stopped-none k ks = rw (take-none k, append-nil) refl
+  stopped-none k ks = rw (survivors-none k, append-nil) refl
 
-  stopped-lost : (ks js : List ℕ) → stopped 0 (siteWith g out t 0 u ks js) ≡ siteWith g out t 0 false ks []
+  stopped-lost : (k : ℕ) → keepsFirst k ≡ false → (ks : List ℕ) (j : ℕ) → stopped k (siteWith g out t 0 u ks (j ∷ [])) ≡ siteWith g out t 0 false ks []
   unfolding stopped
-  stopped-lost ks js = rw append-nil refl
+  stopped-lost k q ks j = rw (survivors-one k (recordFor g out t 0 j) false q, append-nil) refl
 
-  stopped-kept : (k : ℕ) (ks ms : List ℕ) (j : ℕ) → ms ≡ ks ++ (j ∷ []) → stopped (suc k) (siteWith g out t 0 u ks (j ∷ [])) ≡ siteWith g out t 0 false ms []
+  stopped-kept : (k : ℕ) → keepsFirst k ≡ true → (ks ms : List ℕ) (j : ℕ) → ms ≡ ks ++ (j ∷ [])
+      → stopped k (siteWith g out t 0 u ks (j ∷ [])) ≡ siteWith g out t 0 false ms []
   unfolding stopped
-  stopped-kept k ks ms j e = rw (e, map-append, take-none k) refl
+  stopped-kept k q ks ms j e = rw (e, map-append, survivors-one k (recordFor g out t 0 j) true q) refl
 
 module _ (t : ℕ) (v : View) where
   abbrev i : Bool
@@ -147,23 +148,31 @@ module _ (t : ℕ) (v : View) where
       never false} mid k (record { move = record { never = refl; fit = tt; proper = tt; sets = tt; remains = tt; votes = no-votes refl (λ n m c. c); passing = λ n m. tt }; from = λ h0. from-none h0 (λ o b. b) (λ b. absurd b) (λ n k. k) }) (stopped-none
       (cohortOf v) 0 t u k []) refl tt
   crash-next (initial false) mid k = lost mid k (from-initial false l0 mid tt (none-proper i (a 0))) (stopped-none (cohortOf v) 0 t true k []) refl tt
-  crash-next (initial true) mid zero = lost mid 0 (from-initial true l0 mid tt (none-proper i (a 0))) (stopped-lost (cohortOf v) 0 t true [] (1 ∷ [])) refl tt
-  crash-next (initial true) mid (suc k) =
-      lost mid (suc k) (from-initial true l1 mid (unfold sameOutcome in tt) (first-proper i (a 0) (mid .sound .fit)))
-      (stopped-kept (cohortOf v) 0 t true k [] (1 ∷ []) 1 refl) refl tt
+  crash-next (initial true) mid k = go (keepsFirst k) refl
+    where
+      go : (b : Bool) → keepsFirst k ≡ b → Next t (initial true) (viewDown 0 k v)
+      go false q = lost mid k (from-initial true l0 mid tt (none-proper i (a 0))) (stopped-lost (cohortOf v) 0 t true k q [] 1) refl tt
+      go true q =
+          lost mid k (from-initial true l1 mid (unfold sameOutcome in tt) (first-proper i (a 0) (mid .sound .fit)))
+          (stopped-kept (cohortOf v) 0 t true k q [] (1 ∷ []) 1 refl) refl tt
   crash-next (collecting w out false) mid k = lost mid k (from-collecting w out false mid) (stopped-none (cohortOf v) out t true k (kindsIn (initLog i))) refl tt
-  crash-next (collecting w out true) mid zero =
-      lost mid 0 (from-collecting w out true mid) (stopped-lost (cohortOf v) out t true (kindsIn (initLog i)) (2 ∷ [])) refl tt
-  crash-next (collecting w out true) mid (suc k) =
-      lost mid (suc k) (from-marked w out mid) (stopped-kept (cohortOf v) out t true k (kindsIn (initLog i)) (kindsIn (commitLog i)) 2 (commit-kinds i)) refl tt
+  crash-next (collecting w out true) mid k = go (keepsFirst k) refl
+    where
+      go : (b : Bool) → keepsFirst k ≡ b → Next t (collecting w out true) (viewDown 0 k v)
+      go false q = lost mid k (from-collecting w out true mid) (stopped-lost (cohortOf v) out t true k q (kindsIn (initLog i)) 2) refl tt
+      go true q =
+          lost mid k (from-marked w out mid) (stopped-kept (cohortOf v) out t true k q (kindsIn (initLog i)) (kindsIn (commitLog i)) 2 (commit-kinds i)) refl tt
   crash-next (decided o out (waiting w) l) mid k = lost mid k (waits o out w l mid) (stopped-none (cohortOf v) out t true k (kindsIn l)) refl tt
   crash-next (decided o out (resting false) l) mid k =
       lost mid k (rests o out false l l mid (resting-down i o l false (mid .sound .fit)) (mid .sound .proper) (λ x. x)) (stopped-none (cohortOf v) out t true k (kindsIn l)) refl tt
-  crash-next (decided o out (resting true) l) mid zero =
-      lost mid 0 (rests o out true l l mid (resting-down i o l true (mid .sound .fit)) (mid .sound .proper) (λ x. x)) (stopped-lost (cohortOf v) out t true (kindsIn l) (endRecord o ∷ [])) refl tt
-  crash-next (decided o out (resting true) l) mid (suc k) =
-      lost mid (suc k) (rests o out true l (withEnd l) mid (resting-down i o (withEnd l) false (closed-fits i o l (mid .sound .fit))) (closed-proper i (a out) o l (mid .sound .fit) (may-close (cohortOf v) o out l (mid .sound .sets)) (mid .sound .proper)) (closed-has l))
-      (stopped-kept (cohortOf v) out t true k (kindsIn l) (kindsIn (withEnd l)) (endRecord o) (closed-kinds i o l (mid .sound .fit))) refl tt
+  crash-next (decided o out (resting true) l) mid k = go (keepsFirst k) refl
+    where
+      go : (b : Bool) → keepsFirst k ≡ b → Next t (decided o out (resting true) l) (viewDown 0 k v)
+      go false q =
+          lost mid k (rests o out true l l mid (resting-down i o l true (mid .sound .fit)) (mid .sound .proper) (λ x. x)) (stopped-lost (cohortOf v) out t true k q (kindsIn l) (endRecord o)) refl tt
+      go true q =
+          lost mid k (rests o out true l (withEnd l) mid (resting-down i o (withEnd l) false (closed-fits i o l (mid .sound .fit))) (closed-proper i (a out) o l (mid .sound .fit) (may-close (cohortOf v) o out l (mid .sound .sets)) (mid .sound .proper)) (closed-has l))
+          (stopped-kept (cohortOf v) out t true k q (kindsIn l) (kindsIn (withEnd l)) (endRecord o) (closed-kinds i o l (mid .sound .fit))) refl tt
   crash-next (decided o out down l) mid k =
       lost {h′ =
       decided o out down l} mid k (record { move = record { never = refl; fit = mid .sound .fit; proper = mid .sound .proper; sets = tt; remains = mid .sound .remains; votes = same-votes down l mid; passing = λ n m. way-self v n (done o (not (resumed (classOf l)))) }; from = λ h0 f. f }) (stopped-none

@@ -4,7 +4,7 @@ use mathlib.Core.Path.{_≡_, refl, sym, ap, ap₂, subst, _∙_, fun-ext}
 use mathlib.Core.Logic.{_≢_}
 use mathlib.Core.Bool.{Bool, true, false, not, _&&_, _||_, and-true, or-false, or-assoc, or-comm}
 use mathlib.Core.List.{List, [], _∷_, _++_, map, map-append}
-use lib.ListN.{take, drop}
+use lib.ListN.{drop}
 use lib.Dec.{T, eqb, eqb·suc-zero}
 use borrow.Author.Tests.{eq-eqb, ne-eqb}
 use Rattle.codec.specs.Records.{LogRecord}
@@ -12,14 +12,15 @@ use Rattle.site.specs.Presumption.{Outcome, sameOutcome}
 use Rattle.site.specs.Cohort.{Cohort}
 use Rattle.site.specs.Step.{Message, voteYes, messageKind, Effect, append, force, enter, send}
 use Rattle.site.specs.Participant.{ParticipantPhase}
-use Rattle.joint.specs.State.{Site, holds, appended, forced, stopped, started, withSent, withParticipant, forgotten, withCoordinator}
+use Rattle.joint.specs.State.{Site, holds, appended, forced, survivors, stopped, started, withSent, withParticipant, forgotten, withCoordinator}
 use Rattle.joint.specs.Safety.{sends}
 use Rattle.joint.proofs.base.Booleans.{or-right}
 use Rattle.joint.proofs.base.Updates.{update-same, update-other}
 use Rattle.joint.proofs.view.View.{View, viewAt, viewSettle, viewPerform, viewEffects, viewDown}
 use Rattle.joint.proofs.view.Turn.{viewStart, viewDiscard, viewForget, trimmedView, noRecord, isNil}
 use Rattle.joint.proofs.safety.Tables.{has}
-use Rattle.joint.proofs.base.Lists.{Each, map-take, drop-map}
+use Rattle.joint.proofs.base.Lists.{Each, drop-map}
+use Rattle.joint.proofs.base.Survivors.{map-survivors}
 use Rattle.joint.proofs.safety.Invariant.{fieldsAt, recordFor, siteWith, sentIn}
 use Rattle.joint.proofs.safety.Holds.{holds-at}
 use Rattle.joint.proofs.safety.participant.Rows.{Part, moved, effect, effects, halted, settled, woken, dropped, phaseLeft}
@@ -219,12 +220,12 @@ module _ (t n : ℕ) (v : View) where
   written ks = map (recordFor (v .transaction .cohort) 0 t (suc n)) ks
 
   pub reach-down : (k : ℕ) {y : Part} {w : View} → Reached t (suc n) v y w
-      → Reached t (suc n) v (halted (take k (y .unforced)) y) (viewDown (suc n) k w)
+      → Reached t (suc n) v (halted (survivors k (y .unforced)) y) (viewDown (suc n) k w)
   unfolding viewDown viewAt viewSettle forgotten stopped withCoordinator withParticipant
   reach-down k {y} r =
       reach-site t (suc n) v (stopped k) false _ []
       (ap (λ (l : List LogRecord). record { up = false; stable = l; unforced = [] })
-      (ap (λ (l : List LogRecord). written (y .stable) ++ l) (sym (map-take _ k (y .unforced))) ∙ sym (map-append _ (y .stable) (take k (y .unforced)))))
+      (ap (λ (l : List LogRecord). written (y .stable) ++ l) (sym (map-survivors _ k (y .unforced))) ∙ sym (map-append _ (y .stable) (survivors k (y .unforced)))))
       (reach-phase t (suc n) v ParticipantPhase.unknown r)
 
   pub reach-started : {y : Part} {w : View} → Reached t (suc n) v y w → Reached t (suc n) v (woken (y .phase) y) (viewAt (suc n) started w)

@@ -22,7 +22,8 @@ use Rattle.joint.proofs.view.View.{View, viewAt, viewSettle, viewDown}
 use Rattle.joint.proofs.view.Turn.{Carried, Given, Own, Up, viewDiscard, viewStart}
 use Rattle.joint.proofs.safety.Tables.{Status, working, prepared, gone, half, lone, shut, off, offVoted, offShut, phaseOf, Stage, isUp, stableKinds, trail, Fine}
 use Rattle.joint.proofs.safety.Sets.{empty-none, belongs}
-use Rattle.joint.proofs.base.Lists.{each-append, take-none}
+use Rattle.joint.proofs.base.Lists.{each-append}
+use Rattle.joint.proofs.base.Survivors.{survivors-none}
 use Rattle.joint.proofs.safety.Invariant.{Standing, recordFor, stageOf, sentIn, Place, Here, here, Inv}
 use Rattle.joint.proofs.safety.Holds.{holds-at}
 use Rattle.joint.proofs.safety.participant.Rows.{ofStatus, settled, woken, dropped, heard, lands, rowTest, onRow, step-at, restart-at, force-at, crash-at, discard-at, mark-at}
@@ -212,7 +213,7 @@ module _ (t : ℕ) (h : Standing) (v : View) (inv : Inv t h v) where
     where
       go : (b : Bool) → Moves n (viewDown (suc n) k v) b
       go true e x = member-after timer x tt (crash-at _ (v .transaction .marked (suc n)) (x .status) k) (reach-down t n v k (from-member x))
-      go false e x = stranger-after (take-none k) x (reach-down t n v k (from-stranger x))
+      go false e x = stranger-after (survivors-none k) x (reach-down t n v k (from-stranger x))
 
   pub start-kept : (n : ℕ) → empty (v .transaction .cohort .members) ≡ true → Inv t h (viewAt (suc n) started v)
   start-kept n u = either n go

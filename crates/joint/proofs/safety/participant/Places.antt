@@ -20,7 +20,8 @@ use Rattle.joint.proofs.view.Turn.{Carried, whole, cutAfter, viewStart}
 use Rattle.joint.proofs.safety.Tables.{Status, isUp, stableKinds, unforcedKinds, Stage, fits, may, mayEnter, trail, Fine}
 use Rattle.joint.proofs.safety.Finite.{allMessage, at-message, allOutcome, at-outcome}
 use Rattle.joint.proofs.safety.Sets.{belongs}
-use Rattle.joint.proofs.base.Lists.{each-take, take-none}
+use Rattle.joint.proofs.base.Lists.{each-take}
+use Rattle.joint.proofs.base.Survivors.{survivors-none}
 use Rattle.joint.proofs.safety.Invariant.{Standing, stageOf, siteWith, sentIn, Place, Edge, Here, here, PhaseAs, Inv}
 use Rattle.joint.proofs.safety.participant.Rows.{Part, still, ofStatus, heard, lands, rowTest, Landed, landed, row-whole, row-cut}
 use Rattle.joint.proofs.safety.participant.Local.{Local, local, Elsewhere, elsewhere-none, Reached, AllProper, reach-effects, reach-down, reach-woken}
@@ -235,5 +236,5 @@ module _ {t n : ℕ} {v : View} where
       → Elsewhere (suc n) v w × Here false t m n w
   unfolding viewEffects
   stranger-carried x whole = stranger-after refl x (reach-woken t n v ParticipantPhase.unknown (from-stranger x))
-  stranger-carried x (cutAfter zero b) = stranger-after (take-none b) x (reach-down t n v b (from-stranger x))
-  stranger-carried x (cutAfter (suc a) b) = stranger-after (take-none b) x (reach-down t n v b (from-stranger x))
+  stranger-carried x (cutAfter zero b) = stranger-after (survivors-none b) x (reach-down t n v b (from-stranger x))
+  stranger-carried x (cutAfter (suc a) b) = stranger-after (survivors-none b) x (reach-down t n v b (from-stranger x))

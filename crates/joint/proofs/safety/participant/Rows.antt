@@ -1,7 +1,7 @@
 -- One participant, by the kinds of its records: all that happens at it keeps the tables. By computation, over the rows of the step themselves.
-use Prim.Native.Nat.{ℕ, zero, suc}
+use Prim.Native.Nat.{ℕ, zero, suc, _/_}
 use mathlib.Core.Path.{_≡_, refl, sym, ap, _∙_}
-use mathlib.Core.Bool.{Bool, true, false, not, _&&_, _||_}
+use mathlib.Core.Bool.{Bool, true, false, cond, not, _&&_, _||_}
 use mathlib.Core.List.{List, [], _∷_, _++_, map}
 use mathlib.Core.Option.{Option, none, some}
 use lib.ListN.{take, drop}
@@ -16,12 +16,14 @@ use Rattle.site.specs.Cohort.{Cohort}
 use Rattle.site.specs.Step.{Message, prepare, voteYes, readOnly, messageKind, Input, begin, timer, received, Effect, append, force, enter, send, Row}
 use Rattle.site.specs.Participant.{ParticipantPhase, participantStep, participantRestart}
 use Rattle.site.specs.Numbers.{participantPhase, participantFrom}
+use Rattle.joint.specs.State.{survivors}
 use Rattle.joint.specs.Plan.{closes, newest, closed}
 use Rattle.joint.proofs.base.Booleans.{_⇒_, mp}
 use Rattle.joint.proofs.safety.Tables.{Status, working, prepared, gone, half, lone, shut, off, offVoted, offShut, isUp, phaseOf, stableKinds, unforcedKinds, has, Stage, fits, may, mayEnter, trail}
 use Rattle.joint.proofs.safety.Finite.{allBool, at-bool, allOutcome, allPresumption, at-presumption, allStatus, at-status, allStage, at-stage, allMessage, at-message}
 use Rattle.joint.proofs.safety.Invariant.{recordFor}
 use Rattle.joint.proofs.base.Lists.{any-found}
+use Rattle.joint.proofs.base.Survivors.{keepsFirst}
 
 -- ---- a participant, by kinds
 
@@ -109,6 +111,21 @@ at-first f [] h (suc m) = h
 at-first f (x ∷ xs) h zero = and-left (f []) _ h
 at-first f (x ∷ xs) h (suc m) = at-first (λ l. f (x ∷ l)) xs (and-right (f []) _ h) m
 
+-- f passes at whatever of a list survives
+abbrev allSurvivors {ℓ} : {A : Type ℓ} → (List A → Bool) → List A → Bool
+allSurvivors f [] = f []
+allSurvivors f (x ∷ xs) = allSurvivors f xs && allSurvivors (λ l. f (x ∷ l)) xs
+
+at-survivors {ℓ} : {A : Type ℓ} (f : List A → Bool) (xs : List A) → T (allSurvivors f xs) → (keep : ℕ) → T (f (survivors keep xs))
+unfolding survivors
+at-survivors f [] h keep = h
+at-survivors f (x ∷ xs) h keep =
+    go (keepsFirst keep) (at-survivors (λ l. f (x ∷ l)) xs (and-right (allSurvivors f xs) _ h) (keep / 2)) (at-survivors f xs (and-left (allSurvivors f xs) _ h) (keep / 2))
+  where
+    go : (b : Bool) → T (f (x ∷ survivors (keep / 2) xs)) → T (f (survivors (keep / 2) xs)) → T (f (cond b (x ∷ survivors (keep / 2) xs) (survivors (keep / 2) xs)))
+    go true kept lost = kept
+    go false kept lost = lost
+
 abbrev allStatuses : List Status
 allStatuses =
     (working ∷ prepared ∷ gone ∷ lone ∷ off ∷ offVoted ∷ half commit ∷ half abort ∷ [])
@@ -155,9 +172,9 @@ lands c k i s y =
     && (y .sent voteYes ⇒ y .voted)
     && any (λ z. isAs z y && keepsAll c k i s y z) allStatuses
 
--- the power is cut: any first part of what is unforced is kept
+-- the power is cut: whatever of what is unforced survives
 abbrev cutTest : Presumption → Bool → Input → Status → Part → Bool
-cutTest c k i s y = allFirst (λ ks. lands c k i s (halted ks y)) (y .unforced)
+cutTest c k i s y = allSurvivors (λ ks. lands c k i s (halted ks y)) (y .unforced)
 
 -- a row's effects, all and then f, or some and then a cut
 abbrev pub rowTest : Presumption → Bool → Input → Status → (ParticipantPhase → Part → Part) → Row ParticipantPhase → Bool
@@ -165,8 +182,8 @@ rowTest c k i s f r =
     lands c k i s (f (r .phase) (effects (r .effects) (ofStatus s)))
     && allFirst (λ es. cutTest c k i s (effects es (ofStatus s))) (r .effects)
 
-cut-at : (c : Presumption) (k : Bool) (i : Input) (s : Status) (y : Part) → T (cutTest c k i s y) → (b : ℕ) → T (lands c k i s (halted (take b (y .unforced)) y))
-cut-at c k i s y h b = at-first (λ ks. lands c k i s (halted ks y)) (y .unforced) h b
+cut-at : (c : Presumption) (k : Bool) (i : Input) (s : Status) (y : Part) → T (cutTest c k i s y) → (keep : ℕ) → T (lands c k i s (halted (survivors keep (y .unforced)) y))
+cut-at c k i s y = at-survivors (λ ks. lands c k i s (halted ks y)) (y .unforced)
 
 module _ (c : Presumption) (k : Bool) (i : Input) (s : Status) (f : ParticipantPhase → Part → Part) (r : Row ParticipantPhase) (h : T (rowTest c k i s f r)) where
   abbrev after : ℕ → Part
@@ -175,7 +192,7 @@ module _ (c : Presumption) (k : Bool) (i : Input) (s : Status) (f : ParticipantP
   pub row-whole : T (lands c k i s (f (r .phase) (effects (r .effects) (ofStatus s))))
   row-whole = and-left (lands c k i s (f (r .phase) (effects (r .effects) (ofStatus s)))) _ h
 
-  pub row-cut : (a b : ℕ) → T (lands c k i s (halted (take b (after a .unforced)) (after a)))
+  pub row-cut : (a b : ℕ) → T (lands c k i s (halted (survivors b (after a .unforced)) (after a)))
   row-cut a b =
       cut-at c k i s (after a)
       (at-first (λ es. cutTest c k i s (effects es (ofStatus s))) (r .effects)
@@ -251,7 +268,7 @@ crash-passes : T (allKinds crashTest)
 unfolding codec-opens site-opens has
 crash-passes = tt
 
-pub crash-at : (c : Presumption) (k : Bool) (s : Status) (n : ℕ) → T (lands c k timer s (halted (take n (unforcedKinds s)) (ofStatus s)))
+pub crash-at : (c : Presumption) (k : Bool) (s : Status) (n : ℕ) → T (lands c k timer s (halted (survivors n (unforcedKinds s)) (ofStatus s)))
 crash-at c k s n = cut-at c k timer s (ofStatus s) (at-kind crashTest crash-passes c k s) n
 
 module _ (g : Cohort) (t p : ℕ) where

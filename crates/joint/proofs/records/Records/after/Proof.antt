@@ -9,7 +9,7 @@ use Rattle.joint.specs.Answers.{siteFrom}
 use Rattle.joint.specs.Inside.{siteAfter, thenSite, rowSite, Fits}
 use Rattle.joint.proofs.engine.Arrays.{length-shown}
 use Rattle.joint.proofs.engine.Sites.{row-length}
-use Rattle.joint.proofs.engine.RowSites.{undropped, unchanged}
+use Rattle.joint.proofs.engine.RowSites.{unmoved, unchanged}
 use borrow.Author.Needs.{needs}
 use Rattle.joint.proofs.records.Records.after.Statement.{statement}
 use Rattle.joint.proofs.records.Records.after.Tie as tie
@@ -44,14 +44,14 @@ unfolding rowSite thenSite
 returns-2 c = λ fits.
     let d = c .before .before in
     let w = d .before .before in
-    rw (d .then .given .1) (c .stop .ensures _ (effected w .0) ∙ ap (stopped (d .then .given .0 .0)) (effected w .1 fits))
+    rw (d .then .given .1) (c .stop .ensures ∙ ap (stopped (d .then .given .0 .0)) (effected w .1 fits))
 
 returns-3 : tie.Need-returns-3
 unfolding rowSite
 returns-3 c = λ fits.
     let s = c .before .before .before .before .before .args in
     let keys : List ℕ = 0 ∷ 1 ∷ 2 ∷ 3 ∷ 6 ∷ [] in
-    effected (c .before) .1 fits ∙ unchanged keys tt (s .row .then) (c .match .keys3) (undropped keys tt (s .row .then) (c .match .keys3)) (s .transaction) _
+    effected (c .before) .1 fits ∙ unchanged keys tt (s .row .then) (c .match .keys3) (unmoved keys tt tt (s .row .then) (c .match .keys3)) (s .transaction) _
 
 pub after-spec : {M : Type 1} → statement M
 after-spec =
