@@ -1,4 +1,4 @@
--- Plans: the refusals that did not strike, what holds of a plan by the way it is made, where it happens, and that a restart writes no log.
+-- Plans: the refusals that did not strike, what holds of a plan by the way it is made, where it happens, and the rows of a restart.
 use Prim.Native.Nat.{ℕ, zero, suc}
 use mathlib.Core.Path.{_≡_, refl}
 use mathlib.Core.Bool.{Bool, true, false}
@@ -8,7 +8,7 @@ use native.Mathlib.Omega.{arith}
 use borrow.Author.Tests.{not-false}
 use Rattle.codec.specs.Lists.{first, onlyIf}
 use Rattle.site.specs.Presumption.{Outcome, commit, abort, Presumption}
-use Rattle.site.specs.Step.{Message, tell, receiver, Input, begin, timer, received, Effect, append, force, enter, send, Row, given}
+use Rattle.site.specs.Step.{Message, voteYes, tell, receiver, Input, begin, timer, received, Effect, append, force, enter, send, Row, given}
 use Rattle.site.specs.Cohort.{Cohort}
 use Rattle.site.specs.Coordinator.{inOrder, tellAll, resuming, leaving, restartFrom, coordinatorRestart}
 use Rattle.site.specs.Participant.{voting, restartWith, participantRestart}
@@ -90,44 +90,35 @@ plan-site r (crash s) = refl
 plan-site r (restart s) = restart-site r s _
 plan-site r (marking t p) = all-only (λ q. q .site ≡ p) _ _ (λ _. refl)
 
--- ---- a restart writes no log
+-- ---- the rows of a restart: an outcome is entered, and messages are sent
 
-abbrev pub Logless : Effect → Type 0
-Logless (append k fs) = ⊥
-Logless force = ⊥
-Logless (enter o) = Unit {0}
-Logless (send m p) = Unit {0}
+module _ (P : Effect → Type 0) (entries : (o : Outcome) → P (enter o)) (sends : (m : Message) (p : ℕ) → P (send m p)) where
+  each-send : (m : Message) (l : List ℕ) → Each P (map (send m) l)
+  each-send m [] = tt
+  each-send m (p ∷ l) = (sends m p, each-send m l)
 
-logless-sends : (m : Message) (l : List ℕ) → Each Logless (map (send m) l)
-logless-sends m [] = tt
-logless-sends m (p ∷ l) = (tt, logless-sends m l)
+  each-told : (b : Bool) (t : ℕ) (g : Cohort) (o : Outcome) (to : ℕ) → Each P (given b (tellAll t g o to))
+  unfolding given tellAll
+  each-told true t g o to = each-send (tell o) (inOrder t g o to)
+  each-told false t g o to = tt
 
-logless-all : (t : ℕ) (g : Cohort) (o : Outcome) (to : ℕ) → Each Logless (tellAll t g o to)
-unfolding tellAll
-logless-all t g o to = logless-sends (tell o) (inOrder t g o to)
+  from-restarts : (t : ℕ) (c i : Bool) (told : ℕ → Cohort) → Each P (restartFrom t c i told .effects)
+  unfolding restartFrom resuming
+  from-restarts t true i told = (entries commit, each-told _ t (told 2) commit (told 2 .members))
+  from-restarts t false true told = (entries abort, each-told _ t (told 1) abort (told 1 .members))
+  from-restarts t false false told = tt
 
-logless-given : (b : Bool) (es : List Effect) → Each Logless es → Each Logless (given b es)
-unfolding given
-logless-given true es h = h
-logless-given false es h = tt
+  with-restarts : (c : Presumption) (p : ℕ) (a b v : Bool) → Each P (restartWith c p a b v .effects)
+  unfolding restartWith voting
+  with-restarts c p true b v = (entries commit, tt)
+  with-restarts c p false true v = (entries abort, tt)
+  with-restarts c p false false true = (sends voteYes p, tt)
+  with-restarts c p false false false = tt
 
-logless-from : (t : ℕ) (c i : Bool) (told : ℕ → Cohort) → Each Logless (restartFrom t c i told .effects)
-unfolding restartFrom resuming
-logless-from t true i told = (tt, logless-given _ _ (logless-all t (told 2) commit (told 2 .members)))
-logless-from t false true told = (tt, logless-given _ _ (logless-all t (told 1) abort (told 1 .members)))
-logless-from t false false told = tt
+  pub coordinator-restarts : (t : ℕ) (f : ℕ → Bool) (told : ℕ → Cohort) → Each P (coordinatorRestart t f told .effects)
+  unfolding coordinatorRestart leaving
+  coordinator-restarts t f told = from-restarts t _ _ told
 
-logless-with : (c : Presumption) (p : ℕ) (a b v : Bool) → Each Logless (restartWith c p a b v .effects)
-unfolding restartWith voting
-logless-with c p true b v = (tt, tt)
-logless-with c p false true v = (tt, tt)
-logless-with c p false false true = (tt, tt)
-logless-with c p false false false = tt
-
-pub coordinator-logless : (t : ℕ) (f : ℕ → Bool) (told : ℕ → Cohort) → Each Logless (coordinatorRestart t f told .effects)
-unfolding coordinatorRestart leaving
-coordinator-logless t f told = logless-from t _ _ told
-
-pub participant-logless : (c : Presumption) (p : ℕ) (f : ℕ → Bool) → Each Logless (participantRestart c p f .effects)
-unfolding participantRestart
-participant-logless c p f = logless-with c p _ _ _
+  pub participant-restarts : (c : Presumption) (p : ℕ) (f : ℕ → Bool) → Each P (participantRestart c p f .effects)
+  unfolding participantRestart
+  participant-restarts c p f = with-restarts c p _ _ _

@@ -1,4 +1,4 @@
--- A restart's rows have few effects, write no log and set phases: what a row does may happen before the phases of others are set, or after.
+-- A restart's rows, as they stand, have few effects, write no log and set phases: what a row does may happen before the phases of others are set, or after.
 use Prim.Native.Nat.{ℕ, zero, suc, _+_, _-_, _*_, _≤_}
 use mathlib.Core.Path.{_≡_, refl, sym, ap, _∙_, fun-ext}
 use mathlib.Core.Bool.{Bool, true, false, cond, not}
@@ -21,7 +21,7 @@ use Rattle.joint.specs.Run.{isAppend, isForce, isSend, count}
 use Rattle.joint.specs.Inside.{Resumption}
 use Rattle.joint.proofs.base.Lists.{Each, each-append, each-take, select-length}
 use Rattle.joint.proofs.base.Updates.{update-keeps}
-use Rattle.joint.proofs.base.Plans.{Logless, coordinator-logless, participant-logless}
+use Rattle.joint.proofs.base.Plans.{coordinator-restarts, participant-restarts}
 use Rattle.joint.proofs.engine.Placed.{run-path, Phase, coordinator-phase, participant-phase, acting-length}
 
 -- ---- few effects
@@ -52,7 +52,13 @@ with-few c p false true v = omega arith
 with-few c p false false true = omega arith
 with-few c p false false false = omega arith
 
--- ---- effects that write no log
+-- ---- effects that write no log: the rows of a restart, as the program takes them (DECISIONS, L18)
+
+abbrev Logless : Effect → Type 0
+Logless (append k fs) = ⊥
+Logless force = ⊥
+Logless (enter o) = Unit {0}
+Logless (send m p) = Unit {0}
 
 abbrev pub Quiet : List Act → Type 0
 Quiet l = Each (λ (a : Act). Logless (a .effect)) l
@@ -133,8 +139,8 @@ row-resumes s t g row h n q =
 
 pub resumes : (r : Run) (s t : ℕ) → Resumes s (restarting r s t)
 unfolding restarting coordinatorRestart leaving participantRestart
-resumes r zero t = row-resumes 0 t _ _ (coordinator-phase _) (from-few t _ _ _) (coordinator-logless t (λ k. holds t k (r .site 0 .stable)) (λ k. recordedCohort t k (r .site 0 .stable)))
-resumes r (suc n) t = row-resumes (suc n) t _ _ (participant-phase n _) (with-few _ _ _ _ _) (participant-logless _ (suc n) (λ k. holds t k (r .site (suc n) .stable)))
+resumes r zero t = row-resumes 0 t _ _ (coordinator-phase _) (from-few t _ _ _) (coordinator-restarts Logless (λ o. tt) (λ m p. tt) t (λ k. holds t k (r .site 0 .stable)) (λ k. recordedCohort t k (r .site 0 .stable)))
+resumes r (suc n) t = row-resumes (suc n) t _ _ (participant-phase n _) (with-few _ _ _ _ _) (participant-restarts Logless (λ o. tt) (λ m p. tt) _ (suc n) (λ k. holds t k (r .site (suc n) .stable)))
 
 -- n of them, and the site is up at the end
 pub record Restarts (s n : ℕ) (p : Plan) : Type 0 where

@@ -27,7 +27,7 @@ use Rattle.joint.specs.Safety.{history}
 use Rattle.joint.proofs.base.Booleans.{both-ways}
 use Rattle.joint.proofs.base.History.{by-events, after-snoc, history-snoc}
 use Rattle.joint.proofs.view.View.{View, view, is-opened, viewAt, viewSettle, viewEffects, viewDown}
-use Rattle.joint.proofs.view.Turn.{Carried, whole, cutAfter, Given, viewStart, trimmedView, viewDiscard, viewForget, Turn, crashes, opens, coordinates, participates, marks, discards, starts, resumes, returns, Turns, still, turn, forces}
+use Rattle.joint.proofs.view.Turn.{Carried, whole, cutAfter, Given, viewStart, trimmedView, viewDiscard, viewForget, Turn, crashes, opens, coordinates, participates, marks, discards, starts, carries, resumes, returns, Turns, still, turn, forces}
 use Rattle.joint.proofs.safety.Sets.{of-those, none-empty, no-zero, without-part, taken-either, remains-in, owing-remaining}
 use Rattle.joint.proofs.view.Events.{event-turns}
 use Rattle.joint.proofs.view.Cohorts.{effects-same}
@@ -301,17 +301,17 @@ woken-apart n c u y = site-apart (suc n) started (viewSettle (withParticipant (s
 turn-apart : {t : ℕ} {Out : ℕ → Type 0} {v w : View} → v .transaction .cohort .members < 256 → ApartIn v → Turn t Out v w → ApartIn w
 turn-apart {v} small x (crashes s n) = down-apart s n v x
 turn-apart {v} small x (opens g a b c d e up ups) = unfold viewSettle openedAs in none-apart g CoordinatorPhase.initial
-turn-apart {v} small x (coordinates {row} i o up k takes e d) =
+turn-apart {v} small x (carries (coordinates {row} i o up k takes e) d) =
     carried-apart (λ u y q. row-apart (row .phase) v u q (step-apart _ (v .transaction .cohort) small row (v .transaction .coordinator) x i (given i k) e)) x d
   where
     given : (i : Input) → Given v i → (p : ℕ) → i ≡ received readOnly p → T (member p (v .transaction .cohort .members))
     given i k p q = subst (Given v) q k .0
-turn-apart {v} small x (participates {row} n i m up k own e d) = carried-apart (λ u y q. settle-apart (suc n) (row .phase) u y) x d
+turn-apart {v} small x (carries (participates {row} n i m up k own e) d) = carried-apart (λ u y q. settle-apart (suc n) (row .phase) u y) x d
 turn-apart {v} small x (marks n m e) = unfold viewSettle withMarked in record { byte = x .byte; members = x .members; unawaited = x .unawaited; initial = x .initial }
 turn-apart {v} small x (discards s up o e) = unfold viewDiscard in forget-apart _ s (viewAt s trimmedView v) (site-apart s trimmedView v x)
 turn-apart {v} small x (starts s e) = site-apart s started v x
-turn-apart {v} small x (resumes {row} o d e c) = carried-apart (λ u y q. restart-apart _ v row u q _ _ e) x c
-turn-apart {v} small x (returns {row} n d e c) = carried-apart (λ u y q. woken-apart n (row .phase) u y) x c
+turn-apart {v} small x (carries (resumes {row} o d e) c) = carried-apart (λ u y q. restart-apart _ v row u q _ _ e) x c
+turn-apart {v} small x (carries (returns {row} n d e) c) = carried-apart (λ u y q. woken-apart n (row .phase) u y) x c
 
 site-small : (s : ℕ) (v : View) → v .transaction .cohort .members < 256 → viewAt s forced v .transaction .cohort .members < 256
 unfolding viewAt

@@ -11,12 +11,12 @@ use Rattle.codec.specs.laws.Tests.{and-left, of-true}
 use Rattle.site.specs.Coordinator.{Coordinator, takingOut}
 use Rattle.site.specs.Presumption.{Outcome, commit}
 use Rattle.site.specs.Cohort.{Cohort, writesInit}
-use Rattle.site.specs.Step.{voteYes, messageKind, Input, Effect, append, force, enter, send}
+use Rattle.site.specs.Step.{voteYes, messageKind, Input, Effect, append, force, enter, send, Row}
 use Rattle.joint.specs.State.{forced, holds, withCoordinator, forgotten, withParticipant}
 use Rattle.joint.specs.Safety.{sends, collects}
 use Rattle.joint.proofs.base.Booleans.{or-either}
 use Rattle.joint.proofs.view.View.{View, viewAt, viewSettle, viewPerform, viewEffects, viewDown}
-use Rattle.joint.proofs.view.Turn.{Carried, whole, cutAfter, Takes, viewStart, viewDiscard, viewForget, Turn, crashes, opens, coordinates, participates, marks, discards, starts, resumes, returns, Turns, still, turn, forces}
+use Rattle.joint.proofs.view.Turn.{Carried, whole, cutAfter, Takes, viewStart, viewDiscard, viewForget, Turn, crashes, opens, coordinates, participates, resumes, returns, carries, marks, discards, starts, Turns, still, turn, forces}
 use Rattle.joint.proofs.safety.Tables.{has, isCounted}
 use Rattle.joint.proofs.safety.Sets.{empty-none, taken-either}
 use Rattle.joint.proofs.safety.Invariant.{Standing, never, initial, collecting, decided, outOf, stageOf, hasDecided, stableAt, Mid, PhaseAs, Inv, cohortOf}
@@ -25,7 +25,7 @@ use Rattle.joint.proofs.safety.coordinator.Crashes.{crash-next}
 use Rattle.joint.proofs.safety.participant.Participants.{force-kept, crash-kept, start-kept, row-kept, discard-kept, return-kept, mark-kept}
 use Rattle.joint.proofs.safety.coordinator.Coordinators.{Stepped, steps, looks, coordinator-next}
 use Rattle.joint.proofs.safety.coordinator.Discards.{After, next-after, force-next, discard-next}
-use Rattle.joint.proofs.safety.coordinator.Resumes.{resume-after, effects-cohort}
+use Rattle.joint.proofs.safety.coordinator.Resumes.{resume-next, effects-cohort}
 use Rattle.joint.proofs.safety.coordinator.Opens.{open-after, start-after}
 
 -- ---- a decided commit has all votes, but of those taken out
@@ -124,12 +124,14 @@ module _ {t : ℕ} {Out : ℕ → Type 0} where
   come-kept e f x = after-kept e f (x .standing) (x .inv) (turned (x .from))
 
   -- where a step of the coordinator leads
-  stepped-kept : {h : Standing} {i : Input} {v w : View} → cohortOf w ≡ cohortOf v → ((n : ℕ) → T (w .voted (suc n)) → T (v .voted (suc n)))
-      → PhaseAs h (v .transaction .coordinator) → Takes Out v i → Stepped t h i w → Kept t Out h v w
-  stepped-kept e f p k (steps x) = come-kept e f (next-after x)
-  stepped-kept {v} {w} e f p k (looks {c} {out} q x) =
-      let from = x .from (collecting (without q c) (takingOut q out) false) (from-self _ _) in
-      after-kept e f (x .standing) (x .inv)
+  stepped-kept : {h : Standing} {i : Input} {v w : View} {row : Row Coordinator} → cohortOf w ≡ cohortOf v → ((n : ℕ) → T (w .voted (suc n)) → T (v .voted (suc n)))
+      → PhaseAs h (v .transaction .coordinator) → Takes Out v i → Stepped t v row h i
+      → Carried t 0 (row .effects) (viewSettle (withCoordinator 0 (row .phase))) v w → Kept t Out h v w
+  stepped-kept e f p k (steps x) d = come-kept e f (next-after (x .next d))
+  stepped-kept {v} {w} e f p k (looks {c} {out} q x) d =
+      let y = x .next d in
+      let from = y .from (collecting (without q c) (takingOut q out) false) (from-self _ _) in
+      after-kept e f (y .standing) (y .inv)
       (record {
         keeps = λ o d. absurd d;
         new = λ d. ⊎-elim (λ z. absurd z) inr (from .new d);
@@ -146,17 +148,17 @@ module _ {t : ℕ} {Out : ℕ → Type 0} where
   turn-kept {h} {v} inv (opens g a b c d e up ups) =
       let x = open-after t v g a b c d e up ups h inv in
       record { standing = x .standing; inv = x .inv; from = turned (x .from); asked = λ k n m. absurd (empty-none (cohortOf v .members) (suc n) (of-true e) m) }
-  turn-kept {h} {v} {w} inv (coordinates {row} i o up k takes e d) =
-      stepped-kept (carried-cohort (settle-cohort (row .phase)) d) (carried-voted (settle-voted (row .phase)) d) (inv .phase) takes (coordinator-next t v w row inv o up i k e d)
-  turn-kept {h} {v} inv (participates n i m up k own e d) = same-kept inv (row-kept t h v inv n i m up k own e d)
+  turn-kept {h} {v} {w} inv (carries (coordinates {row} i o up k takes e) d) =
+      stepped-kept (carried-cohort (settle-cohort (row .phase)) d) (carried-voted (settle-voted (row .phase)) d) (inv .phase) takes (coordinator-next t v row inv o up i k e) d
+  turn-kept {h} {v} inv (carries (participates n i m up k its e) d) = same-kept inv (row-kept t h v inv n i m up k its e d)
+  turn-kept {h} {v} {w} inv (carries (resumes {row} o d e) c) =
+      come-kept (carried-cohort (start-cohort (row .phase)) c) (carried-voted (start-voted (row .phase)) c) (next-after (resume-next t v h inv o d e .next c))
+  turn-kept {h} {v} inv (carries (returns n d e) c) = same-kept inv (return-kept t h v inv n d e c)
   turn-kept {h} {v} inv (marks n m e) = same-kept inv (mark-kept t h v inv n m e)
   turn-kept {h} {v} inv (discards zero up o e) = come-kept refl (λ n u. u) (discard-next t v h inv o up e)
   turn-kept {h} {v} inv (discards (suc n) up o e) = same-kept inv (discard-kept t h v inv n up e)
   turn-kept {h} {v} inv (starts zero e) = come-kept refl (λ n u. u) (start-after t v e h inv)
   turn-kept {h} {v} inv (starts (suc n) e) = same-kept inv (start-kept t h v inv n e)
-  turn-kept {h} {v} {w} inv (resumes {row} o d e c) =
-      come-kept (carried-cohort (start-cohort (row .phase)) c) (carried-voted (start-voted (row .phase)) c) (resume-after t v w h inv o d e c)
-  turn-kept {h} {v} inv (returns n d e c) = same-kept inv (return-kept t h v inv n d e c)
 
 -- ---- an event
 

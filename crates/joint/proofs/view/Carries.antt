@@ -1,6 +1,6 @@
 -- A plan that is carried out, whole or cut, in the view of one transaction; another transaction's row shows its forces alone.
 use Prim.Native.Nat.{ℕ, zero, suc}
-use mathlib.Core.Path.{_≡_, refl, ap}
+use mathlib.Core.Path.{_≡_, refl, ap, _∙_}
 use mathlib.Core.Logic.{_≢_}
 use mathlib.Core.Bool.{Bool, true, false, cond}
 use mathlib.Core.List.{List, [], _∷_, _++_, map-append}
@@ -19,7 +19,7 @@ use Rattle.site.specs.laws.Lists.{select-append}
 use Rattle.joint.proofs.base.Lists.{Each, each-take, each-chosen, map-take, among, select-take}
 use Rattle.joint.proofs.base.Survivors.{maskOf}
 use Rattle.joint.proofs.view.View.{View, view, viewAt, viewPerform, viewEffects}
-use Rattle.joint.proofs.view.Turn.{Carried, whole, cutAfter, forces, crashes, Turns, still, turn}
+use Rattle.joint.proofs.view.Turn.{Carried, whole, cutAfter, forces, crashes, carries, Turns, still, turn, SeenRow, own, others, bare}
 use Rattle.joint.proofs.view.Acts.{seen, effectsOf, seenEffects, acts-view, down-view}
 
 -- ---- the effects that are seen
@@ -51,22 +51,16 @@ seen-other t u h (e ∷ es) = rw (ne-eqb u t h) (go (isForce e) (seen-other t u 
     go true k = unfold effectsOf in ap (λ (l : List Effect). e ∷ l) k
     go false k = k
 
--- ---- the turns: no effect, or forces; and a crash after them
+-- ---- the turns: t's own row; no effect, or forces; and a crash after them
 
 abbrev Forces : List Effect → Type 0
 Forces es = Each (λ e. T (isForce e)) es
 
-all-forces : (es : List Effect) → Forces (select isForce es)
+-- what another transaction's row shows
+pub all-forces : (es : List Effect) → Forces (select isForce es)
 all-forces es = each-chosen (λ e. T (isForce e)) isForce (λ e k. k) es
 
 module _ (t : ℕ) (Out : ℕ → Type 0) (s : ℕ) where
-  -- no effect: what follows, or a crash
-  pub bare-turns : {f : View → View} {v w : View} → Turns t Out v (f v) → Carried t s [] f v w → Turns t Out v w
-  unfolding viewEffects
-  bare-turns h whole = h
-  bare-turns h (cutAfter zero n) = turn (crashes s n)
-  bare-turns h (cutAfter (suc m) n) = turn (crashes s n)
-
   forces-then : (es : List Effect) → Forces es → (v x : View) → Turns t Out (viewEffects s t es v) x → Turns t Out v x
   unfolding viewEffects viewPerform isForce
   forces-then [] h v x k = k
@@ -75,31 +69,41 @@ module _ (t : ℕ) (Out : ℕ → Type 0) (s : ℕ) where
   forces-then (enter o ∷ es) h v x k = absurd (h .0)
   forces-then (send m p ∷ es) h v x k = absurd (h .0)
 
-  -- what another transaction's row leaves
-  pub other-turns : {v w : View} (es : List Effect) → Carried t s (select isForce es) (λ x. x) v w → Turns t Out v w
-  other-turns {v} es whole = forces-then (select isForce es) (all-forces es) v _ still
-  other-turns {v} es (cutAfter m n) = forces-then (take m (select isForce es)) (each-take _ m (select isForce es) (all-forces es)) v _ (turn (crashes s n))
+pub row-turns : {t : ℕ} {Out : ℕ → Type 0} {s : ℕ} {es : List Effect} {f : View → View} {v w : View} → SeenRow t Out v s es f → Carried t s es f v w → Turns t Out v w
+unfolding viewEffects
+row-turns (own x) c = turn (carries x c)
+row-turns {t} {Out} {s} {es} {f} {v} (others h) whole = forces-then t Out s es h v _ still
+row-turns {t} {Out} {s} {es} {f} {v} (others h) (cutAfter m n) = forces-then t Out s (take m es) (each-take _ m es h) v _ (turn (crashes s n))
+row-turns (bare h) whole = h
+row-turns {s} (bare h) (cutAfter zero n) = turn (crashes s n)
+row-turns {s} (bare h) (cutAfter (suc m) n) = turn (crashes s n)
 
 -- ---- a plan carried out
 
--- in the view of t the plan p, carried out from r, is what view/Turn allows; after: what settles there; Out: whom the event takes out
+-- what the view of t sees of the plan p in r; after: what settles there; Out: whom the event takes out
 pub record Shown (t : ℕ) (Out : ℕ → Type 0) (r : Run) (p : Plan) : Type 0 where
   pub after : View → View
   pub settles : (ms : List Moment) (x : Run) → view t ms (p .settle x) ≡ after (view t ms x)
-  pub turns : (ms : List Moment) (w : View) → Carried t (p .site) (seenEffects t (p .acts)) after (view t ms r) w → Turns t Out (view t ms r) w
+  pub row : (ms : List Moment) → SeenRow t Out (view t ms r) (p .site) (seenEffects t (p .acts)) after
 
 module _ (bytes : List ℕ) (t : ℕ) (Out : ℕ → Type 0) (ms : List Moment) (r : Run) (p : Plan) (h : Shown t Out r p) where
   -- the view that a result leaves
   abbrev Left : Result → View
   Left x = view t (ms ++ moments bytes r (x .site) (x .acts) r) (x .run)
 
+  -- the view after the first acts
+  pub middle-view : (n : ℕ) → view t (ms ++ moments bytes r (p .site) (take n (p .acts)) r) (partly r p n)
+      ≡ viewEffects (p .site) t (take (among (seen t) n (p .acts)) (seenEffects t (p .acts))) (view t ms r)
+  unfolding partly
+  middle-view n = acts-view bytes r t (p .site) (take n (p .acts)) ms r ∙ rw seen-take refl
+
   pub whole-turns : Turns t Out (view t ms r) (Left (carry r p none))
   unfolding carry
-  whole-turns = h .turns ms _ (rw (h .settles, acts-view bytes r t (p .site) (p .acts) ms r) whole)
+  whole-turns = row-turns (h .row ms) (rw (h .settles, acts-view bytes r t (p .site) (p .acts) ms r) whole)
 
   pub cut-turns : (n k : ℕ) → Turns t Out (view t ms r) (Left (cutShort true r p n k))
   unfolding cutShort partly
   cut-turns n k =
-      h .turns ms _
+      row-turns (h .row ms)
       (rw (down-view, acts-view bytes r t (p .site) (take n (p .acts)) ms r, seen-take)
       (cutAfter (among (seen t) n (p .acts)) (maskOf (ofTransaction t) k (partly r p n .site (p .site) .unforced))))

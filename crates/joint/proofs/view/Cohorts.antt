@@ -12,7 +12,7 @@ use Rattle.site.specs.Step.{Effect, append, force, enter, send}
 use Rattle.joint.specs.State.{Run, Site, Transaction, opened, forced, started, withCoordinator, withParticipant, withMarked, withSent, forgotten}
 use Rattle.joint.specs.Run.{event}
 use Rattle.joint.proofs.view.View.{View, view, is-opened, viewAt, viewSettle, viewPerform, viewEffects, viewDown}
-use Rattle.joint.proofs.view.Turn.{Carried, whole, cutAfter, viewStart, trimmedView, viewDiscard, viewForget, Turn, crashes, opens, coordinates, participates, marks, discards, starts, resumes, returns, Turns, still, turn, forces}
+use Rattle.joint.proofs.view.Turn.{Carried, whole, cutAfter, viewStart, trimmedView, viewDiscard, viewForget, Turn, crashes, opens, coordinates, participates, marks, discards, starts, carries, resumes, returns, Turns, still, turn, forces}
 use Rattle.joint.proofs.view.Events.{event-turns}
 
 abbrev pub cohortIn : View → Cohort
@@ -80,13 +80,13 @@ carried-leaves {t} {s} {es} {f} {v} k (cutAfter m n) = down-leaves s n (viewEffe
 turn-leaves : {t : ℕ} {Out : ℕ → Type 0} {v w : View} → empty (cohortIn v .members) ≡ false → Turn t Out v w → cohortIn w ≡ cohortIn v
 turn-leaves {v} o (crashes s n) = down-leaves s n v
 turn-leaves {v} o (opens g a b c d e up ups) = absurd (true≢false (sym e ∙ o))
-turn-leaves {v} o (coordinates {row} i p up k takes e d) = carried-leaves (coordinator-leaves (row .phase)) d
-turn-leaves {v} o (participates {row} n i m up k own e d) = carried-leaves (participant-leaves (suc n) (row .phase)) d
+turn-leaves {v} o (carries (coordinates {row} i p up k takes e) d) = carried-leaves (coordinator-leaves (row .phase)) d
+turn-leaves {v} o (carries (participates {row} n i m up k own e) d) = carried-leaves (participant-leaves (suc n) (row .phase)) d
 turn-leaves {v} o (marks n m e) = unfold viewSettle withMarked in refl
 turn-leaves {v} o (discards s up p e) = discard-leaves s v
 turn-leaves {v} o (starts s e) = at-leaves s started v
-turn-leaves {v} o (resumes {row} p d e c) = carried-leaves (started-leaves 0 (withCoordinator 0 (row .phase)) (coordinator-leaves (row .phase))) c
-turn-leaves {v} o (returns {row} n d e c) = carried-leaves (started-leaves (suc n) (withParticipant (suc n) (row .phase)) (participant-leaves (suc n) (row .phase))) c
+turn-leaves {v} o (carries (resumes {row} p d e) c) = carried-leaves (started-leaves 0 (withCoordinator 0 (row .phase)) (coordinator-leaves (row .phase))) c
+turn-leaves {v} o (carries (returns {row} n d e) c) = carried-leaves (started-leaves (suc n) (withParticipant (suc n) (row .phase)) (participant-leaves (suc n) (row .phase))) c
 
 turns-leave : {t : ℕ} {Out : ℕ → Type 0} {v w : View} → empty (cohortIn v .members) ≡ false → Turns t Out v w → cohortIn w ≡ cohortIn v
 turns-leave o still = refl

@@ -26,9 +26,9 @@ use Rattle.joint.proofs.base.Ranges.{InRange, parse-range}
 use Rattle.joint.proofs.base.History.{EventCase, refused, whole, cut, event-case}
 use Rattle.joint.proofs.base.Plans.{not-struck, is-up, All, all-or, all-only}
 use Rattle.joint.proofs.view.View.{siteView, view, not-opened, is-opened, site-up, viewSettle}
-use Rattle.joint.proofs.view.Turn.{Takes, viewDiscard, opens, marks, discards, Turns, still, turn}
+use Rattle.joint.proofs.view.Turn.{Takes, viewDiscard, opens, marks, discards, Turns, still, turn, others}
 use Rattle.joint.proofs.view.Acts.{seenEffects}
-use Rattle.joint.proofs.view.Carries.{seen-own, seen-other, other-turns, Shown, whole-turns, cut-turns}
+use Rattle.joint.proofs.view.Carries.{seen-own, seen-other, all-forces, Shown, whole-turns, cut-turns}
 use Rattle.joint.proofs.view.Settles.{marked-bare, opened-bare, settle-own, settle-other, discard-own, discard-other}
 use Rattle.joint.proofs.view.Restarts.{restart-shown}
 use Rattle.joint.proofs.view.Rows.{own-or-other, bare-shown, step-other, step-own}
@@ -184,7 +184,7 @@ module _ (t : ℕ) (Out : ℕ → Type 0) (r : Run) where
       record {
         after = λ v. v;
         settles = λ ms x. refl;
-        turns = λ ms w c. other-turns t Out s (force ∷ []) (rw seen-force at c);
+        row = λ ms. rw seen-force (others (all-forces (force ∷ [])));
       }
     where
       seen-force : seenEffects t (acting 0 (force ∷ [])) ≡ select isForce (force ∷ [])

@@ -16,29 +16,27 @@ use Rattle.joint.specs.Plan.{rowPlan, transactions, restarting, joined, 
 use Rattle.joint.specs.Run.{isForce}
 use Rattle.joint.specs.Safety.{Moment}
 use Rattle.joint.proofs.base.Lists.{Each}
-use Rattle.joint.proofs.base.Plans.{Logless, coordinator-logless, participant-logless, restart-site}
+use Rattle.joint.proofs.base.Plans.{coordinator-restarts, participant-restarts, restart-site}
 use Rattle.joint.proofs.view.View.{View, siteView, view, not-opened, is-opened, site-up, viewAt, viewSettle}
-use Rattle.joint.proofs.view.Turn.{viewStart, starts, resumes, returns, turn}
+use Rattle.joint.proofs.view.Turn.{viewStart, starts, resumes, returns, turn, own, bare}
 use Rattle.joint.proofs.view.Acts.{holds-select, recorded-select, effectsOf, seenEffects}
-use Rattle.joint.proofs.view.Carries.{seen-append, seen-own, seen-other, bare-turns, Shown}
+use Rattle.joint.proofs.view.Carries.{seen-append, seen-own, seen-other, Shown}
 use Rattle.joint.proofs.view.Once.{absent, once, absent-head, select-absent, once-select, once-transaction}
 use Rattle.joint.proofs.view.Settles.{coordinator-bare, participant-bare, settle-own, settle-other, start-view}
 
 -- ---- rows of a restart
 
-logless-forces : (es : List Effect) → Each Logless es → select isForce es ≡ []
-unfolding select isForce
-logless-forces [] h = refl
-logless-forces (append k fs ∷ es) h = absurd (h .0)
-logless-forces (force ∷ es) h = absurd (h .0)
-logless-forces (enter o ∷ es) h = logless-forces es (h .1)
-logless-forces (send m p ∷ es) h = logless-forces es (h .1)
+-- what another transaction appends, enters or sends is not seen, and a row of restart forces nothing
+no-forces : (es : List Effect) → Each (λ e. isForce e ≡ false) es → select isForce es ≡ []
+unfolding select
+no-forces [] h = refl
+no-forces (e ∷ es) h = rw (h .0) (no-forces es (h .1))
 
 module _ (t : ℕ) (r : Run) where
   other-seen : (s u : ℕ) → u ≢ t → seenEffects t (restarting r s u .acts) ≡ []
-  unfolding restarting rowPlan
-  other-seen zero u h = seen-other t u h _ ∙ logless-forces _ (coordinator-logless _ _ _)
-  other-seen (suc n) u h = seen-other t u h _ ∙ logless-forces _ (participant-logless _ _ _)
+  unfolding restarting rowPlan isForce
+  other-seen zero u h = seen-other t u h _ ∙ no-forces _ (coordinator-restarts (λ e. isForce e ≡ false) (λ o. refl) (λ m p. refl) _ _ _)
+  other-seen (suc n) u h = seen-other t u h _ ∙ no-forces _ (participant-restarts (λ e. isForce e ≡ false) (λ o. refl) (λ m p. refl) _ _ _)
 
   other-settles : (s u : ℕ) → u ≢ t → (ms : List Moment) (x : Run) → view t ms (restarting r s u .settle x) ≡ view t ms x
   unfolding restarting rowPlan
@@ -72,7 +70,7 @@ module _ (t : ℕ) (r : Run) where
         go true q k ih = rw (eqb-true u t q, absent-seen ts k, append-nil)
         go false q k ih = rw (other-seen s u (eqb-false u t q)) (ih k)
 
-    module _ (f : View → View) (own : (ms : List Moment) (x : Run) → view t ms (restarting r s t .settle x) ≡ f (view t ms x)) where
+    module _ (f : View → View) (its : (ms : List Moment) (x : Run) → view t ms (restarting r s t .settle x) ≡ f (view t ms x)) where
       once-settles : (ts : List ℕ) → once t ts ≡ true → (ms : List Moment) (x : Run)
           → view t ms (restartAll r s ts .settle x) ≡ viewAt s started (f (view t ms x))
       unfolding once restartAll joined
@@ -83,7 +81,7 @@ module _ (t : ℕ) (r : Run) where
               → (once t ts ≡ true
               → view t ms (restartAll r s ts .settle (restarting r s u .settle x)) ≡ viewAt s started (f (view t ms (restarting r s u .settle x))))
               → view t ms (restartAll r s ts .settle (restarting r s u .settle x)) ≡ viewAt s started (f (view t ms x))
-          go true q k ih = rw (eqb-true u t q) (absent-settles ts k ms (restarting r s t .settle x) ∙ ap (viewAt s started) (own ms x))
+          go true q k ih = rw (eqb-true u t q) (absent-settles ts k ms (restarting r s t .settle x) ∙ ap (viewAt s started) (its ms x))
           go false q k ih = ih k ∙ ap (λ (v : View). viewAt s started (f v)) (other-settles s u (eqb-false u t q) ms x)
 
 -- ---- the turn
@@ -95,7 +93,7 @@ module _ (t : ℕ) (Out : ℕ → Type 0) (r : Run) where
       record {
         after = viewAt s started;
         settles = absent-settles t r s ts h;
-        turns = λ ms w c. bare-turns t Out s (turn (starts s (not-opened t ms r e))) (rw (restart-site r s ts, absent-seen t r s ts h) at c);
+        row = λ ms. rw (restart-site r s ts, absent-seen t r s ts h) (bare (turn (starts s (not-opened t ms r e))));
       }
 
   held : (s : ℕ) (ms : List Moment) → _≡_ {A = ℕ → Bool} (λ k. holds t k (view t ms r .site s .stable)) (λ k. holds t k (r .site s .stable))
@@ -114,12 +112,9 @@ module _ (t : ℕ) (Out : ℕ → Type 0) (r : Run) where
       record {
         after = viewStart 0 (withCoordinator 0 (row .phase));
         settles = once-settles t r 0 (viewSettle (withCoordinator 0 (row .phase))) (settle-own t _ (coordinator-bare (row .phase))) ts h;
-        turns =
-            λ ms w c.
-            turn
-            (resumes {row = row} (is-opened t ms r e) (site-up t ms r 0 ∙ d)
-            (ap₂ (coordinatorRestart t) (held 0 ms) (tells ms))
-            (rw (restart-site r 0 ts, once-seen t r 0 ts h, seen-own t (row .effects)) at c));
+        row = λ ms.
+            rw (restart-site r 0 ts, once-seen t r 0 ts h, seen-own t (row .effects))
+            (own (resumes {row = row} (is-opened t ms r e) (site-up t ms r 0 ∙ d) (ap₂ (coordinatorRestart t) (held 0 ms) (tells ms))));
       }
   once-shown (suc n) ts d e h =
       let presumption = presumptionOf (r .transaction t .cohort) (suc n) in
@@ -128,12 +123,9 @@ module _ (t : ℕ) (Out : ℕ → Type 0) (r : Run) where
         after = viewStart (suc n) (withParticipant (suc n) (row .phase));
         settles =
             once-settles t r (suc n) (viewSettle (withParticipant (suc n) (row .phase))) (settle-own t _ (participant-bare (suc n) (row .phase))) ts h;
-        turns =
-            λ ms w c.
-            turn
-            (returns {row = row} n (site-up t ms r (suc n) ∙ d)
-            (ap (participantRestart presumption (suc n)) (held (suc n) ms))
-            (rw (restart-site r (suc n) ts, once-seen t r (suc n) ts h, seen-own t (row .effects)) at c));
+        row = λ ms.
+            rw (restart-site r (suc n) ts, once-seen t r (suc n) ts h, seen-own t (row .effects))
+            (own (returns {row = row} n (site-up t ms r (suc n) ∙ d) (ap (participantRestart presumption (suc n)) (held (suc n) ms))));
       }
 
   pub restart-shown : (s : ℕ) → r .site s .up ≡ false → (opened r t ≡ true → t < 8) → Shown t Out r (restartAll r s (select (opened r) transactions))

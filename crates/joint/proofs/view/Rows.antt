@@ -14,17 +14,17 @@ use Rattle.joint.specs.Plan.{settling, rowPlan, step}
 use Rattle.joint.specs.Safety.{Moment}
 use Rattle.joint.proofs.base.Plans.{All, all-planned, all-step}
 use Rattle.joint.proofs.view.View.{View, view, is-opened, site-up, viewSettle}
-use Rattle.joint.proofs.view.Turn.{Given, Takes, Own, coordinates, participates, Turns, turn}
+use Rattle.joint.proofs.view.Turn.{Given, Takes, Own, coordinates, participates, Turns, own, others, bare}
 use Rattle.joint.proofs.view.Acts.{effectsOf, seenEffects}
-use Rattle.joint.proofs.view.Carries.{seen-own, seen-other, bare-turns, other-turns, Shown}
+use Rattle.joint.proofs.view.Carries.{seen-own, seen-other, all-forces, Shown}
 use Rattle.joint.proofs.view.Settles.{coordinator-bare, participant-bare, settle-own, settle-other}
 
 -- t itself, or another transaction
 pub own-or-other : (t : ℕ) (P : ℕ → Type 0) → P t → ((u : ℕ) → u ≢ t → P u) → (u : ℕ) → P u
-own-or-other t P own other u = go (eqb u t) refl
+own-or-other t P same other u = go (eqb u t) refl
   where
     go : (b : Bool) → eqb u t ≡ b → P u
-    go true e = subst P (sym (eqb-true u t e)) own
+    go true e = subst P (sym (eqb-true u t e)) same
     go false e = other u (eqb-false u t e)
 
 module _ (t : ℕ) (Out : ℕ → Type 0) (r : Run) where
@@ -38,7 +38,7 @@ module _ (t : ℕ) (Out : ℕ → Type 0) (r : Run) where
       record {
         after = f;
         settles = settles;
-        turns = λ ms w c. bare-turns t Out s {f = f} (turns ms) c;
+        row = λ ms. bare (turns ms);
       }
 
   -- ---- a row of another transaction
@@ -51,7 +51,7 @@ module _ (t : ℕ) (Out : ℕ → Type 0) (r : Run) where
       record {
         after = λ v. v;
         settles = settle-other t u (g (row .phase)) h;
-        turns = λ ms w c. other-turns t Out s (row .effects) (rw (seen-other t u h (row .effects)) at c);
+        row = λ ms. rw (seen-other t u h (row .effects)) (others (all-forces (row .effects)));
       })
 
   -- ---- its own
@@ -60,24 +60,19 @@ module _ (t : ℕ) (Out : ℕ → Type 0) (r : Run) where
       (takes : (ms : List Moment) → Takes Out (view t ms r) i) where
     pub step-own : (s : ℕ) → takesPart (r .transaction t) s ≡ true → r .site s .up ≡ true → ((n : ℕ) → s ≡ suc n → Own (suc n) i) → All (Shown t Out r) (step r t s i)
     unfolding step takesPart rowPlan view
-    step-own zero m up own =
+    step-own zero m up its =
         all-planned (Shown t Out r) 0 t (withCoordinator 0) _
         (λ row e.
         record {
           after = viewSettle (withCoordinator 0 (row .phase));
           settles = settle-own t _ (coordinator-bare (row .phase));
-          turns =
-              λ ms w c.
-              turn (coordinates {row = row} i (is-opened t ms r ready) (site-up t ms r 0 ∙ up) (given ms) (takes ms) e (rw (seen-own t (row .effects)) at c));
+          row = λ ms. rw (seen-own t (row .effects)) (own (coordinates {row = row} i (is-opened t ms r ready) (site-up t ms r 0 ∙ up) (given ms) (takes ms) e));
         })
-    step-own (suc n) m up own =
+    step-own (suc n) m up its =
         all-planned (Shown t Out r) (suc n) t (withParticipant (suc n)) _
         (λ row e.
         record {
           after = viewSettle (withParticipant (suc n) (row .phase));
           settles = settle-own t _ (participant-bare (suc n) (row .phase));
-          turns =
-              λ ms w c.
-              turn
-              (participates {row = row} n i (of-true m) (site-up t ms r (suc n) ∙ up) (given ms) (own n refl) e (rw (seen-own t (row .effects)) at c));
+          row = λ ms. rw (seen-own t (row .effects)) (own (participates {row = row} n i (of-true m) (site-up t ms r (suc n) ∙ up) (given ms) (its n refl) e));
         })

@@ -3,7 +3,6 @@ use Prim.Native.Nat.{ℕ, zero, suc}
 use mathlib.Core.Path.{_≡_, refl, sym, ap, _∙_, subst}
 use mathlib.Core.Bool.{Bool, true, false, not, _&&_, true≢false}
 use mathlib.Core.List.{List, [], _∷_, map, append-nil}
-use lib.ListN.{take}
 use lib.Dec.{T}
 use Rattle.codec.specs.Sets.{member, empty}
 use Rattle.codec.specs.laws.Tests.{of-true}
@@ -13,17 +12,15 @@ use Rattle.site.specs.Step.{Effect, append, force, enter, send, Row, given}
 use Rattle.site.specs.Coordinator.{Coordinator, tellAll, untilAcked, resuming, leaving, restartFrom, coordinatorRestart}
 use Rattle.joint.specs.State.{Site, unknownPart, holds, recordedCohort, started, withCoordinator, withSent}
 use Rattle.joint.proofs.view.View.{View, viewAt, viewSettle, viewPerform, viewEffects}
-use Rattle.joint.proofs.view.Turn.{Carried, whole, cutAfter, Opened, viewStart}
+use Rattle.joint.proofs.view.Turn.{Opened, viewStart}
 use Rattle.joint.proofs.safety.Tables.{has}
 use Rattle.joint.proofs.safety.Sets.{no-zero, remains-member}
 use Rattle.joint.proofs.safety.Invariant.{Log, kindsIn, classOf, resumed, waiting, resting, down, Standing, never, initial, collecting, decided, toldOf, between, recordFor, Mid, PhaseAs, Inv, cohortOf}
 use Rattle.joint.proofs.safety.coordinator.Logs.{tellingKind, resumed-record, resumes-commit, resumes-abort}
 use Rattle.joint.proofs.safety.Holds.{holds-at, init-tells, commit-tells}
 use Rattle.joint.proofs.safety.coordinator.Steps.{Shift, shift-keeps, standsAs, stand, settle-mid}
-use Rattle.joint.proofs.safety.coordinator.Crashes.{Next}
-use Rattle.joint.proofs.safety.coordinator.Runs.{Node, Runs, enter-run, runs-at, runs-end, cut-next, node-start}
+use Rattle.joint.proofs.safety.coordinator.Runs.{Node, Runs, Leads, leads, enter-run, runs-end, node-start}
 use Rattle.joint.proofs.safety.coordinator.Commits.{enter-tell}
-use Rattle.joint.proofs.safety.coordinator.Discards.{After, next-after}
 use Rattle.joint.proofs.safety.coordinator.Ways.{way-done}
 use Rattle.joint.proofs.safety.coordinator.Shifts.{resumes, forgets, forgets-told, settledAs, settled-phase, settled-between}
 use Rattle.joint.proofs.safety.Outcomes.{refl-outcome}
@@ -43,23 +40,21 @@ effects-cohort t (e ∷ es) v = effects-cohort t es (viewPerform 0 t e v) ∙ on
 
 module _ (t : ℕ) (h0 : Standing) where
   -- the effects happen while the site is down
-  start-next : {v w : View} (es : List Effect) (o : Outcome) (out : ℕ) (l : Log) (h′ : Standing) (c : Coordinator) → Runs t h0 v es (decided o out down l)
+  start-leads : {v : View} (es : List Effect) (o : Outcome) (out : ℕ) (l : Log) (h′ : Standing) (c : Coordinator) → Runs t h0 v es (decided o out down l)
       → ((u : View) → cohortOf u ≡ cohortOf v → Mid t (decided o out down l) u → Shift u (decided o out down l) h′)
       → ((u : View) → started (standsAs t u (decided o out down l)) ≡ standsAs t u h′)
-      → PhaseAs h′ c → T (between h′) → Carried t 0 es (viewStart 0 (withCoordinator 0 c)) v w → Next t h0 w
+      → PhaseAs h′ c → T (between h′) → Leads t h0 v es (viewStart 0 (withCoordinator 0 c))
   unfolding viewStart viewAt viewSettle withCoordinator
-  start-next {v} es o out l h′ c x k q p b whole =
+  start-leads {v} es o out l h′ c x k q p b =
       let y = runs-end t h0 v es (decided o out down l) x in
       let u = viewEffects 0 t es v in
       let s = k u (effects-cohort t es v) (y .mid) in
-      record {
+      leads t h0 v es (decided o out down l) x
+      (record {
         standing = h′;
         inv = record { mid = settle-mid (stand (y .mid) (s .move) (shift-keeps s) started (q u)) c; phase = p; whole = b };
         from = λ z f. s .from z (y .from z f);
-      }
-  start-next {v} es o out l h′ c x k q p b (cutAfter m n) =
-      let y = runs-at t h0 v es (decided o out down l) x m in
-      cut-next t h0 (viewEffects 0 t (take m es) v) (y .0) (y .1) n
+      })
 
   -- ---- the rows of restart
 
@@ -102,41 +97,41 @@ module _ (t : ℕ) (h0 : Standing) where
       resume-phase true q = settled-phase true false o out (owing rest o) l q
       resume-phase false q = settled-phase false false o out (owing rest o) l q
 
-      resume-next : {w : View} (c : Bool) → Node t h0 v (decided o out down l)
-          → Carried t 0 (enter o ∷ given c (tellAll t rest o (rest .members))) (viewStart 0 (withCoordinator 0 (record { phase = untilAcked o (owing rest o); takenOut = 0 }))) v w
-          → Next t h0 w
-      resume-next c x d =
-          start-next (enter o ∷ given c (tellAll t rest o (rest .members))) o out l (ending b) (record { phase = untilAcked o (owing rest o); takenOut = 0 }) (resume-run c x)
-          (resume-shift b refl) (resume-stands b) (resume-phase b refl) (settled-between b false o out (owing rest o) l refl) d
+      resume-leads : (c : Bool) → Node t h0 v (decided o out down l)
+          → Leads t h0 v (enter o ∷ given c (tellAll t rest o (rest .members))) (viewStart 0 (withCoordinator 0 (record { phase = untilAcked o (owing rest o); takenOut = 0 })))
+      resume-leads c x =
+          start-leads (enter o ∷ given c (tellAll t rest o (rest .members))) o out l (ending b) (record { phase = untilAcked o (owing rest o); takenOut = 0 }) (resume-run c x)
+          (resume-shift b refl) (resume-stands b) (resume-phase b refl) (settled-between b false o out (owing rest o) l refl)
         where
           b : Bool
           b = empty (owing rest o)
 
 -- ---- restart
 
-module _ (t : ℕ) (v w : View) where
-  abbrev Woken : Row Coordinator → Type 0
-  Woken row = Carried t 0 (row .effects) (viewStart 0 (withCoordinator 0 (row .phase))) v w
+module _ (t : ℕ) (v : View) where
+  -- a row of restart from the standing h
+  abbrev Woken : Standing → Row Coordinator → Type 0
+  Woken h row = Leads t h v (row .effects) (viewStart 0 (withCoordinator 0 (row .phase)))
 
   -- nothing is resumed
-  forget-next : (o : Outcome) (out : ℕ) (l : Log) → Mid t (decided o out down l) v → resumed (classOf l) ≡ false
-      → Carried t 0 [] (viewStart 0 (withCoordinator 0 unknownPart)) v w → Next t (decided o out down l) w
+  forget-leads : (o : Outcome) (out : ℕ) (l : Log) → Mid t (decided o out down l) v → resumed (classOf l) ≡ false
+      → Woken (decided o out down l) (record { effects = []; phase = unknownPart })
   unfolding started
-  forget-next o out l mid q d =
-      start-next t (decided o out down l) [] o out l (decided o out (resting false) l) unknownPart (node-start mid)
-      (λ u e m. forgets u o out l m (λ n k. rw q (way-done u n o true))) (λ u. refl) refl tt d
+  forget-leads o out l mid q =
+      start-leads t (decided o out down l) [] o out l (decided o out (resting false) l) unknownPart (node-start mid)
+      (λ u e m. forgets u o out l m (λ n k. rw q (way-done u n o true))) (λ u. refl) refl tt
 
   -- what the log says: commit is resumed, abort is resumed, nothing is; the record tells the cohort
-  restart-next : (o : Outcome) (out : ℕ) (l : Log) → Mid t (decided o out down l) v → (cohort : ℕ → Cohort)
+  restart-leads : (o : Outcome) (out : ℕ) (l : Log) → Mid t (decided o out down l) v → (cohort : ℕ → Cohort)
       → (T (resumed (classOf l)) → cohort (tellingKind o) ≡ toldOf (cohortOf v) out o)
-      → (r : Bool) → resumed (classOf l) ≡ r → Woken (leaving 0 (restartFrom t (sameOutcome o commit && r) (sameOutcome o abort && r) cohort)) → Next t (decided o out down l) w
+      → (r : Bool) → resumed (classOf l) ≡ r → Woken (decided o out down l) (leaving 0 (restartFrom t (sameOutcome o commit && r) (sameOutcome o abort && r) cohort))
   unfolding restartFrom resuming leaving sameOutcome
-  restart-next commit out l mid cohort e true q d =
-      resume-next t (decided commit out down l) v commit out l (of-true q) (not (empty (owing (remaining (cohortOf v) out) commit))) (node-start mid) (rw (e (of-true q)) at d)
-  restart-next abort out l mid cohort e true q d =
-      resume-next t (decided abort out down l) v abort out l (of-true q) true (node-start mid) (unfold given in (rw (e (of-true q)) at d))
-  restart-next commit out l mid cohort e false q d = forget-next commit out l mid q d
-  restart-next abort out l mid cohort e false q d = forget-next abort out l mid q d
+  restart-leads commit out l mid cohort e true q =
+      rw (e (of-true q)) (resume-leads t (decided commit out down l) v commit out l (of-true q) (not (empty (owing (remaining (cohortOf v) out) commit))) (node-start mid))
+  restart-leads abort out l mid cohort e true q =
+      rw (e (of-true q)) (unfold given in resume-leads t (decided abort out down l) v abort out l (of-true q) true (node-start mid))
+  restart-leads commit out l mid cohort e false q = forget-leads commit out l mid q
+  restart-leads abort out l mid cohort e false q = forget-leads abort out l mid q
 
   -- the record from which the outcome is resumed stands
   tells : (o : Outcome) (out : ℕ) (l : Log) → Mid t (decided o out down l) v → T (resumed (classOf l))
@@ -154,14 +149,15 @@ module _ (t : ℕ) (v w : View) where
   restart-row o out l mid cohort =
       rw (holds-at (cohortOf v) out t 0 (kindsIn l) (mid .log) 1, holds-at (cohortOf v) out t 0 (kindsIn l) (mid .log) 2, holds-at (cohortOf v) out t 0 (kindsIn l) (mid .log) 3, holds-at (cohortOf v) out t 0 (kindsIn l) (mid .log) 4, resumes-commit (writesInit (cohortOf v)) o l (mid .sound .fit), resumes-abort (writesInit (cohortOf v)) o l (mid .sound .fit)) refl
 
-  pub resume-after : (h : Standing) → Inv t h v → Opened v → v .site 0 .up ≡ false → {row : Row Coordinator}
+  pub resume-next : (h : Standing) → Inv t h v → Opened v → v .site 0 .up ≡ false → {row : Row Coordinator}
       → coordinatorRestart t (λ k. holds t k (v .site 0 .stable)) (λ k. recordedCohort t k (v .site 0 .stable)) ≡ row
-      → Woken row → After t h w
-  resume-after (never u) inv o up e d = absurd (true≢false (inv .mid .sound .opened ∙ o))
-  resume-after (initial b) inv o up e d = absurd (true≢false (sym (ap (λ (s : Site). s .up) (inv .mid .log)) ∙ up))
-  resume-after (collecting c out b) inv o up e d = absurd (true≢false (sym (ap (λ (s : Site). s .up) (inv .mid .log)) ∙ up))
-  resume-after (decided x out (waiting c) l) inv o up e d = absurd (true≢false (sym (ap (λ (s : Site). s .up) (inv .mid .log)) ∙ up))
-  resume-after (decided x out (resting b) l) inv o up e d = absurd (true≢false (sym (ap (λ (s : Site). s .up) (inv .mid .log)) ∙ up))
-  resume-after (decided x out down l) inv o up e d =
+      → Woken h row
+  resume-next (never u) inv o up e = absurd (true≢false (inv .mid .sound .opened ∙ o))
+  resume-next (initial b) inv o up e = absurd (true≢false (sym (ap (λ (s : Site). s .up) (inv .mid .log)) ∙ up))
+  resume-next (collecting c out b) inv o up e = absurd (true≢false (sym (ap (λ (s : Site). s .up) (inv .mid .log)) ∙ up))
+  resume-next (decided x out (waiting c) l) inv o up e = absurd (true≢false (sym (ap (λ (s : Site). s .up) (inv .mid .log)) ∙ up))
+  resume-next (decided x out (resting b) l) inv o up e = absurd (true≢false (sym (ap (λ (s : Site). s .up) (inv .mid .log)) ∙ up))
+  resume-next (decided x out down l) inv o up e =
       let cohort : ℕ → Cohort = λ k. recordedCohort t k (v .site 0 .stable) in
-      next-after (restart-next x out l (inv .mid) cohort (tells x out l (inv .mid)) (resumed (classOf l)) refl (subst Woken (sym e ∙ restart-row x out l (inv .mid) cohort) d))
+      subst (Woken (decided x out down l)) (sym (restart-row x out l (inv .mid) cohort) ∙ e)
+      (restart-leads x out l (inv .mid) cohort (tells x out l (inv .mid)) (resumed (classOf l)) refl)

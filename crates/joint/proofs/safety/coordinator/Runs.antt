@@ -38,13 +38,19 @@ pub record Node (t : ℕ) (h0 : Standing) (v : View) (h : Standing) : Type 0 whe
 pub node-start : {t : ℕ} {h : Standing} {v : View} → Mid t h v → Node t h v h
 node-start mid = record { mid = mid; from = λ x f. f }
 
+-- what a row of the coordinator with these effects, behind which f settles, leads to: in front of each effect and behind the last the invariant holds, and
+-- so it does where the row is whole or cut
+pub record Leads (t : ℕ) (h0 : Standing) (v : View) (es : List Effect) (f : View → View) : Type 0 where
+  pub middle : (m : ℕ) → (h : Standing) × Mid t h (viewEffects 0 t (take m es) v)
+  pub next : {w : View} → Carried t 0 es f v w → Next t h0 w
+
 module _ (t : ℕ) (h0 : Standing) where
   -- from the standing h0, through the effects, to the standing h′
   abbrev pub Runs : View → List Effect → Standing → Type 0
   Runs v [] h′ = Node t h0 v h′
   Runs v (e ∷ es) h′ = ((h : Standing) × Node t h0 v h) × Runs (viewPerform 0 t e v) es h′
 
-  pub runs-at : (v : View) (es : List Effect) (h′ : Standing) → Runs v es h′ → (m : ℕ) → (h : Standing) × Node t h0 (viewEffects 0 t (take m es) v) h
+  runs-at : (v : View) (es : List Effect) (h′ : Standing) → Runs v es h′ → (m : ℕ) → (h : Standing) × Node t h0 (viewEffects 0 t (take m es) v) h
   unfolding viewEffects
   runs-at v [] h′ x zero = (h′, x)
   runs-at v [] h′ x (suc m) = (h′, x)
@@ -57,21 +63,28 @@ module _ (t : ℕ) (h0 : Standing) where
   runs-end v (e ∷ es) h′ x = runs-end (viewPerform 0 t e v) es h′ (x .1)
 
   -- a cut: a crash from the standing that the effects have led to
-  pub cut-next : (v : View) (h : Standing) → Node t h0 v h → (n : ℕ) → Next t h0 (viewDown 0 n v)
+  cut-next : (v : View) (h : Standing) → Node t h0 v h → (n : ℕ) → Next t h0 (viewDown 0 n v)
   unfolding viewDown withCoordinator forgotten withParticipant
   cut-next v h x n =
       let y = crash-next t v h (x .mid) n in
       record { standing = y .standing; inv = y .inv; from = λ z f. y .from z (x .from z f) }
 
-  pub row-next : {v w : View} (es : List Effect) (h′ : Standing) (c : Coordinator) → Runs v es h′ → PhaseAs h′ c → T (between h′)
-      → Carried t 0 es (viewSettle (withCoordinator 0 c)) v w → Next t h0 w
+  -- a row with these effects, by where it ends
+  pub leads : {f : View → View} (v : View) (es : List Effect) (h′ : Standing) → Runs v es h′ → Next t h0 (f (viewEffects 0 t es v)) → Leads t h0 v es f
+  leads {f} v es h′ x end = record { middle = λ m. let y = runs-at v es h′ x m in (y .0, y .1 .mid); next = go }
+    where
+      go : {w : View} → Carried t 0 es f v w → Next t h0 w
+      go whole = end
+      go (cutAfter m n) =
+          let y = runs-at v es h′ x m in
+          cut-next (viewEffects 0 t (take m es) v) (y .0) (y .1) n
+
+  pub row-leads : {v : View} (es : List Effect) (h′ : Standing) (c : Coordinator) → Runs v es h′ → PhaseAs h′ c → T (between h′)
+      → Leads t h0 v es (viewSettle (withCoordinator 0 c))
   unfolding viewSettle withCoordinator
-  row-next {v} es h′ c x e b whole =
+  row-leads {v} es h′ c x e b =
       let y = runs-end v es h′ x in
-      record { standing = h′; inv = record { mid = settle-mid (y .mid) c; phase = e; whole = b }; from = y .from }
-  row-next {v} es h′ c x e b (cutAfter m n) =
-      let y = runs-at v es h′ x m in
-      cut-next (viewEffects 0 t (take m es) v) (y .0) (y .1) n
+      leads v es h′ x (record { standing = h′; inv = record { mid = settle-mid (y .mid) c; phase = e; whole = b }; from = y .from })
 
   -- ---- a change of standing, without an effect and with one on the log
 
