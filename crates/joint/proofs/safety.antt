@@ -8,4 +8,5 @@ pub mod Holds
 pub mod participant
 pub mod coordinator
 pub mod Kept
+pub mod Singles
 pub mod Tracked

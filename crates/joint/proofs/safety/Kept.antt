@@ -150,7 +150,7 @@ module _ {t : ℕ} {Out : ℕ → Type 0} where
       record { standing = x .standing; inv = x .inv; from = turned (x .from); asked = λ k n m. absurd (empty-none (cohortOf v .members) (suc n) (of-true e) m) }
   turn-kept {h} {v} {w} inv (carries (coordinates {row} i o up k takes e) d) =
       stepped-kept (carried-cohort (settle-cohort (row .phase)) d) (carried-voted (settle-voted (row .phase)) d) (inv .phase) takes (coordinator-next t v row inv o up i k e) d
-  turn-kept {h} {v} inv (carries (participates n i m up k its e) d) = same-kept inv (row-kept t h v inv n i m up k its e d)
+  turn-kept {h} {v} inv (carries (participates n i m up k its e) d) = same-kept inv (row-kept t h v inv n i m up e k its d)
   turn-kept {h} {v} {w} inv (carries (resumes {row} o d e) c) =
       come-kept (carried-cohort (start-cohort (row .phase)) c) (carried-voted (start-voted (row .phase)) c) (next-after (resume-next t v h inv o d e .next c))
   turn-kept {h} {v} inv (carries (returns n d e) c) = same-kept inv (return-kept t h v inv n d e c)

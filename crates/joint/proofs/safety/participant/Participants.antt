@@ -5,6 +5,7 @@ use mathlib.Core.Bool.{Bool, true, false, not, _||_, true≢false}
 use mathlib.Core.List.{List, [], _∷_, map}
 use mathlib.Core.Option.{Option, none, some}
 use native.Mathlib.Omega.{arith}
+use lib.ListN.{take}
 use lib.Dec.{T, eqb}
 use borrow.Author.Tests.{eq-eqb, ne-eqb, eqb-true, eqb-false}
 use Rattle.codec.specs.Lists.{any}
@@ -18,7 +19,7 @@ use Rattle.site.specs.Participant.{ParticipantPhase, outcomeRecord, voting, pro
 use Rattle.joint.specs.State.{Site, holds, forced, started, withParticipant, withMarked}
 use Rattle.joint.specs.Plan.{newest, closed}
 use Rattle.joint.proofs.base.Booleans.{mp}
-use Rattle.joint.proofs.view.View.{View, viewAt, viewSettle, viewDown}
+use Rattle.joint.proofs.view.View.{View, viewAt, viewSettle, viewEffects, viewDown}
 use Rattle.joint.proofs.view.Turn.{Carried, Given, Own, Up, viewDiscard, viewStart}
 use Rattle.joint.proofs.safety.Tables.{Status, working, prepared, gone, half, lone, shut, off, offVoted, offShut, phaseOf, Stage, isUp, stableKinds, trail, Fine}
 use Rattle.joint.proofs.safety.Sets.{empty-none, belongs}
@@ -28,7 +29,7 @@ use Rattle.joint.proofs.safety.Invariant.{Standing, recordFor, stageOf,
 use Rattle.joint.proofs.safety.Holds.{holds-at}
 use Rattle.joint.proofs.safety.participant.Rows.{ofStatus, settled, woken, dropped, heard, lands, rowTest, onRow, step-at, restart-at, force-at, crash-at, discard-at, mark-at}
 use Rattle.joint.proofs.safety.participant.Local.{Elsewhere, AllProper, reach-phase, reach-force, reach-down, reach-started, reach-woken, reach-dropped}
-use Rattle.joint.proofs.safety.participant.Places.{only-at, from-member, member-after, member-carried, from-stranger, stranger-after, stranger-carried}
+use Rattle.joint.proofs.safety.participant.Places.{only-at, from-member, member-after, member-carried, from-stranger, stranger-after, stranger-carried, Middle, member-middle, stranger-middle}
 
 -- ---- a participant's rows write records with its own fields, and send its own messages
 
@@ -222,18 +223,24 @@ module _ (t : ℕ) (h : Standing) (v : View) (inv : Inv t h v) where
       go true e x = absurd (empty-none (v .transaction .cohort .members) (suc n) (of-true u) (of-true e))
       go false e x = stranger-after refl x (reach-started t n v (from-stranger x))
 
-  pub row-kept : {row : Row ParticipantPhase} {w : View} (n : ℕ) (i : Input) → T (member (suc n) (v .transaction .cohort .members)) → Up v (suc n) → Given v i
-      → Own (suc n) i
-      → participantStep (presumptionOf (v .transaction .cohort) (suc n)) (suc n) (v .transaction .marked (suc n)) i (v .transaction .participant (suc n)) ≡ some row
-      → Carried t (suc n) (row .effects) (viewSettle (withParticipant (suc n) (row .phase))) v w → Inv t h w
-  row-kept {row} {w} n i k u d o e c = either n go
-    where
-      go : (b : Bool) → Moves n w b
-      go true q x =
-          member-carried i x (heard-given v (suc n) i d o)
-          (subst (WellFormed (v .transaction .cohort) (suc n)) e (step-proper (v .transaction .cohort) (suc n) (v .transaction .marked (suc n)) i (v .transaction .participant (suc n))))
-          settled _ (λ y z r. reach-phase t (suc n) v (row .phase) r) (step-passed x i u e) c
-      go false q x = absurd (true≢false (sym (true-of (belongs (v .transaction .cohort) n) k) ∙ q))
+  module _ {row : Row ParticipantPhase} (n : ℕ) (i : Input) (k : T (member (suc n) (v .transaction .cohort .members))) (u : Up v (suc n))
+      (e : participantStep (presumptionOf (v .transaction .cohort) (suc n)) (suc n) (v .transaction .marked (suc n)) i (v .transaction .participant (suc n)) ≡ some row) where
+    proper : AllProper (v .transaction .cohort) (suc n) (row .effects)
+    proper = subst (WellFormed (v .transaction .cohort) (suc n)) e (step-proper (v .transaction .cohort) (suc n) (v .transaction .marked (suc n)) i (v .transaction .participant (suc n)))
+
+    pub row-kept : {w : View} → Given v i → Own (suc n) i → Carried t (suc n) (row .effects) (viewSettle (withParticipant (suc n) (row .phase))) v w → Inv t h w
+    row-kept {w} d o c = either n go
+      where
+        go : (b : Bool) → Moves n w b
+        go true q x = member-carried i x (heard-given v (suc n) i d o) proper settled _ (λ y z r. reach-phase t (suc n) v (row .phase) r) (step-passed x i u e) c
+        go false q x = absurd (true≢false (sym (true-of (belongs (v .transaction .cohort) n) k) ∙ q))
+
+    pub row-middle : (a : ℕ) → Middle t n v (viewEffects (suc n) t (take a (row .effects)) v)
+    row-middle a = go (belongs (v .transaction .cohort) n) refl (here (inv .mid) n)
+      where
+        go : (b : Bool) → belongs (v .transaction .cohort) n ≡ b → Here b t (stageOf h (suc n)) n v → Middle t n v (viewEffects (suc n) t (take a (row .effects)) v)
+        go true q x = member-middle row i x proper settled (step-passed x i u e) a
+        go false q x = absurd (true≢false (sym (true-of (belongs (v .transaction .cohort) n) k) ∙ q))
 
   pub discard-kept : (n : ℕ) → Up v (suc n) → closed (v .site (suc n) .stable) ≡ true → Inv t h (viewDiscard (suc n) v)
   discard-kept n u c = either n go
@@ -242,23 +249,33 @@ module _ (t : ℕ) (h : Standing) (v : View) (inv : Inv t h v) where
       go true e x = member-after timer x tt (discard-passed x u c) (reach-dropped t n v (from-member x))
       go false e x = absurd (true≢false (sym c ∙ ap closed (x .stands .stable) ∙ none-closes))
 
-  pub return-kept : {row : Row ParticipantPhase} {w : View} (n : ℕ) → v .site (suc n) .up ≡ false
-      → participantRestart (presumptionOf (v .transaction .cohort) (suc n)) (suc n) (λ k. holds t k (v .site (suc n) .stable)) ≡ row
-      → Carried t (suc n) (row .effects) (viewStart (suc n) (withParticipant (suc n) (row .phase))) v w → Inv t h w
-  return-kept {row} {w} n u e c = either n go
-    where
-      restarted : List LogRecord → Row ParticipantPhase
-      restarted l = participantRestart (presumptionOf (v .transaction .cohort) (suc n)) (suc n) (λ k. holds t k l)
+  module _ {row : Row ParticipantPhase} (n : ℕ) (u : v .site (suc n) .up ≡ false)
+      (e : participantRestart (presumptionOf (v .transaction .cohort) (suc n)) (suc n) (λ k. holds t k (v .site (suc n) .stable)) ≡ row) where
+    returned : AllProper (v .transaction .cohort) (suc n) (row .effects)
+    returned = subst (λ (r : Row ParticipantPhase). AllProper (v .transaction .cohort) (suc n) (r .effects)) e (returned-proper (v .transaction .cohort) (suc n) _)
 
-      carried : Row ParticipantPhase → Type 0
-      carried r = Carried t (suc n) (r .effects) (viewStart (suc n) (withParticipant (suc n) (r .phase))) v w
+    -- a stranger's row has no effect
+    none-left : Here false t (stageOf h (suc n)) n v → row ≡ record { effects = []; phase = ParticipantPhase.unknown }
+    none-left x =
+        sym e
+        ∙ ap (λ (l : List LogRecord). participantRestart (presumptionOf (v .transaction .cohort) (suc n)) (suc n) (λ k. holds t k l)) (x .stands .stable)
+        ∙ none-restarts _ (suc n) t
 
-      go : (b : Bool) → Moves n w b
-      go true q x =
-          member-carried timer x tt
-          (subst (λ (r : Row ParticipantPhase). AllProper (v .transaction .cohort) (suc n) (r .effects)) e (returned-proper (v .transaction .cohort) (suc n) _))
-          woken _ (λ y z r. reach-woken t n v (row .phase) r) (restart-passed x u e) c
-      go false q x = stranger-carried x (subst carried (sym e ∙ ap restarted (x .stands .stable) ∙ none-restarts _ (suc n) t) c)
+    pub return-kept : {w : View} → Carried t (suc n) (row .effects) (viewStart (suc n) (withParticipant (suc n) (row .phase))) v w → Inv t h w
+    return-kept {w} c = either n go
+      where
+        go : (b : Bool) → Moves n w b
+        go true q x = member-carried timer x tt returned woken _ (λ y z r. reach-woken t n v (row .phase) r) (restart-passed x u e) c
+        go false q x =
+            stranger-carried x
+            (subst (λ (r : Row ParticipantPhase). Carried t (suc n) (r .effects) (viewStart (suc n) (withParticipant (suc n) (r .phase))) v w) (none-left x) c)
+
+    pub return-middle : (a : ℕ) → Middle t n v (viewEffects (suc n) t (take a (row .effects)) v)
+    return-middle a = go (belongs (v .transaction .cohort) n) (here (inv .mid) n)
+      where
+        go : (b : Bool) → Here b t (stageOf h (suc n)) n v → Middle t n v (viewEffects (suc n) t (take a (row .effects)) v)
+        go true x = member-middle row timer x returned woken (restart-passed x u e) a
+        go false x = subst (λ (r : Row ParticipantPhase). Middle t n v (viewEffects (suc n) t (take a (r .effects)) v)) (sym (none-left x)) (stranger-middle x a)
 
   -- ---- a mark: of one that works
 

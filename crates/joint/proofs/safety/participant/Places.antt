@@ -23,8 +23,14 @@ use Rattle.joint.proofs.safety.Sets.{belongs}
 use Rattle.joint.proofs.base.Lists.{each-take}
 use Rattle.joint.proofs.base.Survivors.{survivors-none}
 use Rattle.joint.proofs.safety.Invariant.{Standing, stageOf, siteWith, sentIn, Place, Edge, Here, here, PhaseAs, Inv}
-use Rattle.joint.proofs.safety.participant.Rows.{Part, still, ofStatus, heard, lands, rowTest, Landed, landed, row-whole, row-cut}
+use Rattle.joint.proofs.safety.participant.Rows.{Part, still, ofStatus, effects, single, heard, lands, rowTest, Landed, landed, row-whole, row-cut, row-single}
 use Rattle.joint.proofs.safety.participant.Local.{Local, local, Elsewhere, elsewhere-none, Reached, AllProper, reach-effects, reach-down, reach-woken}
+
+-- w is v after something happened at participant suc n, which has at most one unforced record
+pub record Middle (t n : ℕ) (v w : View) : Type 0 where
+  pub part : Part
+  pub reached : Reached t (suc n) v part w
+  pub single : T (single part)
 
 -- ---- what is elsewhere stays as it is
 
@@ -200,6 +206,18 @@ module _ {t : ℕ} {m : Stage} {n : ℕ} {v : View} where
       member-after i x d (row-cut _ (v .transaction .marked (suc n)) i (x .status) f row k a b)
       (reach-down t n v b (reach-effects t (suc n) v (take a (row .effects)) (each-take _ a (row .effects) h) (from-member x)))
 
+  -- in front of each effect of it
+  pub member-middle : (row : Row ParticipantPhase) (i : Input) (x : Here true t m n v) → AllProper (v .transaction .cohort) (suc n) (row .effects)
+      → (f : ParticipantPhase → Part → Part)
+      → T (rowTest (presumptionOf (v .transaction .cohort) (suc n)) (v .transaction .marked (suc n)) i (x .status) f row)
+      → (a : ℕ) → Middle t n v (viewEffects (suc n) t (take a (row .effects)) v)
+  member-middle row i x h f k a =
+      record {
+        part = effects (take a (row .effects)) (ofStatus (x .status));
+        reached = reach-effects t (suc n) v (take a (row .effects)) (each-take _ a (row .effects) h) (from-member x);
+        single = row-single _ (v .transaction .marked (suc n)) i (x .status) f row k a;
+      }
+
 -- ---- no member
 
 module _ {t n : ℕ} {v : View} where
@@ -238,3 +256,8 @@ module _ {t n : ℕ} {v : View} where
   stranger-carried x whole = stranger-after refl x (reach-woken t n v ParticipantPhase.unknown (from-stranger x))
   stranger-carried x (cutAfter zero b) = stranger-after (survivors-none b) x (reach-down t n v b (from-stranger x))
   stranger-carried x (cutAfter (suc a) b) = stranger-after (survivors-none b) x (reach-down t n v b (from-stranger x))
+
+  pub stranger-middle : {m : Stage} → Here false t m n v → (a : ℕ) → Middle t n v (viewEffects (suc n) t (take a []) v)
+  unfolding viewEffects
+  stranger-middle x zero = record { part = _; reached = from-stranger x; single = tt }
+  stranger-middle x (suc a) = record { part = _; reached = from-stranger x; single = tt }

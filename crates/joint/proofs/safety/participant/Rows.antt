@@ -4,8 +4,8 @@ use mathlib.Core.Path.{_≡_, refl, sym, ap, _∙_}
 use mathlib.Core.Bool.{Bool, true, false, cond, not, _&&_, _||_}
 use mathlib.Core.List.{List, [], _∷_, _++_, map}
 use mathlib.Core.Option.{Option, none, some}
-use lib.ListN.{take, drop}
-use lib.Dec.{T, eqb}
+use lib.ListN.{length, take, drop}
+use lib.Dec.{T, eqb, leb}
 use borrow.Author.Tests.{eqb-true, not-true}
 use Rattle.codec.specs.Lists.{any, same}
 use Rattle.codec.specs.Open.{codec-opens}
@@ -172,9 +172,13 @@ lands c k i s y =
     && (y .sent voteYes ⇒ y .voted)
     && any (λ z. isAs z y && keepsAll c k i s y z) allStatuses
 
--- the power is cut: whatever of what is unforced survives
+-- at most one record is unforced
+abbrev pub single : Part → Bool
+single y = leb (length (y .unforced)) 1
+
+-- so it is where the power is cut, whatever of what is unforced survives
 abbrev cutTest : Presumption → Bool → Input → Status → Part → Bool
-cutTest c k i s y = allSurvivors (λ ks. lands c k i s (halted ks y)) (y .unforced)
+cutTest c k i s y = single y && allSurvivors (λ ks. lands c k i s (halted ks y)) (y .unforced)
 
 -- a row's effects, all and then f, or some and then a cut
 abbrev pub rowTest : Presumption → Bool → Input → Status → (ParticipantPhase → Part → Part) → Row ParticipantPhase → Bool
@@ -183,7 +187,7 @@ rowTest c k i s f r =
     && allFirst (λ es. cutTest c k i s (effects es (ofStatus s))) (r .effects)
 
 cut-at : (c : Presumption) (k : Bool) (i : Input) (s : Status) (y : Part) → T (cutTest c k i s y) → (keep : ℕ) → T (lands c k i s (halted (survivors keep (y .unforced)) y))
-cut-at c k i s y = at-survivors (λ ks. lands c k i s (halted ks y)) (y .unforced)
+cut-at c k i s y h = at-survivors (λ ks. lands c k i s (halted ks y)) (y .unforced) (and-right (single y) _ h)
 
 module _ (c : Presumption) (k : Bool) (i : Input) (s : Status) (f : ParticipantPhase → Part → Part) (r : Row ParticipantPhase) (h : T (rowTest c k i s f r)) where
   abbrev after : ℕ → Part
@@ -192,12 +196,16 @@ module _ (c : Presumption) (k : Bool) (i : Input) (s : Status) (f : ParticipantP
   pub row-whole : T (lands c k i s (f (r .phase) (effects (r .effects) (ofStatus s))))
   row-whole = and-left (lands c k i s (f (r .phase) (effects (r .effects) (ofStatus s)))) _ h
 
+  first-tests : T (allFirst (λ es. cutTest c k i s (effects es (ofStatus s))) (r .effects))
+  first-tests = and-right (lands c k i s (f (r .phase) (effects (r .effects) (ofStatus s)))) _ h
+
+  -- in front of each effect, and behind the last
+  pub row-single : (a : ℕ) → T (single (after a))
+  row-single a = and-left (single (after a)) _ (at-first (λ es. cutTest c k i s (effects es (ofStatus s))) (r .effects) first-tests a)
+
   pub row-cut : (a b : ℕ) → T (lands c k i s (halted (survivors b (after a .unforced)) (after a)))
   row-cut a b =
-      cut-at c k i s (after a)
-      (at-first (λ es. cutTest c k i s (effects es (ofStatus s))) (r .effects)
-      (and-right (lands c k i s (f (r .phase) (effects (r .effects) (ofStatus s)))) _ h) a)
-      b
+      cut-at c k i s (after a) (at-first (λ es. cutTest c k i s (effects es (ofStatus s))) (r .effects) first-tests a) b
 
 abbrev pub onRow : (Row ParticipantPhase → Bool) → Option (Row ParticipantPhase) → Bool
 onRow f none = true
