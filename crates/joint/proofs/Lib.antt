@@ -7,6 +7,7 @@ mod Screen
 mod Exact
 mod logs
 mod Reachable
+mod Unforced
 mod engine
 mod Program
 mod Cases

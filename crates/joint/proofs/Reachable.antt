@@ -18,7 +18,7 @@ use Rattle.joint.specs.State.{Run, fresh, opened}
 use Rattle.joint.specs.Run.{after, siteImage}
 use Rattle.joint.specs.Safety.{history}
 use Rattle.joint.proofs.view.View.{view}
-use Rattle.joint.proofs.base.Lists.{Each, each-at, each-back, each-map}
+use Rattle.joint.proofs.base.Lists.{Each, each-at, each-map}
 use Rattle.joint.proofs.safety.Tables.{Status, trail}
 use Rattle.joint.proofs.safety.Invariant.{Standing, never, initial, collecting, decided, phaseAt, stageOf, Here, here, PhaseAs, Inv}
 use Rattle.joint.proofs.safety.Tracked.{tracked}
@@ -104,10 +104,6 @@ module _ (es : List (List ℕ)) where
     -- of each transaction at most one record is unforced
     pub unforced-single : (t : ℕ) → length (select (ofTransaction t) (r .site s .unforced)) ≤ 1
     unforced-single t = few-unforced (kinds t s)
-
-    pub unforced-bounded : length (r .site s .unforced) ≤ 8
-    unforced-bounded =
-        counted-most 8 1 (r .site s .unforced) (each-back (λ x. x .transaction < 8) (r .site s .stable) (r .site s .unforced) numbers) unforced-single
 
     pub down-unforced : r .site s .up ≡ false → r .site s .unforced ≡ []
     down-unforced d = no-record (r .site s .unforced) (λ t. halted (kinds t s) d)

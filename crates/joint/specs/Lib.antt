@@ -4,6 +4,7 @@ pub mod Refusals
 pub mod Plan
 pub mod Run
 pub mod Safety
+pub mod Unforced
 pub mod Totals
 pub mod Drill
 pub mod Screen

@@ -62,7 +62,7 @@ members-up r M small h n m =
     (true-of _ (unfold any participants in below-at 8 (λ k. any (eqb (suc k)) participants) tt n (omega (arith, range .1)))) m)
 
 module _ (r : Run) (t : ℕ) where
-  was-opened : (l : List (ℕ × Bool)) → first ((3, unopened r t) ∷ l) ≡ 0 → opened r t ≡ true
+  pub was-opened : (l : List (ℕ × Bool)) → first ((3, unopened r t) ∷ l) ≡ 0 → opened r t ≡ true
   unfolding unopened
   was-opened l h = not-false _ (not-struck 2 _ l h .0)
 
@@ -192,7 +192,7 @@ module _ (t : ℕ) (Out : ℕ → Type 0) (r : Run) where
           own-or-other t (λ u. seenEffects t (acting u (force ∷ [])) ≡ select isForce (force ∷ []))
           (seen-own t (force ∷ []) ∙ (unfold select isForce in refl)) (λ u n. seen-other t u n (force ∷ [])) 0
 
-  plan-shown : (e : Event) → InRange e → (opened r t ≡ true → t < 8) → TakesOut e → Planned e
+  pub plan-shown : (e : Event) → InRange e → (opened r t ≡ true → t < 8) → TakesOut e → Planned e
   unfolding refusals plan
   plan-shown (opening u M C) range small takes =
       own-or-other t (λ u. InRange (opening u M C) → Planned (opening u M C)) (opening-own M C) (λ u n range. opening-other M C u n) u range
