@@ -1,6 +1,6 @@
-/* dpr_drill as a C firmware calls it: K1 to K9 of document 01, boxes that only looked, forced writes, the order of sends, the examples of
- * 01's table of refusals, and buffers of every length around the text's. The whole text and all the memory around is compared; the first
- * difference ends the program. */
+/* dpr_drill as a C firmware calls it: K1 to K9 of document 01, boxes that only looked, forced writes, the order of sends, records that
+ * survive a loss of power, the examples of 01's table of refusals, and buffers of every length around the text's. The whole text and all the
+ * memory around is compared; the first difference ends the program. */
 #include "dpr.h"
 
 #include <stdio.h>
@@ -53,11 +53,15 @@ static void drills(const char *name, const char *wanted, const uint8_t *events, 
 #define BEGIN(handover) 1, handover, 0, 0, NONE
 #define DELIVER_OF(handover, box, kind) 2, handover, box, kind, NONE
 #define DELIVER(box, kind) DELIVER_OF(0, box, kind)
-#define DELIVER_CUT(box, kind, cut, keep) 2, 0, box, kind, cut, keep
-#define TIMER(site) 3, 0, site, 0, NONE
+#define DELIVER_CUT_OF(handover, box, kind, cut, keep) 2, handover, box, kind, cut, keep
+#define DELIVER_CUT(box, kind, cut, keep) DELIVER_CUT_OF(0, box, kind, cut, keep)
+#define TIMER_OF(handover, site) 3, handover, site, 0, NONE
+#define TIMER(site) TIMER_OF(0, site)
 #define FORCE(site) 4, 0, site, 0, NONE
-#define DISCARD(site) 5, 0, site, 0, NONE
-#define CRASH(site) 6, 0, site, 0, NONE
+#define DISCARD_OF(handover, site) 5, handover, site, 0, NONE
+#define DISCARD(site) DISCARD_OF(0, site)
+#define CRASH_KEEP(site, keep) 6, 0, site, 0, 0xFF, keep
+#define CRASH(site) CRASH_KEEP(site, 0)
 #define RESTART(site) 7, 0, site, 0, NONE
 #define MARK(box) 8, 0, box, 0, NONE
 
@@ -136,6 +140,24 @@ static void order(void) {
         OPEN(1, 7, DPR_BIT(3)), BEGIN(1), 3, 1, 0, 0, 2, 0, TO_THREE(DPR_ABORT));
 }
 
+/* Keep names unforced records of the site, the oldest by its lowest bit: all of one, and the second of two, in a crash and in a cut event. */
+#define TWO_OPENED OPEN(0, 1, 0), OPEN(1, 1, 0), BEGIN(0), BEGIN(1)
+#define TWO_OPENED_TEXT "1 0 0 0 0\n2 0 0 0 0\n3 0 0 0 1\n4 0 0 0 1\n"
+#define BOTH_ABORT "HANDOVER 0 AA-------\nHANDOVER 1 AA-------\n"
+static void survivors(void) {
+  DRILL("one record", K1_TEXT "6 9 0 0 0\n7 0 0 0 0\n8 0 0 0 0\n" BOTH_COMMIT ONE_BOX(2, 1), K1, CRASH_KEEP(1, 2), CRASH_KEEP(1, 1), RESTART(1));
+  DRILL("the second of two",
+        TWO_OPENED_TEXT "5 0 1 1 1\n6 0 0 0 1\n7 0 0 0 1\n8 0 1 0 0\n9 0 1 0 0\n10 9 0 0 0\n11 0 0 0 0\n12 0 0 0 1\n" BOTH_ABORT
+        "0 2 0 0\n1 2 0 1\n" ZERO SIX(ZERO),
+        TWO_OPENED, DELIVER(1, DPR_PREPARE), TIMER(0), TIMER_OF(1, 0), DELIVER(1, DPR_ABORT), DELIVER_OF(1, 1, DPR_ABORT), CRASH_KEEP(1, 4),
+        CRASH_KEEP(1, 2), RESTART(1));
+  DRILL("the second of two, cut behind it",
+        TWO_OPENED_TEXT "5 0 0 0 1\n6 0 0 0 1\n7 0 1 0 0\n8 9 0 0 0\n9 0 1 0 0\n10 0 0 0 0\n11 8 0 0 0\n12 0 0 0 0\n" BOTH_ABORT
+        "0 2 0 0\n0 2 0 0\n" ZERO SIX(ZERO),
+        TWO_OPENED, TIMER(0), TIMER_OF(1, 0), DELIVER(1, DPR_ABORT), DELIVER_CUT_OF(1, 1, DPR_ABORT, 0, 2), DELIVER_CUT_OF(1, 1, DPR_ABORT, 1, 2),
+        RESTART(1), DISCARD(1), DISCARD_OF(1, 1));
+}
+
 /* The examples of the table, in its order; 8 is a code since Job 3, and there box 0 is out of range. */
 static void refusals(void) {
   DRILL("1, code 8", "1 1 0 0 0\n" NONE_OPENED, 8, 0, 0, 0, NONE);
@@ -179,6 +201,7 @@ int main(void) {
   read_only();
   forces();
   order();
+  survivors();
   refusals();
   longest();
   printf("firmware in C: %u checks, ok\n", checks);

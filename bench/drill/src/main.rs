@@ -15,6 +15,7 @@ mod step;
 use lists::{list, Style, PLAIN};
 use reference::drill::{drill, drill_events};
 use reference::joint::{Plan, Run, NO_CUT};
+use reference::mask_lists::mask_lists;
 use reference::order_lists::order_lists;
 use reference::random::{Event, Rng};
 use std::hint::black_box;
@@ -133,9 +134,9 @@ fn check() {
         }
         println!("{mix}: the texts agree; {accepted:.0} % of the events are accepted, {with_effects:.0} % have effects");
     }
-    // the drill in plain Rust on more lists, also broken ones and one without an event, and cut between sends
+    // the drill in plain Rust on more lists, also broken ones and one without an event, cut between sends, with every keep
     let mut rng = Rng::new(7);
-    let mut lists: Vec<Vec<u8>> = order_lists().iter().map(|list| list.concat()).collect();
+    let mut lists: Vec<Vec<u8>> = order_lists().iter().chain(&mask_lists()).map(|list| list.concat()).collect();
     for i in 0..3_000 {
         let length = 1 + rng.below(400);
         let mut events = list(&mut rng, &lists::STYLES[i % lists::STYLES.len()], length);

@@ -1,7 +1,7 @@
 //! The joint run of the drill in plain Rust. A set of participants is a mask, and so are the kinds of the stable records of
 //! a transaction at a site, since these stand in rising order.
 
-use crate::site::Site;
+use crate::site::{names_more, Site};
 use crate::step::*;
 
 pub const EVENT: usize = 6;
@@ -167,7 +167,7 @@ impl Run {
                 if !self.is_up(y) {
                     return Err(5);
                 }
-                if keep > self.sites[y as usize].count {
+                if names_more(keep, self.sites[y as usize].count) {
                     return Err(9);
                 }
                 self.down(y, keep);
@@ -245,7 +245,7 @@ impl Run {
         let appended = first != 0 && cut > 0 || last != 0 && cut == all;
         let forced = force && cut >= 2;
         let unforced = if forced { 0 } else { self.sites[site as usize].count + appended as u8 };
-        if keep > unforced {
+        if names_more(keep, unforced) {
             return Err(9);
         }
         self.perform(site, h, row, cut, &mut answer);

@@ -3,6 +3,7 @@
 use reference::codec::*;
 use reference::joint::{Phase, Plan, Run, Transaction};
 use reference::log::Log;
+use reference::losses::{self, Tried};
 use reference::read_only::{met, NAMES, NEVER};
 use reference::send_order;
 use reference::step::{CoordinatorPhase, Effect};
@@ -54,17 +55,10 @@ const DISCARDS: [&[u8]; 11] =
 const CUTS: [&str; 4] = ["not cut", "cut before its effects", "cut between its effects", "cut behind its effects"];
 
 /// What else has to be met, and how often.
-const OTHERS: [(&str, u64); 28] = [
+const OTHERS: [(&str, u64); 21] = [
     ("cut between two sends", 5000),
-    ("down: all of the unforced records lost", 5000),
-    ("down: some kept, some lost", 1000),
-    ("down: one kept and no other there", 5000),
-    ("down: two or more kept and no other there", 1000),
-    ("down: five or more kept", 20),
     ("refused: cut one above the effects", 1000),
     ("refused: cut far above the effects", 100),
-    ("refused: keep one above the unforced records at a cut", 1000),
-    ("refused: keep one above the unforced records at a crash", 1000),
     ("opening refused for a member alone", 20),
     ("opened with eight members", 500),
     ("restart of the coordinator with effects of five or more transactions", 500),
@@ -96,10 +90,12 @@ pub struct Coverage {
     /// By participant, kinds of records, and whether it is cut.
     restarts: BTreeMap<(bool, Vec<u8>, bool), u64>,
     discards: BTreeMap<Vec<u8>, u64>,
-    /// What Job 3 adds, by its name, what Job 4 counts, and what cuts show of Job 5's order.
+    /// What Job 3 adds, by its name, what Job 4 counts, what cuts show of Job 5's order, and what Job 6 lets survive.
     read_only: BTreeMap<&'static str, u64>,
     forced: BTreeMap<&'static str, u64>,
     order: BTreeMap<String, u64>,
+    kept: BTreeMap<String, u64>,
+    tried: Tried,
     /// By transactions opened with a site, and by the digits of its forces, its quotient and its remainder.
     opened: [u64; 9],
     digits: [[u64; 5]; 3],
@@ -157,6 +153,10 @@ impl Coverage {
         for name in send_order::met(run, event, &judged) {
             *self.order.entry(name).or_default() += 1;
         }
+        for name in losses::met(run, event) {
+            *self.kept.entry(name).or_default() += 1;
+        }
+        self.tried.event(run, event);
         self.answers[code as usize][*judged.as_ref().err().unwrap_or(&0) as usize] += 1;
         match judged {
             Ok(plan) => self.accepted(run, event, &plan),
@@ -169,9 +169,8 @@ impl Coverage {
     fn accepted(&mut self, run: &Run, event: &[u8], plan: &Plan) {
         match plan {
             Plan::Open(names) => self.other("opened with eight members", names.members == 255),
-            Plan::Row { site, restart, effects, cut, keep, .. } => {
+            Plan::Row { site, restart, effects, cut, .. } => {
                 if let Some(cut) = *cut {
-                    self.down(*keep, run.unforced_after(*site, &effects[..cut]));
                     let sends = |i: usize| matches!(effects.get(i), Some((_, Effect::Send(_))));
                     self.other("cut between two sends", cut > 0 && sends(cut - 1) && sends(cut));
                 }
@@ -184,42 +183,22 @@ impl Coverage {
                     self.step(run, event, *site, effects, *cut);
                 }
             }
-            Plan::Force { .. } | Plan::Mark { .. } => {}
+            Plan::Force { .. } | Plan::Mark { .. } | Plan::Crash { .. } => {}
             Plan::Discard { transaction, site } => {
                 let records = run.logs[*site as usize].records.len();
                 self.other("discard of the coordinator with 24 records", *site == COORDINATOR && records == 24);
                 self.other("discard of a participant with 16 records", *site != COORDINATOR && records == 16);
                 *self.discards.entry(kinds(&run.logs[*site as usize], *transaction)).or_default() += 1;
             }
-            Plan::Crash { site, keep } => self.down(*keep, run.logs[*site as usize].unforced()),
         }
     }
 
-    fn down(&mut self, keep: usize, unforced: usize) {
-        self.other("down: all of the unforced records lost", keep == 0 && unforced > 0);
-        self.other("down: some kept, some lost", 0 < keep && keep < unforced);
-        self.other("down: one kept and no other there", keep == 1 && unforced == 1);
-        self.other("down: two or more kept and no other there", keep >= 2 && keep == unforced);
-        self.other("down: five or more kept", keep >= 5);
-    }
-
-    /// Refusal 9.
+    /// Refusal 9 of a row: is it the cut?
     fn above(&mut self, run: &Run, event: &[u8]) {
-        let &[code, _, site, _, cut, keep] = event else { unreachable!() };
-        if code == 6 {
-            let unforced = run.logs[site as usize].unforced();
-            return self.other("refused: keep one above the unforced records at a crash", keep as usize == unforced + 1);
-        }
-        let mut uncut = event.to_vec();
-        (uncut[4], uncut[5]) = (255, 0);
-        let Ok(Plan::Row { site, effects, .. }) = run.judge(&uncut) else { unreachable!() };
-        let (cut, keep) = (cut as usize, keep as usize);
-        self.other("refused: cut one above the effects", cut == effects.len() + 1);
-        self.other("refused: cut far above the effects", cut > effects.len() + 1);
-        if cut <= effects.len() {
-            let one_above = keep == run.unforced_after(site, &effects[..cut]) + 1;
-            self.other("refused: keep one above the unforced records at a cut", one_above);
-        }
+        let &[code, x, y, z, cut, _] = event else { unreachable!() };
+        let Ok(Plan::Row { effects, .. }) = run.judge(&[code, x, y, z, 255, 0]) else { return };
+        self.other("refused: cut one above the effects", cut as usize == effects.len() + 1);
+        self.other("refused: cut far above the effects", cut as usize > effects.len() + 1);
     }
 
     fn restart(&mut self, run: &Run, site: u8, effects: &[(u8, Effect)], cut: Option<usize>) {
@@ -330,6 +309,9 @@ impl Coverage {
         for name in send_order::names() {
             least(*self.order.get(&name).unwrap_or(&0), 5, name);
         }
+        for name in losses::names() {
+            least(*self.kept.get(&name).unwrap_or(&0), 300, name);
+        }
         for (opened, met) in self.opened.into_iter().enumerate() {
             least(met, 500, format!("a site with {opened} transactions"));
         }
@@ -354,6 +336,7 @@ impl Coverage {
             let what = format!("HANDOVER line with {}", letter as char);
             least(*self.letters.get(&letter).unwrap_or(&0), 500, what);
         }
+        missing.extend(self.tried.missing());
         missing
     }
 
@@ -370,7 +353,9 @@ impl Coverage {
         println!("of Job 3: {}", added.join("; "));
         let counted = totals::NAMES.map(|name| format!("{name} {}", self.forced.get(name).unwrap_or(&0)));
         println!("of Job 4: {}", counted.join("; "));
-        let (least, most) = (self.order.values().min(), self.order.values().max());
-        println!("of Job 5: {} names, each {} to {} times", self.order.len(), least.unwrap_or(&0), most.unwrap_or(&0));
+        for (job, names) in [(5, &self.order), (6, &self.kept)] {
+            let (least, most) = (names.values().min(), names.values().max());
+            println!("of Job {job}: {} names, each {} to {} times", names.len(), least.unwrap_or(&0), most.unwrap_or(&0));
+        }
     }
 }

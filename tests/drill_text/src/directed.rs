@@ -25,7 +25,8 @@ pub fn long_restarts(rng: &mut Rng, commits: bool) -> Vec<u8> {
     list.concat()
 }
 
-/// Participants and a coordinator with many unforced records, and crashes that keep each number of them: a list for each.
+/// Participants and a coordinator with many unforced records, and crashes that keep some of them: as many of the lowest
+/// bits of keep are tried as the records are.
 pub fn many_unforced(rng: &mut Rng, keep: u8) -> Vec<u8> {
     let mut list = vec![];
     let members = random_mask(rng, 3);
@@ -47,8 +48,7 @@ pub fn many_unforced(rng: &mut Rng, keep: u8) -> Vec<u8> {
         list.extend((0..8).flat_map(|h| each(members).map(move |b| [2, h, b, kind, NO_CUT, 0])));
     }
     for site in (0..SITES).filter(|&site| site == 0 || has(members, site)) {
-        list.push([6, 0, site, 0, NO_CUT, keep]);
-        list.push([6, 0, site, 0, NO_CUT, keep / 2]);
+        list.extend((0..=8).map(|less| [6, 0, site, 0, NO_CUT, keep & (255u16 >> less) as u8]));
         list.push([7, 0, site, 0, NO_CUT, 0]);
         list.extend((0..8).map(|h| [3, h, site, 0, NO_CUT, 0]));
         list.extend((0..24).map(|i| [5, i / 3, site, 0, NO_CUT, 0]));
@@ -133,7 +133,7 @@ pub fn full_logs(rng: &mut Rng, commits: usize) -> Vec<u8> {
         let site = if rng.percent(40) { 0 } else { member(rng, members) };
         list.push(match rng.below(20) {
             0 => [4, 0, site, 0, NO_CUT, 0],
-            1 => [6, 0, site, 0, NO_CUT, rng.below(3) as u8],
+            1 => [6, 0, site, 0, NO_CUT, rng.below(4) as u8],
             2 | 3 => [7, 0, site, 0, NO_CUT, 0],
             4 => [2, rng.below(8) as u8, member(rng, members), rng.below(8) as u8, NO_CUT, 0],
             _ => [5, rng.below(8) as u8, site, 0, NO_CUT, 0],

@@ -3,7 +3,9 @@
 
 use reference::codec::{each, Mask, Message, COORDINATOR, PARTICIPANTS, SITES};
 use reference::joint::{Plan, Run, NO_CUT};
-use reference::random::{leads_on, random_mask, small_event, some_keep, some_of, wild_event, with_cut, Event, Rng};
+use reference::random::{
+    at_the_border, leads_on, random_mask, small_event, some_keep, some_of, wild_event, with_cut, Event, Rng,
+};
 use reference::step::{CoordinatorPhase, Names};
 
 /// What a list is made of. The weights are shares of the events that follow the protocol.
@@ -220,18 +222,7 @@ fn faulty(rng: &mut Rng, run: &Run, mut event: Event) -> Event {
             let at = rng.below(6);
             event[at] = event[at].wrapping_add(rng.pick(&[1, 255, 8, 128]));
         }
-        2 | 3 => {
-            // at the border of the effects or of the unforced records, or one above
-            if let Ok(Plan::Row { site, effects, .. }) = run.judge(&event) {
-                let cut = rng.below(effects.len() + 2);
-                event[4] = cut as u8;
-                if cut <= effects.len() {
-                    event[5] = (run.unforced_after(site, &effects[..cut]) + rng.below(2)) as u8;
-                }
-            } else {
-                event[5] = event[5].wrapping_add(1);
-            }
-        }
+        2 | 3 => event = at_the_border(rng, run, event),
         4 => event = small_event(rng),
         _ => {
             // well formed, of an opened transaction mostly

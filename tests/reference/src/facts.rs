@@ -28,15 +28,18 @@ struct Past {
     totals: [Totals; 9],
     /// The forces that the events' answers tell, by the site of the event.
     told: [u64; 9],
+    /// The most unforced records of the coordinator, and of a participant, at any moment.
+    most_unforced: [usize; 2],
 }
 
-pub fn facts(input: &[u8]) -> Fact {
+/// The most unforced records that the coordinator had, and a participant, or the fact that does not hold.
+pub fn facts(input: &[u8]) -> Result<[usize; 2], String> {
     let mut run = Run::fresh();
     let mut past = Past::default();
     for (i, event) in drill_events(input).enumerate() {
         past.event(&mut run, event).map_err(|what| format!("after event {}: {what}", i + 1))?;
     }
-    Ok(())
+    Ok(past.most_unforced)
 }
 
 /// The site at which an event's effects happen.
@@ -64,7 +67,10 @@ impl Past {
         count(&mut self.totals, happening);
         if let Happening::Did { site, .. } | Happening::Down { site, .. } | Happening::Dropped { site, .. } = *happening
         {
-            facts_of_log(site, &self.logs[site as usize])?;
+            let log = &self.logs[site as usize];
+            facts_of_log(site, log)?;
+            let most = &mut self.most_unforced[(site != COORDINATOR) as usize];
+            *most = log.unforced().max(*most);
         }
         for record in self.logs[0].stable_part().iter().filter(|record| record.kind() == 2) {
             self.commit_was_stable[record.transaction() as usize] = true;
@@ -102,7 +108,7 @@ fn facts_of_totals(site: u8, numbers: [u64; 4], told: u64, with_it: u64) -> Fact
     fact(exact, "a remainder too large, or a quotient without transactions")
 }
 
-/// Of the whole log and of its stable part, at any moment.
+/// Of the whole log, of its stable part and of its unforced records, at any moment, within a row too.
 fn facts_of_log(site: u8, log: &Log) -> Fact {
     let most = if site == COORDINATOR { 24 } else { 16 };
     fact(log.records.len() <= most, "more records than an image holds", 0, site)?;
@@ -111,6 +117,7 @@ fn facts_of_log(site: u8, log: &Log) -> Fact {
         fact(read.is_ok_and(|(of, log)| of == site && log == part), "a log that is no accepted image", 0, site)?;
     }
     let unforced = &log.records[log.stable..];
+    fact(unforced.len() <= TRANSACTIONS as usize, "more than eight unforced records", 0, site)?;
     for h in 0..TRANSACTIONS {
         let of = unforced.iter().filter(|record| record.transaction() == h).count();
         fact(of <= 1, "two unforced records", h, site)?;
@@ -332,18 +339,26 @@ mod tests {
 
     #[test]
     fn facts_of_logs_may_fail() {
+        let record = |transaction: u8, kind: u8| match kind {
+            1 => LogRecord::Init { transaction, members: 3, presume_commit: 1 },
+            2 => LogRecord::Commit { transaction, members: 2, presume_commit: 0 },
+            3 => LogRecord::CommitEnd { transaction },
+            _ => LogRecord::AbortEnd { transaction },
+        };
         let log = |stable: usize, kinds: &[u8]| {
-            let record = |&kind: &u8| match kind {
-                1 => LogRecord::Init { transaction: 0, members: 3, presume_commit: 1 },
-                2 => LogRecord::Commit { transaction: 0, members: 2, presume_commit: 0 },
-                3 => LogRecord::CommitEnd { transaction: 0 },
-                _ => LogRecord::AbortEnd { transaction: 0 },
-            };
-            facts_of_log(0, &Log { records: kinds.iter().map(record).collect(), stable })
+            facts_of_log(0, &Log { records: kinds.iter().map(|&kind| record(0, kind)).collect(), stable })
         };
         assert_eq!(log(2, &[1, 2, 3]), Ok(()));
         assert!(log(1, &[1, 2, 3]).is_err_and(|what| what.contains("two unforced records")));
         assert!(log(1, &[1, 3]).is_err_and(|what| what.contains("no accepted image")));
         assert!(log(25, &[4; 25]).is_err_and(|what| what.contains("more records")));
+        let ends = |unforced: u8, more: &[LogRecord]| {
+            let records = (0..8).map(|h| record(h, 3)).take(unforced as usize).chain(more.iter().copied()).collect();
+            facts_of_log(0, &Log { records, stable: 0 })
+        };
+        assert_eq!(ends(8, &[]), Ok(()));
+        let two = [record(7, 1), record(7, 4)];
+        assert!(ends(6, &two).is_err_and(|what| what.contains("two unforced records")));
+        assert!(ends(7, &two).is_err_and(|what| what.contains("more than eight unforced records")));
     }
 }

@@ -32,7 +32,7 @@ pub enum Happening {
     Opened(Names),
     Marked { transaction: u8, participant: u8 },
     Did { site: u8, transaction: Option<u8>, effect: Effect },
-    Down { site: u8, keep: usize },
+    Down { site: u8, keep: u8 },
     Dropped { site: u8, transaction: u8 },
 }
 
@@ -55,10 +55,10 @@ pub enum Phase {
 pub enum Plan {
     Open(Names),
     /// A step or a restart: effects with their transaction, and the phases it leads to.
-    Row { site: u8, restart: bool, effects: Vec<(u8, Effect)>, phases: Vec<(u8, Phase)>, cut: Option<usize>, keep: usize },
+    Row { site: u8, restart: bool, effects: Vec<(u8, Effect)>, phases: Vec<(u8, Phase)>, cut: Option<usize>, keep: u8 },
     Force { site: u8 },
     Discard { transaction: u8, site: u8 },
-    Crash { site: u8, keep: usize },
+    Crash { site: u8, keep: u8 },
     Mark { transaction: u8, participant: u8 },
 }
 
@@ -155,15 +155,10 @@ impl Run {
     }
 
     fn perform(&mut self, site: u8, transaction: Option<u8>, effect: Effect, answer: &mut Answer) {
+        self.logs[site as usize].perform(effect);
         match effect {
-            Effect::Append(record) => {
-                self.logs[site as usize].append(record);
-                answer.records += 1;
-            }
-            Effect::Force => {
-                self.logs[site as usize].force();
-                answer.forces += 1;
-            }
+            Effect::Append(_) => answer.records += 1,
+            Effect::Force => answer.forces += 1,
             Effect::Enter(outcome) => {
                 let h = transaction.expect("an entry has a transaction");
                 let t = self.transactions[h as usize].as_mut().expect("opened");
@@ -181,7 +176,7 @@ impl Run {
         self.history.push(Happening::Did { site, transaction, effect });
     }
 
-    fn go_down(&mut self, site: u8, keep: usize) {
+    fn go_down(&mut self, site: u8, keep: u8) {
         self.logs[site as usize].go_down(keep);
         self.up[site as usize] = false;
         for t in self.transactions.iter_mut().flatten() {

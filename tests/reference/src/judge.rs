@@ -2,6 +2,7 @@
 
 use crate::codec::*;
 use crate::joint::*;
+use crate::log::{keeps_within, Log};
 use crate::restart::*;
 use crate::step::*;
 
@@ -49,7 +50,6 @@ impl Run {
         if !fields_ok || !cut_ok || !keep_ok {
             return Err(1);
         }
-        let keep = keep as usize;
         let cut = if cut == NO_CUT { None } else { Some(cut as usize) };
         match code {
             0 => {
@@ -101,9 +101,7 @@ impl Run {
             }
             6 => {
                 self.need_up(y)?;
-                if keep > self.logs[y as usize].unforced() {
-                    return Err(9);
-                }
+                self.may_keep(y, &[], keep)?;
                 Ok(Plan::Crash { site: y, keep })
             }
             7 => {
@@ -158,7 +156,7 @@ impl Run {
         phase: Phase,
         row: Vec<Effect>,
         cut: Option<usize>,
-        keep: usize,
+        keep: u8,
     ) -> Result<Plan, u8> {
         let effects = row.into_iter().map(|e| (transaction, e)).collect();
         self.checked(Plan::Row { site, restart: false, effects, phases: vec![(transaction, phase)], cut, keep })
@@ -167,23 +165,29 @@ impl Run {
     /// Refusal 9 for a row.
     fn checked(&self, plan: Plan) -> Result<Plan, u8> {
         if let Plan::Row { site, effects, cut: Some(cut), keep, .. } = &plan {
-            if *cut > effects.len() || *keep > self.unforced_after(*site, &effects[..*cut]) {
-                return Err(9);
-            }
+            self.may_keep(*site, effects.get(..*cut).ok_or(9)?, *keep)?;
         }
         Ok(plan)
     }
 
-    /// The unforced records at a site once these effects have happened.
-    pub fn unforced_after(&self, site: u8, effects: &[(u8, Effect)]) -> usize {
-        let mut unforced = self.logs[site as usize].unforced();
-        for (_, effect) in effects {
-            match effect {
-                Effect::Append(_) => unforced += 1,
-                Effect::Force => unforced = 0,
-                Effect::Enter(_) | Effect::Send(_) => {}
-            }
+    /// Refusal 9 for keep, where a site goes down once these effects have happened.
+    fn may_keep(&self, site: u8, effects: &[(u8, Effect)], keep: u8) -> Result<(), u8> {
+        if keeps_within(keep, self.unforced_after(site, effects)) {
+            Ok(())
+        } else {
+            Err(9)
         }
-        unforced
+    }
+
+    /// A site's log once these effects have happened.
+    pub fn log_after(&self, site: u8, effects: &[(u8, Effect)]) -> Log {
+        let mut log = self.logs[site as usize].clone();
+        effects.iter().for_each(|&(_, effect)| log.perform(effect));
+        log
+    }
+
+    /// Its unforced records then.
+    pub fn unforced_after(&self, site: u8, effects: &[(u8, Effect)]) -> usize {
+        self.log_after(site, effects).unforced()
     }
 }

@@ -1,4 +1,4 @@
-//! Reference model of document 01 and Jobs 1, 3, 4 and 5 of document 02 for tests, with the readings that
+//! Reference model of document 01 and Jobs 1 and 3 to 6 of document 02 for tests, with the readings that
 //! docs/DECISIONS.md chooses. It was written from the text and from no Rattle file, so that the two can be compared.
 //! 01's words in the field's names: hub = coordinator, box = participant, handover = transaction, PC = presume_commit.
 
@@ -8,6 +8,8 @@ pub mod facts;
 pub mod joint;
 pub mod judge;
 pub mod log;
+pub mod losses;
+pub mod mask_lists;
 pub mod monitor;
 pub mod numbers;
 pub mod order_lists;

@@ -4,6 +4,8 @@ use reference::codec::*;
 use reference::drill::*;
 use reference::facts;
 use reference::joint::*;
+use reference::losses;
+use reference::mask_lists::*;
 use reference::monitor;
 use reference::numbers::*;
 use reference::order_lists::*;
@@ -16,7 +18,7 @@ use reference::totals;
 use std::collections::BTreeMap;
 use std::io::{self, BufRead, BufWriter, Write};
 
-const USAGE: &str = "usage: reference drill|dump|read|write|step|message|safe|facts|met|orders
+const USAGE: &str = "usage: reference drill|dump|read|write|step|message|safe|facts|met|orders|masks
        reference random SEED COUNT MAXLEN
        reference random-images SEED COUNT
        reference random-steps SEED COUNT";
@@ -122,11 +124,13 @@ fn answer_message(line: &str) -> Option<String> {
     })
 }
 
-fn verdict(result: Result<(), String>) -> String {
-    match result {
-        Ok(()) => "ok".to_string(),
-        Err(what) => format!("broken: {what}"),
-    }
+fn verdict<T>(result: Result<T, String>, ok: impl Fn(T) -> String) -> String {
+    result.map_or_else(|what| format!("broken: {what}"), ok)
+}
+
+/// Of the coordinator and of a participant.
+fn most_unforced([coordinator, participant]: [usize; 2]) -> String {
+    format!("ok {coordinator} {participant}")
 }
 
 fn answer_lines(answer: impl Fn(&str) -> Option<String>) -> io::Result<()> {
@@ -138,7 +142,7 @@ fn answer_lines(answer: impl Fn(&str) -> Option<String>) -> io::Result<()> {
     out.flush()
 }
 
-/// What of Jobs 3 to 5 all the lists meet: `can count name`, and `cannot count name` for what none can meet.
+/// What of Jobs 3 to 6 all the lists meet: `can count name`, and `cannot count name` for what none can meet.
 fn answer_met() -> io::Result<()> {
     let mut counts: BTreeMap<String, usize> = BTreeMap::new();
     for line in io::stdin().lock().lines() {
@@ -148,13 +152,14 @@ fn answer_met() -> io::Result<()> {
             found.extend(read_only::met(run, event, &judged).into_iter().map(String::from));
             found.extend(totals::met(run, event, &judged).map(String::from));
             found.extend(send_order::met(run, event, &judged));
+            found.extend(losses::met(run, event));
         });
         let sites = totals::totals(&run.history).into_iter().filter_map(|of| totals::met_by(of.numbers()));
         found.extend(sites.map(String::from));
         found.into_iter().for_each(|name| *counts.entry(name).or_default() += 1);
     }
     let names = |names: &[&str]| names.iter().map(|name| name.to_string()).collect::<Vec<_>>();
-    let can = [names(&read_only::NAMES), names(&totals::NAMES), send_order::names()].concat();
+    let can = [names(&read_only::NAMES), names(&totals::NAMES), send_order::names(), losses::names()].concat();
     for (can, names) in [("can", can), ("cannot", names(&read_only::NEVER))] {
         names.iter().for_each(|name| println!("{can} {} {name}", counts.remove(name).unwrap_or(0)));
     }
@@ -165,6 +170,14 @@ fn answer_met() -> io::Result<()> {
 /// Events as a request names them.
 fn event_line(list: &[Event]) -> String {
     list.iter().map(|event| to_hex(event)).collect::<Vec<_>>().join("; ")
+}
+
+fn show_lists(lists: &[Vec<Event>]) -> io::Result<()> {
+    let mut out = BufWriter::new(io::stdout().lock());
+    for list in lists {
+        writeln!(out, "{}", event_line(list))?;
+    }
+    out.flush()
 }
 
 fn generate(count: u64, seed: u64, one: impl Fn(&mut Rng) -> String) -> io::Result<()> {
@@ -187,12 +200,18 @@ fn main() -> io::Result<()> {
         (["write"], _) => answer_lines(answer_write),
         (["step"], _) => answer_lines(answer_step),
         (["message"], _) => answer_lines(answer_message),
-        (["safe"], _) => answer_lines(|line| Some(verdict(monitor::safe(&hex(line)?)))),
-        (["facts"], _) => answer_lines(|line| Some(verdict(facts::facts(&hex(line)?)))),
+        (["safe"], _) => answer_lines(|line| Some(verdict(monitor::safe(&hex(line)?), |()| "ok".to_string()))),
+        (["facts"], _) => answer_lines(|line| Some(verdict(facts::facts(&hex(line)?), most_unforced))),
         (["met"], _) => answer_met(),
-        (["orders"], _) => {
-            order_lists().iter().for_each(|list| println!("{}", event_line(list)));
-            Ok(())
+        (["orders"], _) => show_lists(&order_lists()),
+        (["masks"], _) => {
+            let lists = mask_lists();
+            let missing = losses::Tried::on(&lists).missing();
+            if !missing.is_empty() {
+                eprintln!("the lists do not meet\n  {}", missing.join("\n  "));
+                std::process::exit(1);
+            }
+            show_lists(&lists)
         }
         (["random", _, _, _], &[seed, count, most]) => {
             generate(count, seed, |rng| event_line(&event_list(rng, most as usize)))

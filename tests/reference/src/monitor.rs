@@ -74,8 +74,7 @@ impl Seen {
 /// Rebuilds the logs: what one happening does to them.
 pub fn rebuild(logs: &mut [Log; 9], happening: &Happening) {
     match *happening {
-        Happening::Did { site, effect: Effect::Append(record), .. } => logs[site as usize].append(record),
-        Happening::Did { site, effect: Effect::Force, .. } => logs[site as usize].force(),
+        Happening::Did { site, effect, .. } => logs[site as usize].perform(effect),
         Happening::Down { site, keep } => logs[site as usize].go_down(keep),
         Happening::Dropped { site, transaction } => logs[site as usize].drop_oldest(transaction),
         _ => {}

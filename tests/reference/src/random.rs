@@ -90,6 +90,10 @@ pub fn event_list(rng: &mut Rng, most: usize) -> Vec<Event> {
         style.wild = rng.pick(&[30, 60, 100]);
     }
     let names = transactions_to_open(rng);
+    if names.len() == TRANSACTIONS as usize {
+        // records stay unforced
+        (style.force, style.timer, style.discard) = (0, 1, 1);
+    }
     let readers: Vec<Mask> = names.iter().map(|open| some_of(rng, open[2], style.reads)).collect();
     let mut run = Run::fresh();
     let mut list = Vec::new();
@@ -107,9 +111,9 @@ pub fn event_list(rng: &mut Rng, most: usize) -> Vec<Event> {
     list
 }
 
-/// 1 to 3 transactions of 1 to 4 members, as events of opening.
+/// 1 to 3 transactions of 1 to 4 members, or once in a while all eight, as events of opening.
 fn transactions_to_open(rng: &mut Rng) -> Vec<Event> {
-    let count = 1 + rng.below(3);
+    let count = if rng.percent(10) { TRANSACTIONS as usize } else { 1 + rng.below(3) };
     let pool: Mask = if rng.percent(70) { random_mask(rng, 4) } else { 255 };
     let mut opens: Vec<Event> = Vec::new();
     while opens.len() < count {
@@ -208,7 +212,8 @@ fn good_event(rng: &mut Rng, run: &Run, opens: &[Event], readers: &[Mask], style
                 add([6, 0, site, 0, NO_CUT, keep], style.crash);
             }
             if unforced >= 2 {
-                add([6, 0, site, 0, NO_CUT, 1 + rng.below(unforced - 1) as u8], 12);
+                let keep = 1 + rng.below(all_of(unforced) as usize - 1) as u8;
+                add([6, 0, site, 0, NO_CUT, keep], 4 * (unforced - 1));
             }
         } else {
             add([7, 0, site, 0, NO_CUT, 0], style.restart);
@@ -249,21 +254,48 @@ pub fn leads_on(run: &Run, plan: &Plan) -> bool {
     effects.iter().any(|(_, effect)| new(effect)) || phases.iter().any(|&(h, phase)| moved(h, phase))
 }
 
+/// The keep that names all of so many unforced records.
+fn all_of(unforced: usize) -> u8 {
+    ((1u16 << unforced) - 1) as u8
+}
+
+/// A keep that names none, all or any of so many unforced records.
 pub fn some_keep(rng: &mut Rng, unforced: usize) -> u8 {
     match rng.below(3) {
         0 => 0,
-        1 => unforced as u8,
-        _ => rng.below(unforced + 1) as u8,
+        1 => all_of(unforced),
+        _ => rng.below(1 << unforced) as u8,
     }
 }
 
-/// The same event with a cut within its effects and a keep within the unforced records.
+/// The same event with a cut within its effects and a keep of the unforced records then there.
 pub fn with_cut(rng: &mut Rng, run: &Run, mut event: Event) -> Event {
     if let Ok(Plan::Row { site, effects, .. }) = run.judge(&event) {
         let cut = rng.below(effects.len() + 1);
         event[4] = cut as u8;
         event[5] = some_keep(rng, run.unforced_after(site, &effects[..cut]));
     }
+    event
+}
+
+/// The event at the border of refusal 9: its cut is within the effects or one above, and keep may name the record behind
+/// the last unforced one, or be any byte.
+pub fn at_the_border(rng: &mut Rng, run: &Run, mut event: Event) -> Event {
+    let unforced = match run.judge(&event) {
+        Ok(Plan::Row { site, effects, .. }) => {
+            let cut = rng.below(effects.len() + 2);
+            event[4] = cut as u8;
+            run.unforced_after(site, &effects[..cut.min(effects.len())])
+        }
+        Ok(Plan::Crash { site, .. }) => run.logs[site as usize].unforced(),
+        _ => 0,
+    };
+    let behind = (1u16 << unforced) as u8;
+    event[5] = match rng.below(5) {
+        0 => rng.byte(),
+        1 | 2 => some_keep(rng, unforced),
+        _ => some_keep(rng, unforced) | behind,
+    };
     event
 }
 
@@ -279,18 +311,7 @@ fn faulty_event(rng: &mut Rng, run: &Run, opens: &[Event], readers: &[Mask], sty
             let at = rng.below(6);
             event[at] = event[at].wrapping_add(change);
         }
-        2 => {
-            // Just above the effects or the unforced records.
-            if let Ok(Plan::Row { site, effects, .. }) = run.judge(&event) {
-                let cut = rng.below(effects.len() + 2);
-                event[4] = cut as u8;
-                if cut <= effects.len() {
-                    event[5] = run.unforced_after(site, &effects[..cut]) as u8 + rng.below(2) as u8;
-                }
-            } else {
-                event[5] = event[5].wrapping_add(1);
-            }
-        }
+        2 => event = at_the_border(rng, run, event),
         3 => event = small_event(rng),
         4 => event = opens[rng.below(opens.len())],
         _ => {

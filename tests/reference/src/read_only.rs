@@ -3,6 +3,7 @@
 
 use crate::codec::*;
 use crate::joint::*;
+use crate::log::keeps;
 use crate::step::*;
 
 pub const NAMES: [&str; 57] = [
@@ -187,7 +188,7 @@ struct Step<'a> {
     effects: &'a [(u8, Effect)],
     after: Phase,
     cut: Option<usize>,
-    keep: usize,
+    keep: u8,
 }
 
 impl Step<'_> {
@@ -266,7 +267,7 @@ impl Step<'_> {
     /// A read-only vote that is awaited in Collecting, by the phase after it.
     fn read_only_vote(&self, after: CoordinatorPhase) -> &'static str {
         let appended = &self.effects[..self.cut.unwrap_or(0).min(1)];
-        let kept = !appended.is_empty() && self.keep == self.run.unforced_after(COORDINATOR, appended);
+        let kept = !appended.is_empty() && keeps(self.keep, self.run.unforced_after(COORDINATOR, appended) - 1);
         match (self.effects, self.cut) {
             ([], Some(_)) if after != CoordinatorPhase::Unknown => "Collecting: read-only vote, votes missing, cut",
             ([], _) if after != CoordinatorPhase::Unknown => "Collecting: read-only vote, votes missing",
