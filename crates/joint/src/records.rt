@@ -135,17 +135,19 @@ impl Records {
     pub(crate) fn stop(self, site: Site, keep: u8) -> SiteLog
         ensures { λ r. ⌜ siteFrom (r .site) (r .records .of) ≡ stopped keep (siteFrom site (self .of)) ⌝ }
     {
-        let count = site.count();
         let stable = site.stable_count();
+        let unforced = site.unforced_count();
         let mut records = self.of;
         let mut to = stable;
-        let mut i = stable;
-        while i < count {
-            let x = records[i];
+        let mut left = unforced;
+        while 0 < left {
+            let place = unforced - left;
+            left -= 1;
+            let at = stable + place;
+            let x = records[at];
             records[to] = x;
-            let bit = ((keep as u32) >> (i - stable)) % 2;
+            let bit = ((keep as u32) >> place) % 2;
             to += bit as usize;
-            i += 1;
         }
         SiteLog {
             site: Site {

@@ -52,7 +52,7 @@ impl Site {
         count
     }
 
-    fn unforced_count(self) -> usize
+    pub fn unforced_count(self) -> usize
         ensures { λ r. ⌜ r ≡ countOf self - stableOf self ⌝ }
     {
         self.count() - self.stable_count()

@@ -69,25 +69,30 @@ module _ {A : Type 0} (goal now : List A) (count to i mask : ℕ) (d : A) (more 
 
 -- ---- the records of a site
 
--- the first `stable`, and of the rest, up to `count`, those that survive
-abbrev pub left : ℕ → ℕ → ℕ → List LogRecord → List LogRecord
-left keep count stable l = take stable l ++ survivors keep (take (count - stable) (drop stable l))
+-- the first `stable`, and of the `unforced` behind them those that survive
+abbrev pub kept : ℕ → ℕ → ℕ → List LogRecord → List LogRecord
+kept keep stable unforced l = take stable l ++ survivors keep (take unforced (drop stable l))
 
-pub closing-starts : (keep count stable : ℕ) (rs : List Record) → stable ≤ count → count ≤ length rs
-    → Closed (left keep count stable (map recordIn rs)) (map recordIn rs) count stable stable (keep / 2 ^ (stable - stable))
-closing-starts keep count stable rs h few =
-    let z : stable - stable ≡ 0 = omega arith in
+-- the pass has come to place k of the unforced records
+abbrev pub Passing : List LogRecord → List Record → ℕ → ℕ → ℕ → ℕ → ℕ → Type 0
+Passing goal now keep stable unforced to k = Closed goal (map recordIn now) (stable + unforced) to (stable + k) (keep / 2 ^ k)
+
+pub passing-starts : (keep stable unforced : ℕ) (rs : List Record) → stable + unforced ≤ length rs
+    → Passing (kept keep stable unforced (map recordIn rs)) rs keep stable unforced stable 0
+passing-starts keep stable unforced rs few =
+    let z : stable + 0 ≡ stable = omega arith in
+    let n : stable + unforced - stable ≡ unforced = omega arith in
     let w : keep / 1 ≡ keep = omega arith in
-    record { order = omega arith; end = h; few = simp length-map few; meets = rw (z, w) refl }
+    record { order = omega arith; end = omega arith; few = simp length-map few; meets = rw (z, n, w) refl }
 
-pub closing-next : (goal : List LogRecord) (now : List Record) (count stable to i n keep : ℕ) → stable ≤ i → i < count → n ≡ suc i
-    → Closed goal (map recordIn now) count to i (keep / 2 ^ (i - stable))
-    → Closed goal (map recordIn (set now to (getD now i noRecord))) count (to + keep / 2 ^ (i - stable) % 2) n (keep / 2 ^ (n - stable))
-closing-next goal now count stable to i n keep from more e h =
-    let m = keep / 2 ^ (i - stable) in
-    let q : n - stable ≡ i - stable + 1 = omega arith in
-    let next : keep / 2 ^ (n - stable) ≡ m / 2 = rw q (sym (shr-shr keep (i - stable) 1)) in
-    rw (next, map-set, ← List·getD-map recordIn now i noRecord) (closes-next goal (map recordIn now) count to i m (recordIn noRecord) more h n e)
+pub passing-next : (goal : List LogRecord) (now : List Record) (keep stable unforced to k n : ℕ) → k < unforced → n ≡ suc k
+    → Passing goal now keep stable unforced to k
+    → Passing goal (set now to (getD now (stable + k) noRecord)) keep stable unforced (to + keep / 2 ^ k % 2) n
+passing-next goal now keep stable unforced to k n more e h =
+    let q : n ≡ k + 1 = omega arith in
+    let next : keep / 2 ^ n ≡ keep / 2 ^ k / 2 = rw q (sym (shr-shr keep k 1)) in
+    rw (next, map-set, ← List·getD-map recordIn now (stable + k) noRecord)
+    (closes-next goal (map recordIn now) (stable + unforced) to (stable + k) (keep / 2 ^ k) (recordIn noRecord) (omega arith) h (stable + n) (omega arith))
 
 module _ (x : Site) (rs : List Record) (keep : ℕ) (all : length rs ≡ 24) where
   unforced-taken : take (countOf x - stableOf x) (drop (stableOf x) (map recordIn rs)) ≡ siteFrom x rs .unforced
@@ -98,14 +103,14 @@ module _ (x : Site) (rs : List Record) (keep : ℕ) (all : length rs ≡ 24) whe
       split-same {a = take (stableOf x) (map recordIn rs)} {c = siteFrom x rs .stable} (stableOf x) both (ap length (stable-taken x rs all) ∙ stable-counted x rs all) (stable-counted x rs all) .1
 
   -- at the end: those before `to` are the log
-  pub closing-ends : (now : List Record) (count stable to i mask : ℕ) → count ≡ countOf x → stable ≡ stableOf x → count ≤ i
-      → Closed (left keep count stable (map recordIn rs)) (map recordIn now) count to i mask
+  pub passing-ends : (now : List Record) (stable unforced to k : ℕ) → stable ≡ stableOf x → unforced ≡ countOf x - stableOf x → k ≡ unforced
+      → Passing (kept keep stable unforced (map recordIn rs)) now keep stable unforced to k
       → siteFrom (record { up = false; stable = to; unforced = 0 }) now ≡ stopped keep (siteFrom x rs)
   unfolding siteFrom stopped
-  closing-ends now count stable to i mask c s done h =
-      let z : count - i ≡ 0 = omega arith in
+  passing-ends now stable unforced to k s u e h =
+      let z : stable + unforced - (stable + k) ≡ 0 = omega arith in
       site-path
       (sym (append-nil (take to (map recordIn now)))
-      ∙ rw (z, survivors-none mask) at (h .meets)
-      ∙ rw (c, s) (ap₂ (λ (a b : List LogRecord). a ++ survivors keep b) (unfold siteFrom in stable-taken x rs all) (unfold siteFrom in unforced-taken)))
+      ∙ rw (z, survivors-none (keep / 2 ^ k)) at (h .meets)
+      ∙ rw (s, u) (ap₂ (λ (a b : List LogRecord). a ++ survivors keep b) (unfold siteFrom in stable-taken x rs all) (unfold siteFrom in unforced-taken)))
       refl
