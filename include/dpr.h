@@ -237,7 +237,10 @@ uint64_t dpr_site_step(uint8_t site, uint8_t kind, uint8_t handover, uint8_t box
                        uint8_t waiting, uint8_t members, uint8_t presume_commit, uint8_t mark, uint8_t taken_out);
 
 /* The drill. An event is six bytes: code, x, y, z, cut, keep. Codes are 0 to 8; 8 marks box y of handover x as one that
- * only looked. Not more than the first DPR_DRILL_BYTES_MAX bytes are read, which are 10,000 events; no text is longer
+ * only looked. Keep says which unforced records of the site survive a loss of power: bit i, of value 1 << i, the record i
+ * of those that are unforced then, from 0, oldest first. They become stable in their order, and the others are lost. A set
+ * bit for a record that is not there is refused by 9. There are never more than eight, so a byte names them all. Without a
+ * loss of power keep is 0. Not more than the first DPR_DRILL_BYTES_MAX bytes are read, which are 10,000 events; no text is longer
  * than DPR_DRILL_TEXT_MAX bytes. */
 #define DPR_EVENT_BYTES 6
 #define DPR_DRILL_BYTES_MAX 60000

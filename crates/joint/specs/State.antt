@@ -114,7 +114,7 @@ survivors keep [] = []
 survivors keep (x ∷ xs) = cond (eqb (keep % 2) 1) (x ∷ survivors (keep / 2) xs) (survivors (keep / 2) xs)
 
 -- what keep may be then: no bit is set at or above their number
-unfoldable pub mayKeep {ℓ} : {A : Type ℓ} → ℕ → List A → Bool
+unfoldable pub mayKeep : ℕ → List LogRecord → Bool
 mayKeep keep unforced = eqb (keep / 2 ^ length unforced) 0
 
 -- down: the survivors become stable, the rest is lost

@@ -24,6 +24,7 @@ abbrev pub Named : List LogRecord → Type 0
 Named xs = (bs : List Bool) → length bs ≡ length xs → (keep : ℕ) × (keep ≤ 255) × (mayKeep keep xs ≡ true) × (survivors keep xs ≡ wanted bs xs)
 
 pub record Few (unforced : List LogRecord) : Type 0 where
+  -- at most one of a transaction, so at most eight, and a byte names them all
   pub single : (t : ℕ) → length (select (ofTransaction t) unforced) ≤ 1
   pub eight : length unforced ≤ 8
   pub named : Named unforced
