@@ -33,7 +33,7 @@ use Rattle.joint.proofs.safety.Tracked.{tracked}
 use Rattle.joint.proofs.safety.Singles.{row-single}
 use Rattle.joint.proofs.logs.Counts.{counted-most}
 use Rattle.joint.proofs.logs.Facts.{OwnRecord}
-use Rattle.joint.proofs.logs.Numbered.{plan-numbered, performed-numbered}
+use Rattle.joint.proofs.logs.OneOfEight.{plan-numbered, performed-numbered}
 use Rattle.joint.proofs.Reachable.{cohorts-in-range, records-own, unforced-single}
 
 -- ---- a byte names up to eight records

@@ -4,4 +4,4 @@ pub mod Orders
 pub mod Kinds
 pub mod Facts
 pub mod Taken
-pub mod Numbered
+pub mod OneOfEight
