@@ -1,18 +1,15 @@
 -- At no time does a site have more than eight unforced records, and a byte names them all (specs/Unforced).
 use Prim.Native.Nat.{ℕ, zero, suc, _+_, _*_, _/_, _%_, _^_, _<_, _≤_}
-use mathlib.Core.Path.{_≡_, refl, sym, ap, subst, _∙_}
+use mathlib.Core.Path.{_≡_, refl, sym, ap, subst}
 use mathlib.Core.Bool.{Bool, true, false, cond}
 use mathlib.Core.List.{List, [], _∷_, _++_, map, flatten}
-use mathlib.Core.Option.{some}
 use native.Mathlib.Nat.{pow-suc}
 use native.Mathlib.Omega.{arith}
 use lib.ListN.{length, take}
 use lib.Pow.{pow-mono}
-use lib.Dec.{eqb}
-use Rattle.codec.specs.Lists.{select, first}
+use Rattle.codec.specs.Lists.{select}
 use Rattle.codec.specs.Records.{LogRecord, ofTransaction}
 use Rattle.codec.specs.laws.Members.{high-bits}
-use Rattle.codec.specs.laws.Tests.{true-of}
 use Rattle.joint.specs.State.{Run, Act, fresh, opened, survivors, mayKeep, perform, performAll}
 use Rattle.joint.specs.Event.{Parsed}
 use Rattle.joint.specs.Plan.{Plan, transactions}

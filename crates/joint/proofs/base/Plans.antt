@@ -8,7 +8,7 @@ use native.Mathlib.Omega.{arith}
 use borrow.Author.Tests.{not-false}
 use Rattle.codec.specs.Lists.{first, onlyIf}
 use Rattle.site.specs.Presumption.{Outcome, commit, abort, Presumption}
-use Rattle.site.specs.Step.{Message, voteYes, tell, receiver, Input, begin, timer, received, Effect, append, force, enter, send, Row, given}
+use Rattle.site.specs.Step.{Message, voteYes, tell, receiver, Input, begin, timer, received, Effect, enter, send, Row, given}
 use Rattle.site.specs.Cohort.{Cohort}
 use Rattle.site.specs.Coordinator.{inOrder, tellAll, resuming, leaving, restartFrom, coordinatorRestart}
 use Rattle.site.specs.Participant.{voting, restartWith, participantRestart}

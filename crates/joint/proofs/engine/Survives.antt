@@ -3,13 +3,11 @@ use Prim.Native.Nat.{ℕ, suc, _+_, _-_, _/_, _%_, _^_, _≤_, _<_}
 use mathlib.Core.Path.{_≡_, refl, sym, ap, ap₂, _∙_}
 use mathlib.Core.Bool.{Bool, true, false, cond}
 use mathlib.Core.List.{List, [], _∷_, _++_, map, append-assoc, append-nil}
-use native.Mathlib.Numerals.{add-one}
 use native.Mathlib.Omega.{arith}
 use borrow.Author.Tests.{eqb-true, eqb-false}
-use lib.ListN.{length, take, drop, getD, set, length-map, length-take, length-set, List·getD-map}
+use lib.ListN.{length, take, drop, getD, set, length-map, length-set, List·getD-map}
 use lib.Pow.{shr-shr}
 use lib.Seq.{take-add, take-suc-set, take-set-le, drop-cons, drop-set-lt}
-use lib.Dec.{eqb}
 use Rattle.codec.specs.Records.{LogRecord}
 use Rattle.codec.specs.Answers.{recordIn, noRecord}
 use Rattle.codec.specs.declared.record.Record.{Record}

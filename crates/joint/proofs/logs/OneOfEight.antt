@@ -2,10 +2,10 @@
 use Prim.Native.Nat.{ℕ, zero, suc, _<_}
 use mathlib.Core.Path.{_≡_}
 use mathlib.Core.Bool.{Bool, true, false, cond}
-use mathlib.Core.List.{List, [], _∷_, _++_}
+use mathlib.Core.List.{List, [], _∷_}
 use native.Mathlib.Omega.{arith}
 use lib.Dec.{eqb}
-use Rattle.codec.specs.Lists.{select, first}
+use Rattle.codec.specs.Lists.{first}
 use Rattle.codec.specs.laws.Tests.{true-of}
 use Rattle.codec.specs.Records.{LogRecord}
 use Rattle.site.specs.Step.{receiver, Input, begin, timer, received, Effect, append, force, enter, send}

@@ -11,7 +11,7 @@ use Rattle.codec.specs.Sets.{member}
 use Rattle.codec.specs.laws.Tests.{true-of}
 use Rattle.site.specs.Step.{Input, Effect, append, force, enter, send, Row}
 use Rattle.site.specs.Coordinator.{Coordinator}
-use Rattle.joint.specs.State.{Site, update, forced}
+use Rattle.joint.specs.State.{update, forced}
 use Rattle.joint.specs.Run.{isForce}
 use Rattle.joint.proofs.base.Lists.{Each, each-take}
 use Rattle.joint.proofs.view.View.{View, viewAt, viewPerform, viewEffects}
@@ -20,7 +20,7 @@ use Rattle.joint.proofs.safety.Tables.{Status, unforcedKinds}
 use Rattle.joint.proofs.safety.Finite.{at-status}
 use Rattle.joint.proofs.safety.Invariant.{waiting, resting, down, Standing, never, initial, collecting, decided, kindIf, unforcedAt, Place, Mid, Inv, cohortOf}
 use Rattle.joint.proofs.safety.participant.Rows.{single}
-use Rattle.joint.proofs.safety.participant.Local.{Local, local}
+use Rattle.joint.proofs.safety.participant.Local.{Local}
 use Rattle.joint.proofs.safety.participant.Places.{Middle}
 use Rattle.joint.proofs.safety.participant.Participants.{row-middle, return-middle}
 use Rattle.joint.proofs.safety.coordinator.Coordinators.{Stepped, steps, looks, coordinator-next}

@@ -7,7 +7,7 @@ use mathlib.Core.List.{List, [], _∷_, _++_, append-nil}
 use lib.Dec.{eqb}
 use borrow.Author.Tests.{eqb-true, eqb-false}
 use Rattle.codec.specs.Lists.{select}
-use Rattle.site.specs.Step.{Effect, append, force, enter, send, Row}
+use Rattle.site.specs.Step.{Effect, Row}
 use Rattle.site.specs.Cohort.{Cohort, presumptionOf}
 use Rattle.site.specs.Coordinator.{Coordinator, coordinatorRestart}
 use Rattle.site.specs.Participant.{ParticipantPhase, participantRestart}

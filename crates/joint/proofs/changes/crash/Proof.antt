@@ -1,5 +1,4 @@
 use mathlib.Core.Path.{sym, _∙_}
-use native.Mathlib.Omega.{arith}
 use borrow.Author.Tests.{not-true, not-false}
 use Rattle.joint.specs.Answers.{answerIn}
 use Rattle.joint.specs.Inside.{changeIn}

@@ -1,4 +1,3 @@
-use mathlib.Core.Path.{_∙_}
 use Rattle.joint.proofs.engine.Sites.{may-keep}
 use borrow.Author.Needs.{needs}
 use Rattle.joint.proofs.sites.Site.may_keep.Statement.{statement}
