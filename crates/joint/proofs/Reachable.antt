@@ -6,9 +6,9 @@ use mathlib.Core.List.{List, [], _++_}
 use lib.ListN.{length, length-append, getD}
 use lib.Dec.{T}
 use native.Mathlib.Omega.{arith}
-use Rattle.codec.specs.Lists.{select, first}
+use Rattle.codec.specs.Lists.{first}
 use Rattle.codec.specs.Sets.{member}
-use Rattle.codec.specs.Records.{LogRecord, ofTransaction}
+use Rattle.codec.specs.Records.{LogRecord}
 use Rattle.codec.specs.Image.{most, accepted, readImage, logRefusals}
 use Rattle.codec.specs.laws.RoundTrip.{reads-back}
 use Rattle.site.specs.Step.{voteYes, messageKind}
@@ -26,7 +26,7 @@ use Rattle.joint.proofs.logs.Taken.{taken-in-range}
 use Rattle.joint.proofs.logs.Counts.{no-record, each-transaction, counted-most}
 use Rattle.joint.proofs.logs.Orders.{Ranged, log-passes}
 use Rattle.joint.proofs.logs.Kinds.{share, Kinds, kinds-at, opened-ranged}
-use Rattle.joint.proofs.logs.Facts.{OwnRecord, few-of, few-unforced, halted, each-of, follows-whole, follows-stable, shares, standing-waits}
+use Rattle.joint.proofs.logs.Facts.{OwnRecord, few-of, halted, each-of, follows-whole, follows-stable, shares, standing-waits}
 
 no-both : (s : Status) (m y r : Bool) → T (trail s m y r) → T y → T r → ⊥
 no-both s true true true t u v = t
@@ -94,16 +94,12 @@ module _ (es : List (List ℕ)) where
         → OwnRecord r s (getD (r .site s .stable ++ r .site s .unforced) i x)
     record-own = each-at (OwnRecord r s) log records-own
 
-    numbers : Each (λ x. x .transaction < 8) log
-    numbers = each-map (OwnRecord r s) (λ x. x .transaction < 8) (λ x o. o .known .number) log records-own
+    pub records-numbered : Each (λ x. x .transaction < 8) (r .site s .stable ++ r .site s .unforced)
+    records-numbered = each-map (OwnRecord r s) (λ x. x .transaction < 8) (λ x o. o .known .number) log records-own
 
     -- 24 at the coordinator, 16 at a participant
     pub logs-bounded : length (r .site s .stable ++ r .site s .unforced) ≤ most s
-    logs-bounded = subst (λ (n : ℕ). length log ≤ n) (shares s) (counted-most 8 (share s) log numbers (λ t. few-of (kinds t s)))
-
-    -- of each transaction at most one record is unforced
-    pub unforced-single : (t : ℕ) → length (select (ofTransaction t) (r .site s .unforced)) ≤ 1
-    unforced-single t = few-unforced (kinds t s)
+    logs-bounded = subst (λ (n : ℕ). length log ≤ n) (shares s) (counted-most 8 (share s) log records-numbered (λ t. few-of (kinds t s)))
 
     pub down-unforced : r .site s .up ≡ false → r .site s .unforced ≡ []
     down-unforced d = no-record (r .site s .unforced) (λ t. halted (kinds t s) d)

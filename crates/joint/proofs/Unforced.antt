@@ -19,7 +19,7 @@ use Rattle.joint.specs.Unforced.{Passes, wanted, Named, Few, EveryMoment
 use Rattle.codec.specs.Open.{codec-opens}
 use Rattle.site.specs.Open.{site-opens}
 use Rattle.joint.proofs.Open.{joint-opens}
-use Rattle.joint.proofs.base.Lists.{Each, among, each-append, each-take, each-back, each-map}
+use Rattle.joint.proofs.base.Lists.{Each, among, each-append, each-take, each-back}
 use Rattle.joint.proofs.base.Ranges.{parse-range}
 use Rattle.joint.proofs.base.History.{Accepted, EventCase, refused, whole, cut, event-case, by-events, passed, along-snoc, after-snoc}
 use Rattle.joint.proofs.view.View.{siteView, view}
@@ -27,11 +27,10 @@ use Rattle.joint.proofs.view.Acts.{seen}
 use Rattle.joint.proofs.view.Carries.{Shown, middle-view}
 use Rattle.joint.proofs.view.Events.{plan-shown}
 use Rattle.joint.proofs.safety.Tracked.{tracked}
-use Rattle.joint.proofs.safety.Singles.{row-single}
+use Rattle.joint.proofs.safety.Singles.{mid-single, row-single}
 use Rattle.joint.proofs.logs.Counts.{counted-most}
-use Rattle.joint.proofs.logs.Facts.{OwnRecord}
 use Rattle.joint.proofs.logs.OneOfEight.{plan-numbered, performed-numbered}
-use Rattle.joint.proofs.Reachable.{cohorts-in-range, records-own, unforced-single}
+use Rattle.joint.proofs.Reachable.{cohorts-in-range, records-numbered}
 
 -- ---- a byte names up to eight records
 
@@ -107,11 +106,11 @@ module _ (es : List (List ℕ)) where
   small t o = cohorts-in-range es t o .0
 
   numbers : (s : ℕ) → Each (λ x. x .transaction < 8) (r .site s .unforced)
-  numbers s = each-back _ (r .site s .stable) (r .site s .unforced) (each-map (OwnRecord r s) (λ x. x .transaction < 8) (λ x o. o .known .number) (r .site s .stable ++ r .site s .unforced) (records-own es s))
+  numbers s = each-back _ (r .site s .stable) (r .site s .unforced) (records-numbered es s)
 
   -- between events
   between-events : Everywhere r
-  between-events s = few (r .site s .unforced) (numbers s) (unforced-single es s)
+  between-events s = few (r .site s .unforced) (numbers s) (λ t. rw (← view-unforced t (history fresh es) r s) (mid-single (tracked t es .inv .mid) s))
 
   module _ (bytes : List ℕ) where
     -- after the first effects of a plan

@@ -24,7 +24,7 @@ use Rattle.joint.proofs.safety.Sets.{no-zero, owing-remaining}
 use Rattle.joint.proofs.safety.Invariant.{waiting, resting, down, Standing, never, initial, collecting, decided, SetsFit, phaseAt, between, recordFor}
 use Rattle.joint.proofs.logs.Counts.{recordsOf, sumBelow}
 use Rattle.joint.proofs.logs.Orders.{mayStand, orderly, order-front, owes, Ranged, Follows}
-use Rattle.joint.proofs.logs.Kinds.{share, fine, has-front, cohortIn, Known, Kinds}
+use Rattle.joint.proofs.logs.Kinds.{share, has-front, cohortIn, Known, Kinds}
 
 -- a record of a log at site s: its transaction is opened, s takes part in it, and it is the transaction's record of its kind;
 -- record 2 leaves out the set that was taken out
@@ -62,17 +62,11 @@ module _ {r : Run} {t s : ℕ} (x : Kinds r t s) where
       select-append (ofTransaction t) (r .site s .stable) (r .site s .unforced) ∙ ap₂ _++_ (x .is-stable) (x .is-unforced)
       ∙ sym (map-append put (x .stable) (x .unforced))
 
-  whole-fine : T (fine s i a whole)
-  whole-fine = and-left (fine s i a whole) _ (x .tidies)
-
   ordered : T (orderly s i a [] whole)
-  ordered = and-left (orderly s i a [] whole) _ whole-fine
+  ordered = and-left (orderly s i a [] whole) _ (x .fits)
 
   pub few-of : length (recordsOf t (r .site s .stable ++ r .site s .unforced)) ≤ share s
-  few-of = rw (is-whole, length-map) (leb-true (length whole) (share s) (true-of _ (and-right (orderly s i a [] whole) _ whole-fine)))
-
-  pub few-unforced : length (recordsOf t (r .site s .unforced)) ≤ 1
-  few-unforced = rw (x .is-unforced, length-map) (leb-true (length (x .unforced)) 1 (true-of _ (and-right (fine s i a whole) _ (x .tidies))))
+  few-of = rw (is-whole, length-map) (leb-true (length whole) (share s) (true-of _ (and-right (orderly s i a [] whole) _ (x .fits))))
 
   pub halted : r .site s .up ≡ false → recordsOf t (r .site s .unforced) ≡ []
   halted d = x .is-unforced ∙ ap (map put) (x .halts d)

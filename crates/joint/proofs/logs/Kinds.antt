@@ -17,7 +17,7 @@ use Rattle.site.specs.Participant.{outcomeRecord}
 use Rattle.site.specs.Coordinator.{endRecord}
 use Rattle.joint.specs.State.{Run, Site, opened, takesPart}
 use Rattle.joint.specs.Safety.{Moment}
-use Rattle.joint.proofs.base.Booleans.{_⇒_, mp, and-both, or-left, or-right, or-either, both-ways}
+use Rattle.joint.proofs.base.Booleans.{_⇒_, mp, or-left, or-right, or-either, both-ways}
 use Rattle.joint.proofs.view.View.{siteView, view}
 use Rattle.joint.proofs.safety.Tables.{Status, working, prepared, gone, half, lone, shut, off, offVoted, offShut, isUp, stableKinds, unforcedKinds, has}
 use Rattle.joint.proofs.safety.Finite.{allBool, at-bool, at-status}
@@ -38,13 +38,9 @@ share (suc n) = 2
 abbrev pub fine : ℕ → Bool → Bool → List ℕ → Bool
 fine s i a ks = orderly s i a [] ks && leb (length ks) (share s)
 
--- ks, of the stable records, and js, of the unforced ones, are fine, and js is one kind at most
-abbrev pub tidy : ℕ → Bool → Bool → List ℕ → List ℕ → Bool
-tidy s i a ks js = fine s i a (ks ++ js) && leb (length js) 1
-
-status-tidy : (n : ℕ) (i a : Bool) (x : Status) → T (tidy (suc n) i a (stableKinds x) (unforcedKinds x))
+status-fine : (n : ℕ) (i a : Bool) (x : Status) → T (fine (suc n) i a (stableKinds x ++ unforcedKinds x))
 unfolding recordKindAt any same sequences outcomeRecord
-status-tidy n i a x = at-status (λ x. tidy (suc n) i a (stableKinds x) (unforcedKinds x)) tt x
+status-fine n i a x = at-status (λ x. fine (suc n) i a (stableKinds x ++ unforcedKinds x)) tt x
 
 -- a participant has no record 2
 no-commit : (x : Status) → T (has 2 (stableKinds x ++ unforcedKinds x)) → ⊥
@@ -68,41 +64,37 @@ module _ (i a : Bool) where
       test : Bool → Bool → Bool
       test i a = properKinds i a (kindsIn l) ⇒ fine 0 i a (kindsIn l)
 
-  to-tidy : (ks js ms : List ℕ) → ms ≡ ks ++ js → T (leb (length js) 1) → T (fine 0 i a ms) → T (tidy 0 i a ks js)
-  to-tidy ks js ms e u t = and-both (fine 0 i a (ks ++ js)) (leb (length js) 1) (subst (λ (l : List ℕ). T (fine 0 i a l)) e t) u
+  whole-fine : (l : Log) → T (properKinds i a (kindsIn l)) → T (fine 0 i a (kindsIn l ++ []))
+  whole-fine l p = subst (λ (ks : List ℕ). T (fine 0 i a ks)) (sym (append-nil (kindsIn l))) (log-fine l p)
 
-  log-tidy : (l : Log) → T (properKinds i a (kindsIn l)) → T (tidy 0 i a (kindsIn l) [])
-  log-tidy l p = to-tidy (kindsIn l) [] (kindsIn l) (sym (append-nil (kindsIn l))) tt (log-fine l p)
-
-initial-tidy : (i a b : Bool) → T (not b || i) → T (tidy 0 i a [] (kindIf b 1))
+initial-fine : (i a b : Bool) → T (not b || i) → T (fine 0 i a (kindIf b 1))
 unfolding recordKindAt any same sequences
-initial-tidy i a false t = tt
-initial-tidy true a true t = tt
-initial-tidy false a true t = absurd t
+initial-fine i a false t = tt
+initial-fine true a true t = tt
+initial-fine false a true t = absurd t
 
-collecting-tidy : (i a b : Bool) → T (tidy 0 i a (kindsIn (initLog i)) (kindIf b 2))
+collecting-fine : (i a b : Bool) → T (fine 0 i a (kindsIn (initLog i) ++ kindIf b 2))
 unfolding recordKindAt any same sequences
-collecting-tidy true a true = tt
-collecting-tidy true a false = tt
-collecting-tidy false a true = tt
-collecting-tidy false a false = tt
+collecting-fine true a true = tt
+collecting-fine true a false = tt
+collecting-fine false a true = tt
+collecting-fine false a false = tt
 
 -- with an unforced end record
-closing-tidy : (i a : Bool) (o : Outcome) (l : Log) → T (logFits i o (resting true) (classOf l)) → T (sameOutcome o abort || a)
+closing-fine : (i a : Bool) (o : Outcome) (l : Log) → T (logFits i o (resting true) (classOf l)) → T (sameOutcome o abort || a)
     → T (properKinds i a (kindsIn l))
-    → T (tidy 0 i a (kindsIn l) (endRecord o ∷ []))
-closing-tidy i a o l f k p =
-    to-tidy i a (kindsIn l) (endRecord o ∷ []) (kindsIn (withEnd l)) (closed-kinds i o l f) tt (log-fine i a (withEnd l) (closed-proper i a o l f k p))
+    → T (fine 0 i a (kindsIn l ++ (endRecord o ∷ [])))
+closing-fine i a o l f k p = subst (λ (ks : List ℕ). T (fine 0 i a ks)) (closed-kinds i o l f) (log-fine i a (withEnd l) (closed-proper i a o l f k p))
 
-standing-tidy : (g : Cohort) (h : Standing) → T (standingFits (writesInit g) h) → SetsFit g h → T (properLog (writesInit g) (owes g (outOf h)) h)
-    → T (tidy 0 (writesInit g) (owes g (outOf h)) (stableAt (writesInit g) h) (unforcedAt h))
-standing-tidy g (never u) f e p = tt
-standing-tidy g (initial b) f e p = initial-tidy (writesInit g) (owes g 0) b f
-standing-tidy g (collecting w out b) f e p = collecting-tidy (writesInit g) (owes g out) b
-standing-tidy g (decided o out (waiting w) l) f e p = log-tidy (writesInit g) (owes g out) l p
-standing-tidy g (decided o out (resting true) l) f e p = closing-tidy (writesInit g) (owes g out) o l f (may-close g o out l e) p
-standing-tidy g (decided o out (resting false) l) f e p = log-tidy (writesInit g) (owes g out) l p
-standing-tidy g (decided o out down l) f e p = log-tidy (writesInit g) (owes g out) l p
+standing-fine : (g : Cohort) (h : Standing) → T (standingFits (writesInit g) h) → SetsFit g h → T (properLog (writesInit g) (owes g (outOf h)) h)
+    → T (fine 0 (writesInit g) (owes g (outOf h)) (stableAt (writesInit g) h ++ unforcedAt h))
+standing-fine g (never u) f e p = tt
+standing-fine g (initial b) f e p = initial-fine (writesInit g) (owes g 0) b f
+standing-fine g (collecting w out b) f e p = collecting-fine (writesInit g) (owes g out) b
+standing-fine g (decided o out (waiting w) l) f e p = whole-fine (writesInit g) (owes g out) l p
+standing-fine g (decided o out (resting true) l) f e p = closing-fine (writesInit g) (owes g out) o l f (may-close g o out l e) p
+standing-fine g (decided o out (resting false) l) f e p = whole-fine (writesInit g) (owes g out) l p
+standing-fine g (decided o out down l) f e p = whole-fine (writesInit g) (owes g out) l p
 
 -- somebody remains where there is a record 2
 has-either : (k : ℕ) (ks js : List ℕ) → T (has k (ks ++ js)) → T (has k ks) ⊎ T (has k js)
@@ -174,7 +166,7 @@ pub record Known (r : Run) (t s : ℕ) : Type 0 where
   pub opens : opened r t ≡ true
   pub takes : takesPart (r .transaction t) s ≡ true
 
--- the kinds of t's records at s: they are tidy, and there are none unless s knows t
+-- the kinds of t's records at s: they are fine, and there are none unless s knows t
 pub record Kinds (r : Run) (t s : ℕ) : Type 0 where
   -- the set that was taken out, which record 2 leaves out
   pub out : ℕ
@@ -182,7 +174,7 @@ pub record Kinds (r : Run) (t s : ℕ) : Type 0 where
   pub unforced : List ℕ
   pub is-stable : recordsOf t (r .site s .stable) ≡ map (recordFor (cohortIn r t) out t s) stable
   pub is-unforced : recordsOf t (r .site s .unforced) ≡ map (recordFor (cohortIn r t) out t s) unforced
-  pub tidies : T (tidy s (writesInit (cohortIn r t)) (owes (cohortIn r t) out) stable unforced)
+  pub fits : T (fine s (writesInit (cohortIn r t)) (owes (cohortIn r t) out) (stable ++ unforced))
   pub left : T (has 2 (stable ++ unforced)) → T (not (empty (remaining (cohortIn r t) out .members)))
   pub halts : r .site s .up ≡ false → unforced ≡ []
   pub known : (stable ++ unforced ≡ []) ⊎ Known r t s
@@ -207,7 +199,7 @@ module _ (t : ℕ) (ms : List Moment) (r : Run) (h : Standing) (mid : Mid t h (v
         unforced = unforcedAt h;
         is-stable = ap (λ (x : Site). x .stable) (mid .log);
         is-unforced = ap (λ (x : Site). x .unforced) (mid .log);
-        tidies = standing-tidy (cohortIn r t) h (mid .sound .fit) (mid .sound .sets) (mid .sound .proper);
+        fits = standing-fine (cohortIn r t) h (mid .sound .fit) (mid .sound .sets) (mid .sound .proper);
         left = standing-left (cohortIn r t) h (mid .sound .fit) (mid .sound .remains);
         halts = λ d. standing-halts h (sym (ap (λ (x : Site). x .up) (mid .log)) ∙ d);
         known = go (empty (cohortIn r t .members)) refl;
@@ -232,13 +224,13 @@ module _ (t : ℕ) (ms : List Moment) (r : Run) (h : Standing) (mid : Mid t h (v
             unforced = unforcedKinds s;
             is-stable = ap (λ (y : Site). y .stable) (x .site);
             is-unforced = ap (λ (y : Site). y .unforced) (x .site);
-            tidies = status-tidy n (writesInit (cohortIn r t)) (owes (cohortIn r t) 0) s;
+            fits = status-fine n (writesInit (cohortIn r t)) (owes (cohortIn r t) 0) s;
             left = λ u. absurd (no-commit s u);
             halts = λ d. status-halts s (sym (ap (λ (y : Site). y .up) (x .site)) ∙ d);
             known = inr (known-as (suc n) (has-member (cohortIn r t .members) (suc n) e) (unfold takesPart in e));
           }
       go false e x =
-          record { out = 0; stable = []; unforced = []; is-stable = x .stable; is-unforced = x .unforced; tidies = tt; left = λ u. absurd (unfold has any in u); halts = λ d. refl; known = inl refl }
+          record { out = 0; stable = []; unforced = []; is-stable = x .stable; is-unforced = x .unforced; fits = tt; left = λ u. absurd (unfold has any in u); halts = λ d. refl; known = inl refl }
 
   pub kinds-at : (s : ℕ) → Kinds r t s
   kinds-at zero = kinds-0

@@ -1,10 +1,9 @@
 -- Every act of an event is of one of eight transactions, and so is every record that it appends.
 use Prim.Native.Nat.{ℕ, zero, suc, _<_}
 use mathlib.Core.Path.{_≡_}
-use mathlib.Core.Bool.{Bool, true, false, cond}
+use mathlib.Core.Bool.{true}
 use mathlib.Core.List.{List, [], _∷_}
 use native.Mathlib.Omega.{arith}
-use lib.Dec.{eqb}
 use Rattle.codec.specs.Lists.{first}
 use Rattle.codec.specs.laws.Tests.{true-of}
 use Rattle.codec.specs.Records.{LogRecord}
@@ -14,6 +13,7 @@ use Rattle.joint.specs.Event.{Event, opening, beginning, delivery, timeo
 use Rattle.joint.specs.Refusals.{refusals}
 use Rattle.joint.specs.Plan.{Plan, acting, rowPlan, step, restarting, joined, restartAll, transactions, plan}
 use Rattle.joint.proofs.base.Lists.{Each, each-append, each-chosen}
+use Rattle.joint.proofs.base.Updates.{update-point}
 use Rattle.joint.proofs.base.Plans.{All, all-step, all-or, all-only}
 use Rattle.joint.proofs.view.Events.{was-opened}
 
@@ -62,15 +62,14 @@ module _ (s : ℕ) where
   performed-one : (a : Act) → a .transaction < 8 → (x : Run) → ((z : ℕ) → Low (x .site z .unforced)) → (z : ℕ) → Low (perform s (a .transaction) (a .effect) x .site z .unforced)
   performed-one a low x h z = go (a .effect)
     where
-      changed : (f : Site → Site) → Low (f (x .site z) .unforced) → (b : Bool) → Low (cond b (f (x .site z)) (x .site z) .unforced)
-      changed f l true = l
-      changed f l false = h z
+      changed : (f : Site → Site) → ((y : Site) → Low (y .unforced) → Low (f y .unforced)) → Low (update s f (x .site) z .unforced)
+      changed f keeps = update-point (λ (y : Site). Low (y .unforced)) f keeps s (x .site) z (h z)
 
       go : (e : Effect) → Low (perform s (a .transaction) e x .site z .unforced)
       go (append k fs) =
           let k : LogRecord = record { kind = k; transaction = a .transaction; fields = fs } in
-          unfold perform atSite update in changed (appended k) (unfold appended in each-append (λ (x : LogRecord). x .transaction < 8) (x .site z .unforced) (k ∷ []) (h z) (low, tt)) (eqb z s)
-      go force = unfold perform atSite update in changed forced (unfold forced in tt) (eqb z s)
+          unfold perform atSite appended in changed (appended k) (λ y l. each-append (λ (x : LogRecord). x .transaction < 8) (y .unforced) (k ∷ []) l (low, tt))
+      go force = unfold perform atSite forced in changed forced (λ y l. tt)
       go (enter o) = unfold perform atTransaction in h z
       go (send m p) = unfold perform atTransaction in h z
 

@@ -1,21 +1,22 @@
 -- At every moment, in front of each effect of a row too, at most one record of a transaction is unforced at each site.
 use Prim.Native.Nat.{ℕ, zero, suc, _≤_}
 use mathlib.Core.Path.{_≡_, refl, ap}
-use mathlib.Core.Bool.{Bool, true, false, cond}
-use mathlib.Core.List.{List, [], _∷_}
+use mathlib.Core.Bool.{Bool, true, false}
+use mathlib.Core.List.{List}
 use native.Mathlib.Omega.{arith}
 use lib.ListN.{length, take, length-map}
-use lib.Dec.{T, eqb, leb}
+use lib.Dec.{eqb, leb}
 use borrow.Author.Tests.{eqb-true, eqb-false, leb-true}
 use Rattle.codec.specs.Sets.{member}
 use Rattle.codec.specs.laws.Tests.{true-of}
-use Rattle.site.specs.Step.{Input, Effect, append, force, enter, send, Row}
+use Rattle.site.specs.Step.{Input, Effect, Row}
 use Rattle.site.specs.Coordinator.{Coordinator}
-use Rattle.joint.specs.State.{update, forced}
-use Rattle.joint.specs.Run.{isForce}
-use Rattle.joint.proofs.base.Lists.{Each, each-take}
-use Rattle.joint.proofs.view.View.{View, viewAt, viewPerform, viewEffects}
+use Rattle.joint.specs.State.{Site, forced}
+use Rattle.joint.proofs.base.Lists.{each-take}
+use Rattle.joint.proofs.base.Updates.{update-point}
+use Rattle.joint.proofs.view.View.{View, viewAt, viewEffects}
 use Rattle.joint.proofs.view.Turn.{OwnRow, coordinates, participates, resumes, returns, SeenRow, own, others, bare}
+use Rattle.joint.proofs.view.Carries.{after-forces}
 use Rattle.joint.proofs.safety.Tables.{Status, unforcedKinds}
 use Rattle.joint.proofs.safety.Finite.{at-status}
 use Rattle.joint.proofs.safety.Invariant.{waiting, resting, down, Standing, never, initial, collecting, decided, kindIf, unforcedAt, Place, Mid, Inv, cohortOf}
@@ -46,7 +47,7 @@ standing-single (decided o out down l) = omega arith
 status-single : (s : Status) → length (unforcedKinds s) ≤ 1
 status-single s = leb-true _ 1 (true-of _ (at-status (λ s. leb (length (unforcedKinds s)) 1) tt s))
 
-mid-single : {t : ℕ} {h : Standing} {v : View} → Mid t h v → Single v
+pub mid-single : {t : ℕ} {h : Standing} {v : View} → Mid t h v → Single v
 mid-single {h} mid zero = rw (mid .log, length-map) (standing-single h)
 mid-single {t} {h} {v} mid (suc n) = go (member (suc n) (cohortOf v .members)) (mid .stands n)
   where
@@ -57,20 +58,8 @@ mid-single {t} {h} {v} mid (suc n) = go (member (suc n) (cohortOf v .members)) (
 -- ---- after forces
 
 force-single : (s : ℕ) (v : View) → Single v → Single (viewAt s forced v)
-unfolding viewAt update
-force-single s v h z = go (eqb z s)
-  where
-    go : (b : Bool) → length (cond b (forced (v .site z)) (v .site z) .unforced) ≤ 1
-    go true = unfold forced in (omega arith)
-    go false = h z
-
-forces-single : (s t : ℕ) (es : List Effect) → Each (λ e. T (isForce e)) es → (v : View) → Single v → Single (viewEffects s t es v)
-unfolding viewEffects viewPerform isForce
-forces-single s t [] h v x = x
-forces-single s t (append k fs ∷ es) h v x = absurd (h .0)
-forces-single s t (force ∷ es) h v x = forces-single s t es (h .1) (viewAt s forced v) (force-single s v x)
-forces-single s t (enter o ∷ es) h v x = absurd (h .0)
-forces-single s t (send m p ∷ es) h v x = absurd (h .0)
+unfolding viewAt forced
+force-single s v h z = update-point (λ (a : Site). length (a .unforced) ≤ 1) forced (λ a k. omega arith) s (v .site) z (h z)
 
 -- ---- in a row
 
@@ -97,6 +86,6 @@ module _ {t : ℕ} {h : Standing} {v : View} (inv : Inv t h v) where
   pub row-single : {Out : ℕ → Type 0} {s : ℕ} {es : List Effect} {f : View → View} → SeenRow t Out v s es f → (m : ℕ) → Single (viewEffects s t (take m es) v)
   unfolding viewEffects
   row-single (own x) m = own-single x m
-  row-single {s} {es} (others x) m = forces-single s t (take m es) (each-take _ m es x) v (mid-single (inv .mid))
+  row-single {s} {es} (others x) m = after-forces Single s t (force-single s) (take m es) (each-take _ m es x) v (mid-single (inv .mid))
   row-single (bare x) zero = mid-single (inv .mid)
   row-single (bare x) (suc m) = mid-single (inv .mid)

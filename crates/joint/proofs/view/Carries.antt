@@ -60,14 +60,17 @@ Forces es = Each (λ e. T (isForce e)) es
 pub all-forces : (es : List Effect) → Forces (select isForce es)
 all-forces es = each-chosen (λ e. T (isForce e)) isForce (λ e k. k) es
 
-module _ (t : ℕ) (Out : ℕ → Type 0) (s : ℕ) where
-  forces-then : (es : List Effect) → Forces es → (v x : View) → Turns t Out (viewEffects s t es v) x → Turns t Out v x
-  unfolding viewEffects viewPerform isForce
-  forces-then [] h v x k = k
-  forces-then (append j fs ∷ es) h v x k = absurd (h .0)
-  forces-then (force ∷ es) h v x k = forces s (forces-then es (h .1) (viewAt s forced v) x k)
-  forces-then (enter o ∷ es) h v x k = absurd (h .0)
-  forces-then (send m p ∷ es) h v x k = absurd (h .0)
+-- what a force keeps, forces keep
+pub after-forces : (P : View → Type 0) (s t : ℕ) → ((u : View) → P u → P (viewAt s forced u)) → (es : List Effect) → Forces es → (v : View) → P v → P (viewEffects s t es v)
+unfolding viewEffects viewPerform isForce
+after-forces P s t k [] h v x = x
+after-forces P s t k (append j fs ∷ es) h v x = absurd (h .0)
+after-forces P s t k (force ∷ es) h v x = after-forces P s t k es (h .1) (viewAt s forced v) (k v x)
+after-forces P s t k (enter o ∷ es) h v x = absurd (h .0)
+after-forces P s t k (send m p ∷ es) h v x = absurd (h .0)
+
+forces-then : (t : ℕ) (Out : ℕ → Type 0) (s : ℕ) (es : List Effect) → Forces es → (v x : View) → Turns t Out (viewEffects s t es v) x → Turns t Out v x
+forces-then t Out s es h v x = after-forces (λ u. Turns t Out u x → Turns t Out v x) s t (λ u f k. f (forces s k)) es h v (λ k. k)
 
 pub row-turns : {t : ℕ} {Out : ℕ → Type 0} {s : ℕ} {es : List Effect} {f : View → View} {v w : View} → SeenRow t Out v s es f → Carried t s es f v w → Turns t Out v w
 unfolding viewEffects

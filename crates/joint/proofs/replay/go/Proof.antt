@@ -1,6 +1,6 @@
 mod Read
 mod Decided
-use Prim.Native.Nat.{ℕ, _-_}
+use Prim.Native.Nat.{ℕ}
 use mathlib.Core.Path.{_≡_, refl, sym, ap, _∙_}
 use mathlib.Core.List.{[]}
 use lib.ListN.{length, set, length-set}
@@ -21,7 +21,7 @@ use Rattle.joint.proofs.engine.Refused.{refused-number}
 use Rattle.joint.proofs.replay.go.Statement.{statement}
 use Rattle.joint.proofs.replay.go.Tie as tie
 use Rattle.joint.proofs.replay.go.Proof.Read.{Inv-loop, μ-loop, sub-rest, ended, top, run, w, x, full, room, next, restarting, read-of, restart-low, restart-parsed, restarted, restart-of, restart-counted, accepted, restart-answer, restart-turned, step-read, in-range, step-parsed, site-low, transaction-low}
-use Rattle.joint.proofs.replay.go.Proof.Decided.{found, number, transaction, low, few, decided, taking, counts, counted, turned, answered, came, row, row-seen, put-stored, settled, transactions-put, forces-put, site-put, full-put}
+use Rattle.joint.proofs.replay.go.Proof.Decided.{found, number, transaction, low, few, decided, taking, counts, turned, answered, came, row, row-seen, put-stored, settled, transactions-put, forces-put, site-put, full-put}
 
 whole-run : (s : tie.Start Inv-loop μ-loop) → Full (s .args .run)
 whole-run s =
