@@ -14,7 +14,7 @@ TYPES = {
     "Records": ["LogRecord"],
     "Presumption": ["Outcome", "commit", "abort"],
     "Cohort": ["Cohort"],
-    "Coordinator": ["CoordinatorPhase", "initial", "collecting", "awaitingAcks"],
+    "Coordinator": ["CoordinatorPhase", "initial", "collecting", "awaiting_acks"],
     "State": ["Run"],
     "Run": ["Answer"],
     "Step": ["force"],
@@ -26,7 +26,7 @@ HEAD = """use Prim.Native.Nat.{ℕ, zero, suc}
 use mathlib.Core.Path.{_≡_, refl, ap, subst}
 use mathlib.Core.Bool.{Bool, true, false, cond, not, _&&_, _||_}
 use mathlib.Core.List.{List, [], _∷_, _++_, map, flatten}
-use lib.ListN.{length, getD, take, drop, replicate}
+use lib.ListN.{length, get_or, take, drop, replicate}
 use lib.Dec.{T, eqb}
 """
 
@@ -107,7 +107,7 @@ def refused(support, equations, edit=None, out=OUT):
     for label, claim, proof in equations:
         name = "v" + re.sub(r"\W", "-", label)
         labels[name] = label
-        root += f"\n{name} : {claim}\nunfolding codec-opens site-opens joint-opens {opened}\n{name} = {proof}\n"
+        root += f"\n{name} : {claim}\nunfolding codec_opens site-opens joint_opens {opened}\n{name} = {proof}\n"
     put(out, "crates/vectors/src/lib.rt", "// Equations alone.\n")
     put(out, "crates/vectors/specs/Lib.antt", root)
     proved, printed = check(out, list(CRATES) + ["vectors"])

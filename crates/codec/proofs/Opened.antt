@@ -9,9 +9,9 @@ use native.Mathlib.Omega.{arith}
 use borrow.Author.Tests.{lt-ltb, le-ltb, ltb-false, eq-eqb, ne_eqb, not-true, not-false}
 use lib.Dec.{eqb, ltb}
 use lib.ListN.{length, get_or, take, drop, length-take, drop_of_length-le}
-use Rattle.codec.specs.laws.Tests.{or-none}
+use Rattle.codec.specs.Laws.Tests.{or_none}
 use Rattle.codec.specs.Lists.{first, same}
-use Rattle.codec.specs.Image.{magic, siteIn, countIn, most, overLimit, tableExact, headRefusals, refused, readRecords, readUnless, readImage}
+use Rattle.codec.specs.Image.{magic, site_in, count_in, most, over_limit, table_exact, head_refusals, refused, read_records, read_unless, read_image}
 
 -- ---- the opening, compared byte by byte
 
@@ -30,9 +30,9 @@ pub opening-start : (bytes : List ℕ) → 6 ≤ length bytes → Opening bytes 
 opening-start bytes h = record { upto = omega arith; long = h; left = refl }
 
 module _ (bytes : List ℕ) (i : ℕ) (o : Opening bytes i) where
-  pub opening-end : 4 ≤ i → same (take 4 bytes) magic ≡ true
+  pub opening_end : 4 ≤ i → same (take 4 bytes) magic ≡ true
   unfolding same magic
-  opening-end h =
+  opening_end h =
       o.left ∙ rw (drop_of_length-le (take 4 bytes) {i = i} (simp length-take (omega arith)), drop_of_length-le magic {i = i} h)
 
   module _ (more : i < 4) where
@@ -42,18 +42,18 @@ module _ (bytes : List ℕ) (i : ℕ) (o : Opening bytes i) where
         o.left ∙ same_at (take 4 bytes) magic i (simp length-take (omega (arith, o.long))) more
         ∙ rw (get_or-take 4 bytes i 0 more)
 
-    pub opening-next : get_or bytes i 0 ≡ get_or magic i 0 → Opening bytes (i + 1)
-    opening-next e = record { upto = omega arith; long = o.long; left = here ∙ rw (eq-eqb (get_or bytes i 0) (get_or magic i 0) e) }
+    pub opening_next : get_or bytes i 0 ≡ get_or magic i 0 → Opening bytes (i + 1)
+    opening_next e = record { upto = omega arith; long = o.long; left = here ∙ rw (eq-eqb (get_or bytes i 0) (get_or magic i 0) e) }
 
-    pub opening-differs : (get_or bytes i 0 ≡ get_or magic i 0 → ⊥) → same (take 4 bytes) magic ≡ false
-    opening-differs n = here ∙ rw (ne_eqb (get_or bytes i 0) (get_or magic i 0) n)
+    pub opening_differs : (get_or bytes i 0 ≡ get_or magic i 0 → ⊥) → same (take 4 bytes) magic ≡ false
+    opening_differs n = here ∙ rw (ne_eqb (get_or bytes i 0) (get_or magic i 0) n)
 
 -- ---- before the records
 
 -- no image holds more than 24 records
-pub few-records : (s n : ℕ) → overLimit s n ≡ false → n ≤ 24
-unfolding overLimit most
-few-records s n e = by s (ltb-false (most s) n (or-none (ltb 8 s) (ltb (most s) n) e).1)
+pub few-records : (s n : ℕ) → over_limit s n ≡ false → n ≤ 24
+unfolding over_limit most
+few-records s n e = by s (ltb-false (most s) n (or_none (ltb 8 s) (ltb (most s) n) e).1)
   where
     by : (s : ℕ) → n ≤ most s → n ≤ 24
     by zero h = h
@@ -67,26 +67,26 @@ module _ (bytes : List ℕ) where
   opens_by h = rw (le-ltb (length bytes) 6 h) (not-not (same (take 4 bytes) magic))
 
   -- an image that opens has its six bytes
-  pub opens-long : not (ltb (length bytes) 6 || not (same (take 4 bytes) magic)) ≡ true → 6 ≤ length bytes
-  opens-long e = ltb-false (length bytes) 6 (or-none (ltb (length bytes) 6) (not (same (take 4 bytes) magic)) (not-true _ e)).0
+  pub opens_long : not (ltb (length bytes) 6 || not (same (take 4 bytes) magic)) ≡ true → 6 ≤ length bytes
+  opens_long e = ltb-false (length bytes) 6 (or_none (ltb (length bytes) 6) (not (same (take 4 bytes) magic)) (not-true _ e)).0
 
-  pub not_opened : not (ltb (length bytes) 6 || not (same (take 4 bytes) magic)) ≡ false → readImage bytes ≡ refused 20 0
-  unfolding readImage headRefusals first readUnless
+  pub not_opened : not (ltb (length bytes) 6 || not (same (take 4 bytes) magic)) ≡ false → read_image bytes ≡ refused 20 0
+  unfolding read_image head_refusals first read_unless
   not_opened e = rw (not-false (ltb (length bytes) 6 || not (same (take 4 bytes) magic)) e)
 
   module _ (opened : not (ltb (length bytes) 6 || not (same (take 4 bytes) magic)) ≡ true) where
     opening : (ltb (length bytes) 6 || not (same (take 4 bytes) magic)) ≡ false
     opening = not-true (ltb (length bytes) 6 || not (same (take 4 bytes) magic)) opened
 
-    pub over : overLimit (siteIn bytes) (countIn bytes) ≡ true → readImage bytes ≡ refused 21 0
-    unfolding readImage headRefusals first readUnless
+    pub over : over_limit (site_in bytes) (count_in bytes) ≡ true → read_image bytes ≡ refused 21 0
+    unfolding read_image head_refusals first read_unless
     over e = rw (opening, e)
 
-    module _ (within : overLimit (siteIn bytes) (countIn bytes) ≡ false) where
-      pub not-exact : tableExact bytes ≡ false → readImage bytes ≡ refused 22 0
-      unfolding readImage headRefusals first readUnless
+    module _ (within : over_limit (site_in bytes) (count_in bytes) ≡ false) where
+      pub not-exact : table_exact bytes ≡ false → read_image bytes ≡ refused 22 0
+      unfolding read_image head_refusals first read_unless
       not-exact e = rw (opening, within, e)
 
-      pub by-records : tableExact bytes ≡ true → readImage bytes ≡ readRecords bytes
-      unfolding readImage headRefusals first readUnless
-      by-records e = rw (opening, within, e)
+      pub by_records : table_exact bytes ≡ true → read_image bytes ≡ read_records bytes
+      unfolding read_image head_refusals first read_unless
+      by_records e = rw (opening, within, e)

@@ -11,37 +11,37 @@ use lib.Dec.{ltb}
 use lib.ListN.{length, get_or, set, take, drop, replicate, length-map, drop_of_length-le, get_or-map}
 use lib.Seq.{drop-cons, take-suc}
 use Rattle.codec.specs.Lists.{first}
-use Rattle.codec.specs.Records.{LogRecord, recordOf, recordKindAt, kindAndLength, fieldsInRange, inSequence, recordTests, recordRefusals, furtherUnless, firstBad}
-use Rattle.codec.specs.Answers.{recordIn, noRecord, recordNumber}
-use Rattle.codec.specs.Inside.{mayFollow, answerTo, answerOn}
+use Rattle.codec.specs.Records.{LogRecord, record_of, record_kind_at, kind_and_length, fields_in_range, in_sequence, record_tests, record_refusals, further_unless, first_bad}
+use Rattle.codec.specs.Answers.{record_in, no_record, record_number}
+use Rattle.codec.specs.Inside.{may_follow, answer_to, answer_on}
 use Rattle.codec.specs.declared.record.Record.{Record}
 use Rattle.codec.specs.declared.record.RecordAnswer.{RecordAnswer}
 use Rattle.codec.specs.declared.record.RecordAnswer.TheVariants.{Accepted, WrongKind, WrongTransaction, WrongField, OutOfSequence}
 use denote.Enum.Declared.{tag_of}
 use types.Run.{OneOf}
 use Rattle.codec.specs.contracts.record.RecordAnswer.{the_type}
-use Rattle.codec.specs.laws.Refusals.{or_else, sound, tests-or}
-use Rattle.codec.proofs.Kept.{Kept, kept-none, kept_next, in-sequence}
+use Rattle.codec.specs.Laws.Refusals.{or_else, sound, tests_or}
+use Rattle.codec.proofs.Kept.{Kept, kept_none, kept_next, in_sequence_lem}
 
 -- the first i records have passed, and the newest of each transaction is kept
 pub record Passed (s : ℕ) (records : List (List ℕ)) (newest : List Record) (i : ℕ) : Type 0 where
   pub upto : i ≤ length records
-  pub kept : Kept s newest (take i (map recordOf records))
-  pub left : first (recordRefusals s [] records) ≡ first (recordRefusals s (take i (map recordOf records)) (drop i records))
-  pub index : firstBad s [] records ≡ i + firstBad s (take i (map recordOf records)) (drop i records)
+  pub kept : Kept s newest (take i (map record_of records))
+  pub left : first (record_refusals s [] records) ≡ first (record_refusals s (take i (map record_of records)) (drop i records))
+  pub index : first_bad s [] records ≡ i + first_bad s (take i (map record_of records)) (drop i records)
 
-pub passed_none : (s : ℕ) (records : List (List ℕ)) → Passed s records (replicate 8 noRecord) 0
-passed_none s records = record { upto = omega arith; kept = kept-none s; left = refl; index = omega arith }
+pub passed_none : (s : ℕ) (records : List (List ℕ)) → Passed s records (replicate 8 no_record) 0
+passed_none s records = record { upto = omega arith; kept = kept_none s; left = refl; index = omega arith }
 
-pub passed-all : (s : ℕ) (records : List (List ℕ)) (newest : List Record) (i : ℕ) → length records ≤ i → Passed s records newest i
-    → first (recordRefusals s [] records) ≡ 0
-unfolding recordRefusals first
-passed-all s records newest i h p = rw (p.left, drop_of_length-le records {i = i} h)
+pub passed_all : (s : ℕ) (records : List (List ℕ)) (newest : List Record) (i : ℕ) → length records ≤ i → Passed s records newest i
+    → first (record_refusals s [] records) ≡ 0
+unfolding record_refusals first
+passed_all s records newest i h p = rw (p.left, drop_of_length-le records {i = i} h)
 
 -- ---- one record
 
 -- an answer with another tag than the first was not accepted
-pub not-accepted : (a : RecordAnswer) → OneOf (1 ∷ 2 ∷ 3 ∷ 4 ∷ []) (tag_of the_type a) → recordNumber a ≡ 0 → ⊥
+pub not-accepted : (a : RecordAnswer) → OneOf (1 ∷ 2 ∷ 3 ∷ 4 ∷ []) (tag_of the_type a) → record_number a ≡ 0 → ⊥
 not-accepted (Accepted x) k e = not_first k
   where
     not_first : OneOf (1 ∷ 2 ∷ 3 ∷ 4 ∷ []) 0 → ⊥
@@ -52,12 +52,12 @@ not-accepted WrongField k e = omega arith
 not-accepted OutOfSequence k e = omega arith
 
 -- an accepted answer tells that no test struck
-pub taken : (a b c d : Bool) (x r : Record) → answerTo a b c d x ≡ Accepted r → (a ≡ false) × (x ≡ r)
-unfolding answerTo
-taken true b c d x r e = absurd (omega (arith, ap recordNumber e))
-taken false true c d x r e = absurd (omega (arith, ap recordNumber e))
-taken false false true d x r e = absurd (omega (arith, ap recordNumber e))
-taken false false false true x r e = absurd (omega (arith, ap recordNumber e))
+pub taken : (a b c d : Bool) (x r : Record) → answer_to a b c d x ≡ Accepted r → (a ≡ false) × (x ≡ r)
+unfolding answer_to
+taken true b c d x r e = absurd (omega (arith, ap record_number e))
+taken false true c d x r e = absurd (omega (arith, ap record_number e))
+taken false false true d x r e = absurd (omega (arith, ap record_number e))
+taken false false false true x r e = absurd (omega (arith, ap record_number e))
 taken false false false false x r e = (refl, cc)
 
 module _ (s : ℕ) (records : List (List ℕ)) (newest : List Record) (i : ℕ) (p : Passed s records newest i) (more : i < length records) (x : Record) where
@@ -65,75 +65,75 @@ module _ (s : ℕ) (records : List (List ℕ)) (newest : List Record) (i : ℕ) 
   here = get_or records i []
 
   abbrev done : List LogRecord
-  done = take i (map recordOf records)
+  done = take i (map record_of records)
 
   abbrev behind : LogRecord
-  behind = recordIn (get_or newest x.transaction noRecord)
+  behind = record_in (get_or newest x.transaction no_record)
 
   -- the program's answer, and the number that the definitions give
   abbrev answer : RecordAnswer
-  answer = answerOn s here behind x
+  answer = answer_on s here behind x
 
   abbrev number : ℕ
-  number = first (recordTests s done here)
+  number = first (record_tests s done here)
 
-  module _ (read : kindAndLength s here ≡ true → recordIn x ≡ recordOf here) where
-    same-transaction : kindAndLength s here ≡ true → (recordOf here).transaction ≡ x.transaction
-    unfolding recordIn
+  module _ (read : kind_and_length s here ≡ true → record_in x ≡ record_of here) where
+    same-transaction : kind_and_length s here ≡ true → (record_of here).transaction ≡ x.transaction
+    unfolding record_in
     same-transaction e = sym (ap (λ (y : LogRecord). y.transaction) (read e))
 
-    kind-here : kindAndLength s here ≡ true → recordKindAt s x.kind ≡ true
-    unfolding kindAndLength recordIn
-    kind-here e = rw (ap (λ (y : LogRecord). y.kind) (read e)) ((and-eq-true_iff (recordKindAt s (recordOf here).kind) _).0 e).0
+    kind_here : kind_and_length s here ≡ true → record_kind_at s x.kind ≡ true
+    unfolding kind_and_length record_in
+    kind_here e = rw (ap (λ (y : LogRecord). y.kind) (read e)) ((and-eq-true_iff (record_kind_at s (record_of here).kind) _).0 e).0
 
-    rule : kindAndLength s here ≡ true → (recordOf here).transaction < 8 → inSequence s done (recordOf here) ≡ mayFollow behind (recordOf here)
-    rule e h = rw (← read e) (in-sequence s newest done p.kept x (omega (arith, same-transaction e)) (kind-here e))
+    rule : kind_and_length s here ≡ true → (record_of here).transaction < 8 → in_sequence s done (record_of here) ≡ may_follow behind (record_of here)
+    rule e h = rw (← read e) (in_sequence_lem s newest done p.kept x (omega (arith, same-transaction e)) (kind_here e))
 
-    number_is : recordNumber answer ≡ number
-    unfolding answerTo recordTests first
-    number_is = by (not (kindAndLength s here)) (ltb 7 (recordOf here).transaction) (not (fieldsInRange (recordOf here))) refl refl
+    number_is : record_number answer ≡ number
+    unfolding answer_to record_tests first
+    number_is = by (not (kind_and_length s here)) (ltb 7 (record_of here).transaction) (not (fields_in_range (record_of here))) refl refl
       where
-        last : (m : Bool) → recordNumber (answerTo false false false (not m) x) ≡ cond (not m) 24 0
+        last : (m : Bool) → record_number (answer_to false false false (not m) x) ≡ cond (not m) 24 0
         last true = refl
         last false = refl
 
-        by : (a b c : Bool) → not (kindAndLength s here) ≡ a → ltb 7 (recordOf here).transaction ≡ b
-            → recordNumber (answerTo a b c (not (mayFollow behind (recordOf here))) x) ≡ cond a 23 (cond b 27 (cond c 28 (cond (not (inSequence s done (recordOf here))) 24 0)))
+        by : (a b c : Bool) → not (kind_and_length s here) ≡ a → ltb 7 (record_of here).transaction ≡ b
+            → record_number (answer_to a b c (not (may_follow behind (record_of here))) x) ≡ cond a 23 (cond b 27 (cond c 28 (cond (not (in_sequence s done (record_of here))) 24 0)))
         by true b c e h = refl
         by false true c e h = refl
         by false false true e h = refl
         by false false false e h =
-            rw (rule (not-false (kindAndLength s here) e) (omega (arith, ltb-false 7 (recordOf here).transaction h))) (last (mayFollow behind (recordOf here)))
+            rw (rule (not-false (kind_and_length s here) e) (omega (arith, ltb-false 7 (record_of here).transaction h))) (last (may_follow behind (record_of here)))
 
     -- the tests on this record decide, and the others follow
-    split : first (recordRefusals s [] records) ≡ or_else number (first (recordRefusals s (done ++ (recordOf here ∷ [])) (drop (suc i) records)))
-    unfolding recordRefusals
-    split = p.left ∙ rw (drop-cons records i [] more) (tests-or s done here _)
+    split : first (record_refusals s [] records) ≡ or_else number (first (record_refusals s (done ++ (record_of here ∷ [])) (drop (suc i) records)))
+    unfolding record_refusals
+    split = p.left ∙ rw (drop-cons records i [] more) (tests_or s done here _)
 
-    index-here : firstBad s [] records ≡ i + furtherUnless number (firstBad s (done ++ (recordOf here ∷ [])) (drop (suc i) records))
-    unfolding firstBad
-    index-here = p.index ∙ rw (drop-cons records i [] more)
+    index_here : first_bad s [] records ≡ i + further_unless number (first_bad s (done ++ (record_of here ∷ [])) (drop (suc i) records))
+    unfolding first_bad
+    index_here = p.index ∙ rw (drop-cons records i [] more)
 
     -- a record that is not accepted ends with its number and its index
-    pub stopped : (recordNumber answer ≡ 0 → ⊥) → (recordNumber answer ≡ first (recordRefusals s [] records)) × (firstBad s [] records ≡ i)
-    unfolding furtherUnless
+    pub stopped : (record_number answer ≡ 0 → ⊥) → (record_number answer ≡ first (record_refusals s [] records)) × (first_bad s [] records ≡ i)
+    unfolding further_unless
     stopped n =
-        let next = done ++ (recordOf here ∷ []) in
-        let struck = by number (first (recordRefusals s next (drop (suc i) records))) (firstBad s next (drop (suc i) records)) (λ e. n (number_is ∙ e)) in
-        (number_is ∙ sym (split ∙ struck.0), index-here ∙ rw struck.1 (omega arith))
+        let next = done ++ (record_of here ∷ []) in
+        let struck = by number (first (record_refusals s next (drop (suc i) records))) (first_bad s next (drop (suc i) records)) (λ e. n (number_is ∙ e)) in
+        (number_is ∙ sym (split ∙ struck.0), index_here ∙ rw struck.1 (omega arith))
       where
-        by : (k m j : ℕ) → (k ≡ 0 → ⊥) → (or_else k m ≡ k) × (furtherUnless k j ≡ 0)
+        by : (k m j : ℕ) → (k ≡ 0 → ⊥) → (or_else k m ≡ k) × (further_unless k j ≡ 0)
         by zero m j n = absurd (n refl)
         by (suc k) m j n = (refl, refl)
 
-    pub done_next : take (i + 1) (map recordOf records) ≡ done ++ (recordOf here ∷ [])
-    unfolding recordOf
+    pub done_next : take (i + 1) (map record_of records) ≡ done ++ (record_of here ∷ [])
+    unfolding record_of
     done_next =
-        rw (add-one, take-suc (map recordOf records) i (recordOf []) (rw length-map more), get_or-map recordOf records i [])
+        rw (add-one, take-suc (map record_of records) i (record_of []) (rw length-map more), get_or-map record_of records i [])
 
-    next-x : number ≡ 0 → (x.transaction < 8) × Passed s records (set newest x.transaction x) (i + 1)
-    unfolding furtherUnless
-    next-x e =
+    next_x : number ≡ 0 → (x.transaction < 8) × Passed s records (set newest x.transaction x) (i + 1)
+    unfolding further_unless
+    next_x e =
         let none = sound s done here e in
         let low : x.transaction < 8 = omega (arith, same-transaction none.shaped, none.low) in (
           low,
@@ -141,9 +141,9 @@ module _ (s : ℕ) (records : List (List ℕ)) (newest : List Record) (i : ℕ) 
             upto = omega arith;
             kept = rw (done_next, ← read none.shaped) (kept_next s newest done p.kept x low (rw (← read none.shaped) at none.follows));
             left = split ∙ rw (e, done_next, add-one);
-            index = index-here ∙ rw (e, done_next, add-one) (omega arith);
+            index = index_here ∙ rw (e, done_next, add-one) (omega arith);
           },
         )
 
-    pub passed-next : (r : Record) → answer ≡ Accepted r → (r.transaction < 8) × Passed s records (set newest r.transaction r) (i + 1)
-    passed-next r e = rw (← (taken _ _ _ _ x r e).1) (next-x (sym number_is ∙ ap recordNumber e))
+    pub passed_next : (r : Record) → answer ≡ Accepted r → (r.transaction < 8) × Passed s records (set newest r.transaction r) (i + 1)
+    passed_next r e = rw (← (taken _ _ _ _ x r e).1) (next_x (sym number_is ∙ ap record_number e))

@@ -1,9 +1,9 @@
 -- What the program's inner functions promise each other. No reader has to believe it: proofs/ shows what it has to do with 01.
 use Rattle.std.specs.Prelude.{ℕ, ◌+◌, ◌*◌, ◌/◌, ◌%◌, ◌^◌, ◌≤◌, ◌≡◌, Bool, true, false, not, List, [], ◌∷◌, map, length, take, get_or, eqb, leb, ltb}
 use Rattle.codec.specs.Lists.{every}
-use Rattle.codec.specs.Records.{LogRecord, bytes_of, recordOf, kindAndLength, fieldsInRange, agrees}
-use Rattle.codec.specs.Image.{countIn, tableExact}
-use Rattle.codec.specs.Answers.{recordIn}
+use Rattle.codec.specs.Records.{LogRecord, bytes_of, record_of, kind_and_length, fields_in_range, agrees}
+use Rattle.codec.specs.Image.{count_in, table_exact}
+use Rattle.codec.specs.Answers.{record_in}
 use Rattle.codec.specs.declared.record.Record.{Record}
 use Rattle.codec.specs.declared.record.RecordAnswer.{RecordAnswer}
 use Rattle.codec.specs.declared.record.RecordAnswer.TheVariants.{Accepted, WrongKind, WrongTransaction, WrongField, OutOfSequence}
@@ -11,42 +11,42 @@ use Rattle.codec.specs.declared.record.RecordAnswer.TheVariants.{Accepted, Wrong
 -- ---- one record
 
 -- the record that bytes are, if they are one
-unfoldable pub recordFrom : List ℕ → Record
-recordFrom bytes = record { kind = get_or bytes 0 0; transaction = get_or bytes 1 0; first = get_or bytes 2 0; second = get_or bytes 3 0 }
+unfoldable pub record_from : List ℕ → Record
+record_from bytes = record { kind = get_or bytes 0 0; transaction = get_or bytes 1 0; first = get_or bytes 2 0; second = get_or bytes 3 0 }
 
 -- the kinds that may stand behind a kind of their transaction, as masks: bit k is kind k
-unfoldable pub nextKinds : List ℕ
-nextKinds = 0xFE ∷ 0x14 ∷ 0x08 ∷ 0 ∷ 0 ∷ 0xC0 ∷ 0 ∷ 0 ∷ []
+unfoldable pub next_kinds : List ℕ
+next_kinds = 0xFE ∷ 0x14 ∷ 0x08 ∷ 0 ∷ 0 ∷ 0xC0 ∷ 0 ∷ 0 ∷ []
 
--- x behind y, the newest record of its transaction; `by-newest` in proofs/Sequence.antt: this is 01's sequence rule
-unfoldable pub mayFollow : LogRecord → LogRecord → Bool
-mayFollow y x =
-    every (leb y.kind 7 ∷ leb x.kind 7 ∷ eqb (get_or nextKinds y.kind 0 / 2 ^ x.kind % 2) 1 ∷ agrees y x ∷ [])
+-- x behind y, the newest record of its transaction; `by_newest` in proofs/Sequence.antt: this is 01's sequence rule
+unfoldable pub may_follow : LogRecord → LogRecord → Bool
+may_follow y x =
+    every (leb y.kind 7 ∷ leb x.kind 7 ∷ eqb (get_or next_kinds y.kind 0 / 2 ^ x.kind % 2) 1 ∷ agrees y x ∷ [])
 
 -- by the tests 23, 27, 28 and 24
-unfoldable pub answerTo : Bool → Bool → Bool → Bool → Record → RecordAnswer
-answerTo true b c d x = WrongKind
-answerTo false true c d x = WrongTransaction
-answerTo false false true d x = WrongField
-answerTo false false false true x = OutOfSequence
-answerTo false false false false x = Accepted x
+unfoldable pub answer_to : Bool → Bool → Bool → Bool → Record → RecordAnswer
+answer_to true b c d x = WrongKind
+answer_to false true c d x = WrongTransaction
+answer_to false false true d x = WrongField
+answer_to false false false true x = OutOfSequence
+answer_to false false false false x = Accepted x
 
 -- bytes of a record x at site s, behind y, the newest record of its transaction
-abbrev pub answerOn : ℕ → List ℕ → LogRecord → Record → RecordAnswer
-answerOn s bytes y x =
-    answerTo (not (kindAndLength s bytes)) (ltb 7 (recordOf bytes).transaction) (not (fieldsInRange (recordOf bytes))) (not (mayFollow y (recordOf bytes))) x
+abbrev pub answer_on : ℕ → List ℕ → LogRecord → Record → RecordAnswer
+answer_on s bytes y x =
+    answer_to (not (kind_and_length s bytes)) (ltb 7 (record_of bytes).transaction) (not (fields_in_range (record_of bytes))) (not (may_follow y (record_of bytes))) x
 
 -- the first `count` of an array's records, as bytes
-abbrev pub bytesIn : ℕ → List Record → List (List ℕ)
-bytesIn count records = map bytes_of (take count (map recordIn records))
+abbrev pub bytes_in : ℕ → List Record → List (List ℕ)
+bytes_in count records = map bytes_of (take count (map record_in records))
 
 -- ---- reading
 
 -- an image that passed 20 to 22
 pub record Readable (bytes : List ℕ) : Type 0 where
   pub whole : 6 ≤ length bytes
-  pub few : countIn bytes ≤ 24
-  pub exact : tableExact bytes ≡ true
+  pub few : count_in bytes ≤ 24
+  pub exact : table_exact bytes ≡ true
 
 -- 16 bits, low byte first
 abbrev pub word_at : List ℕ → ℕ → ℕ

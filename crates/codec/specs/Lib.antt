@@ -6,4 +6,4 @@ pub mod Messages
 pub mod Answers
 pub mod Inside
 pub mod Open
-pub mod laws
+pub mod Laws

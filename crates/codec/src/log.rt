@@ -1,8 +1,8 @@
 // The stable records of a site, as an image holds them.
 ghost use Rattle.std.specs.Prelude.{◌≡◌};
 ghost use Rattle.codec.specs.Lists.{first};
-ghost use Rattle.codec.specs.Image.{overLimit, logRefusals};
-ghost use Rattle.codec.specs.Answers.{logIn, noLog};
+ghost use Rattle.codec.specs.Image.{over_limit, log_refusals};
+ghost use Rattle.codec.specs.Answers.{log_in, no_log};
 
 use crate::message::Parts;
 use crate::record::{Newest, Record, RecordAnswer};
@@ -39,7 +39,7 @@ impl Log {
     pub const NO_ROOM: u8 = 25;
 
     pub fn new(site: u8) -> Log
-        ensures { result ≡ noLog site }
+        ensures { result ≡ no_log site }
     {
         Log {
             site,
@@ -50,7 +50,7 @@ impl Log {
 
     // 21: site above 8, or more records than an image of the site holds.
     pub fn over_limit(site: u8, count: usize) -> bool
-        ensures { result ≡ overLimit site count }
+        ensures { result ≡ over_limit site count }
     {
         if Parts::LAST_PARTICIPANT < site {
             return true;
@@ -63,7 +63,7 @@ impl Log {
 
     // The number that refuses to write the log, 21, 23, 27, 28 or 24; or 0.
     pub fn refusal(self) -> u8
-        ensures { result ≡ first (logRefusals self.site (logIn self)) }
+        ensures { result ≡ first (log_refusals self.site (log_in self)) }
     {
         let site = self.site;
         let count = self.count;

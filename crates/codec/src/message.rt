@@ -1,7 +1,7 @@
 // Message kinds and numbers: 16 bits for a message of a kind to or from a participant on a transaction.
 ghost use Rattle.std.specs.Prelude.{◌≡◌, ◌+◌, ◌*◌, ◌<◌};
-ghost use Rattle.codec.specs.Messages.{messageParts, messageAnswer, partsWritten, number_of, numberAnswer};
-ghost use Rattle.codec.specs.Answers.{parts_in, partsValues, numberValues, written};
+ghost use Rattle.codec.specs.Messages.{message_parts, message_answer, parts_written, number_of, number_answer};
+ghost use Rattle.codec.specs.Answers.{parts_in, parts_values, number_values, written};
 
 #[derive(Drop)]
 pub struct Parts {
@@ -90,7 +90,7 @@ impl Parts {
     const READ_ONLY_STEP: u16 = 8;
 
     pub fn from_number(number: u16) -> PartsAnswer
-        ensures { partsValues result ≡ messageAnswer (messageParts number) }
+        ensures { parts_values result ≡ message_answer (message_parts number) }
     {
         if Parts::LAST < number {
             return PartsAnswer::Refused;
@@ -113,7 +113,7 @@ impl Parts {
     }
 
     pub fn number(self) -> NumberAnswer
-        ensures { numberValues result ≡ numberAnswer (number_of (parts_in self)) }
+        ensures { number_values result ≡ number_answer (number_of (parts_in self)) }
     {
         let transaction = self.transaction;
         let participant = self.participant;
@@ -142,7 +142,7 @@ impl Parts {
 // For C (include/dpr.h): transaction, participant and kind of a message number: 0, or 26 and `parts` as it was.
 #[unsafe(no_mangle)]
 pub extern "C" fn dpr_message_parts(number: u16, parts: &mut [u8; 3]) -> u8
-    ensures { written result parts.new ≡ partsWritten (messageParts number) parts.old }
+    ensures { written result parts.new ≡ parts_written (message_parts number) parts.old }
 {
     let answer = Parts::from_number(number);
     let PartsAnswer::Message(message) = answer else {

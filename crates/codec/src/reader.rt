@@ -1,8 +1,8 @@
 // Reading a log image.
 ghost use Rattle.std.specs.Prelude.{◌≡◌, ◌+◌, ◌*◌, ◌≤◌, ◌<◌, not, ◌||◌, ltb, length, take};
 ghost use Rattle.codec.specs.Lists.{same};
-ghost use Rattle.codec.specs.Image.{magic, refused, readRecords, readImage, checkImage, tableExact};
-ghost use Rattle.codec.specs.Answers.{values, imageValues};
+ghost use Rattle.codec.specs.Image.{magic, refused, read_records, read_image, check_image, table_exact};
+ghost use Rattle.codec.specs.Answers.{values, image_values};
 ghost use Rattle.codec.specs.Inside.{word_at, Readable, Within};
 
 use crate::log::Log;
@@ -18,7 +18,7 @@ pub struct ImageAnswer {
 
 impl ImageAnswer {
     fn refused(answer: u8, index: u8) -> ImageAnswer
-        ensures { imageValues result ≡ values (refused answer index) }
+        ensures { image_values result ≡ values (refused answer index) }
     {
         ImageAnswer {
             answer,
@@ -56,7 +56,7 @@ fn word(bytes: &[u8], at: usize) -> usize
 // Whether the pair table is there whole, without gaps, up to the end.
 fn table_exact(bytes: &[u8]) -> bool
     requires { 6 ≤ length bytes.now }
-    ensures { result ≡ tableExact bytes.now }
+    ensures { result ≡ table_exact bytes.now }
 {
     let count = bytes[5] as usize;
     let mut at = Log::FIXED + Log::PAIR * count;
@@ -86,7 +86,7 @@ fn end_of(bytes: &[u8], at: usize, i: usize) -> usize
 // The records behind an exact table. The first that fails ends the reading.
 fn read_records(bytes: &[u8]) -> ImageAnswer
     requires { Readable bytes.now }
-    ensures { imageValues result ≡ values (readRecords bytes.now) }
+    ensures { image_values result ≡ values (read_records bytes.now) }
 {
     let site = bytes[4];
     let count = bytes[5] as usize;
@@ -119,7 +119,7 @@ fn read_records(bytes: &[u8]) -> ImageAnswer
 
 // The log that an image holds; or the number that refuses it, 20 to 24, 27 or 28, and the index of the first bad record.
 pub fn read_image(bytes: &[u8]) -> ImageAnswer
-    ensures { imageValues result ≡ values (readImage bytes.now) }
+    ensures { image_values result ≡ values (read_image bytes.now) }
 {
     if !opens(bytes) {
         return ImageAnswer::refused(Log::NO_OPENING, 0);
@@ -138,7 +138,7 @@ pub fn read_image(bytes: &[u8]) -> ImageAnswer
 // For C (include/dpr.h): number and index of an image's reading, the number in the low byte.
 #[unsafe(no_mangle)]
 pub extern "C" fn dpr_image_check(image: &[u8]) -> u16
-    ensures { result ≡ checkImage image.now }
+    ensures { result ≡ check_image image.now }
 {
     let read = read_image(image);
     (read.answer as u16) + 256 * (read.index as u16)

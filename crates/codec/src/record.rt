@@ -1,8 +1,8 @@
 // One log record: its fields, its length, and the tests on it (refusals 23, 27, 28 and 24).
 ghost use Rattle.std.specs.Prelude.{◌≡◌, length, get_or, set, replicate};
-ghost use Rattle.codec.specs.Records.{bytes_of, length_of, awaitsAcks, recordKindAt, fieldsInRange};
-ghost use Rattle.codec.specs.Answers.{recordIn, noRecord, recordNumber};
-ghost use Rattle.codec.specs.Inside.{recordFrom, mayFollow, answerOn};
+ghost use Rattle.codec.specs.Records.{bytes_of, length_of, awaits_acks, record_kind_at, fields_in_range};
+ghost use Rattle.codec.specs.Answers.{record_in, no_record, record_number};
+ghost use Rattle.codec.specs.Inside.{record_from, may_follow, answer_on};
 
 use crate::log::Log;
 use crate::message::Parts;
@@ -25,7 +25,7 @@ pub struct Newest {
 
 impl Newest {
     pub(crate) fn none() -> Newest
-        ensures { result.of ≡ replicate 8 noRecord }
+        ensures { result.of ≡ replicate 8 no_record }
     {
         Newest {
             of: [Record::NONE; Parts::LAST_TRANSACTION as usize + 1],
@@ -34,7 +34,7 @@ impl Newest {
 
     // The newest record of a record's transaction.
     pub(crate) fn behind(self, x: Record) -> Record
-        ensures { result ≡ get_or self.of x.transaction noRecord }
+        ensures { result ≡ get_or self.of x.transaction no_record }
     {
         let transaction = x.transaction;
         if Parts::LAST_TRANSACTION < transaction {
@@ -88,7 +88,7 @@ impl RecordAnswer {
     pub const OUT_OF_SEQUENCE: u8 = 24;
 
     pub(crate) fn number(self) -> u8
-        ensures { result ≡ recordNumber self }
+        ensures { result ≡ record_number self }
     {
         match self {
             RecordAnswer::Accepted(_) => 0,
@@ -143,7 +143,7 @@ impl Record {
 
     // How many bytes the record has: kind, transaction, and the fields of its kind.
     pub fn length(self) -> usize
-        ensures { result ≡ length (bytes_of (recordIn self)) }
+        ensures { result ≡ length (bytes_of (record_in self)) }
     {
         let kind = self.kind;
         let length = Record::length_of(kind);
@@ -155,7 +155,7 @@ impl Record {
 
     // The record that bytes are, if they are one.
     fn from_bytes(bytes: &[u8]) -> Record
-        ensures { result ≡ recordFrom bytes.now }
+        ensures { result ≡ record_from bytes.now }
     {
         Record {
             kind: byte(bytes, 0),
@@ -167,7 +167,7 @@ impl Record {
 
     // The bytes as a record of a site, behind the newest record of each transaction.
     pub(crate) fn read(bytes: &[u8], site: u8, newest: Newest) -> RecordAnswer
-        ensures { result ≡ answerOn site bytes.now (recordIn (get_or newest.of (recordFrom bytes.now).transaction noRecord)) (recordFrom bytes.now) }
+        ensures { result ≡ answer_on site bytes.now (record_in (get_or newest.of (record_from bytes.now).transaction no_record)) (record_from bytes.now) }
     {
         let record = Record::from_bytes(bytes);
         let kind = record.kind;
@@ -179,7 +179,7 @@ impl Record {
 
     // Whether a site has records of a kind: the coordinator 1 to 4, a participant 5 to 7.
     fn kind_at(site: u8, kind: u8) -> bool
-        ensures { result ≡ recordKindAt site kind }
+        ensures { result ≡ record_kind_at site kind }
     {
         match kind {
             Record::INIT..=Record::ABORT_END => site == Log::COORDINATOR,
@@ -190,7 +190,7 @@ impl Record {
 
     // Members not 0, PC a part of members; Init has PC not empty; a presumption is 0 or 1.
     fn fields_in_range(self) -> bool
-        ensures { result ≡ fieldsInRange (recordIn self) }
+        ensures { result ≡ fields_in_range (record_in self) }
     {
         let kind = self.kind;
         let first = self.first;
@@ -207,7 +207,7 @@ impl Record {
     // Whether a record 2 has a PrA member, one that is not in PC: its commit is not closed before record 3. The definition does
     // not ask for the kind, so of others it goes by the fields that they have: a record 5 has one.
     pub fn awaits_acks(self) -> bool
-        ensures { result ≡ awaitsAcks (recordIn self) }
+        ensures { result ≡ awaits_acks (record_in self) }
     {
         let kind = self.kind;
         match kind {
@@ -220,7 +220,7 @@ impl Record {
     // Whether the record may stand behind the newest one of its transaction: by the table; a record 2 behind Init by their masks,
     // members a part of Init's and PC Init's among them; a record 3 behind a record 2 with a PrA member.
     fn follows(self, newest: Record) -> bool
-        ensures { result ≡ mayFollow (recordIn newest) (recordIn self) }
+        ensures { result ≡ may_follow (record_in newest) (record_in self) }
     {
         let before = newest.kind;
         let kind = self.kind;
@@ -242,7 +242,7 @@ impl Record {
 
     // The record as one of a site, behind the newest one of its transaction: 23, 27, 28 and 24 in this order.
     pub(crate) fn judged(self, site: u8, newest: Record) -> RecordAnswer
-        ensures { result ≡ answerOn site (bytes_of (recordIn self)) (recordIn newest) self }
+        ensures { result ≡ answer_on site (bytes_of (record_in self)) (record_in newest) self }
     {
         let kind = self.kind;
         let transaction = self.transaction;

@@ -4,9 +4,9 @@ ghost use mathlib.Core.List.{[], ◌∷◌, ◌++◌, flatten};
 ghost use lib.ListN.{length};
 ghost use Rattle.codec.specs.Lists.{first};
 ghost use Rattle.codec.specs.Records.{bytes_of};
-ghost use Rattle.codec.specs.Image.{magic, headLength, word, pairTable, image, stored, logRefusals, writeImage, copyImage};
-ghost use Rattle.codec.specs.Answers.{recordIn, logIn, written};
-ghost use Rattle.codec.specs.Inside.{bytesIn};
+ghost use Rattle.codec.specs.Image.{magic, head_length, word, pair_table, image, stored, log_refusals, write_image, copy_image};
+ghost use Rattle.codec.specs.Answers.{record_in, log_in, written};
+ghost use Rattle.codec.specs.Inside.{bytes_in};
 
 use crate::log::Log;
 use crate::reader::read_image;
@@ -39,8 +39,8 @@ fn write_pair(offset: usize, length: usize, out: &mut [u8])
 
 // The pair table of the first `count` records.
 fn write_pairs(records: [Record; Log::COORDINATOR_MOST], count: usize, out: &mut [u8])
-    requires { (count ≤ 24) × (length (pairTable (headLength count) (bytesIn count records)) ≤ length out.old) }
-    ensures { out.new ≡ stored 0 (pairTable (headLength count) (bytesIn count records)) out.old }
+    requires { (count ≤ 24) × (length (pair_table (head_length count) (bytes_in count records)) ≤ length out.old) }
+    ensures { out.new ≡ stored 0 (pair_table (head_length count) (bytes_in count records)) out.old }
 {
     let mut offset = Log::FIXED + Log::PAIR * count;
     let mut i = 0;
@@ -56,8 +56,8 @@ fn write_pairs(records: [Record; Log::COORDINATOR_MOST], count: usize, out: &mut
 
 // One record, at the front of a part of a buffer.
 fn write_record(x: Record, out: &mut [u8])
-    requires { length (bytes_of (recordIn x)) ≤ length out.old }
-    ensures { out.new ≡ stored 0 (bytes_of (recordIn x)) out.old }
+    requires { length (bytes_of (record_in x)) ≤ length out.old }
+    ensures { out.new ≡ stored 0 (bytes_of (record_in x)) out.old }
 {
     let size = x.length();
     out[0] = x.kind;
@@ -72,8 +72,8 @@ fn write_record(x: Record, out: &mut [u8])
 
 // The records, without gaps.
 fn write_records(records: [Record; Log::COORDINATOR_MOST], count: usize, out: &mut [u8])
-    requires { (count ≤ 24) × (length (flatten (bytesIn count records)) ≤ length out.old) }
-    ensures { out.new ≡ stored 0 (flatten (bytesIn count records)) out.old }
+    requires { (count ≤ 24) × (length (flatten (bytes_in count records)) ≤ length out.old) }
+    ensures { out.new ≡ stored 0 (flatten (bytes_in count records)) out.old }
 {
     let mut at: usize = 0;
     let mut i = 0;
@@ -88,7 +88,7 @@ fn write_records(records: [Record; Log::COORDINATOR_MOST], count: usize, out: &m
 // The length of the image of the first `count` records.
 fn size_of(records: [Record; Log::COORDINATOR_MOST], count: usize) -> usize
     requires { count ≤ 24 }
-    ensures { result ≡ headLength count + length (flatten (bytesIn count records)) }
+    ensures { result ≡ head_length count + length (flatten (bytes_in count records)) }
 {
     let mut size = Log::FIXED + Log::PAIR * count;
     let mut i = 0;
@@ -102,8 +102,8 @@ fn size_of(records: [Record; Log::COORDINATOR_MOST], count: usize) -> usize
 
 // The image, at the front of a part of a buffer.
 fn write_front(log: Log, out: &mut [u8])
-    requires { (log.count ≤ 24) × (length (image log.site (logIn log)) ≤ length out.old) }
-    ensures { out.new ≡ stored 0 (image log.site (logIn log)) out.old }
+    requires { (log.count ≤ 24) × (length (image log.site (log_in log)) ≤ length out.old) }
+    ensures { out.new ≡ stored 0 (image log.site (log_in log)) out.old }
 {
     let site = log.site;
     let count = log.count;
@@ -116,8 +116,8 @@ fn write_front(log: Log, out: &mut [u8])
 
 // The image of a log that is not refused, from `at` on, where there is room: 0 or 25.
 fn place(log: Log, buffer: &mut [u8], at: usize) -> u8
-    requires { first (logRefusals log.site (logIn log)) ≡ 0 }
-    ensures { written result buffer.new ≡ writeImage log.site (logIn log) at buffer.old }
+    requires { first (log_refusals log.site (log_in log)) ≡ 0 }
+    ensures { written result buffer.new ≡ write_image log.site (log_in log) at buffer.old }
 {
     let records = log.records;
     let size = size_of(records, log.count);
@@ -133,7 +133,7 @@ fn place(log: Log, buffer: &mut [u8], at: usize) -> u8
 
 // Writes the log's image from `at` on: 0, or 21, 23, 27, 28, 24, 25 and the buffer as it was.
 pub fn write_image(log: Log, buffer: &mut [u8], at: usize) -> u8
-    ensures { written result buffer.new ≡ writeImage log.site (logIn log) at buffer.old }
+    ensures { written result buffer.new ≡ write_image log.site (log_in log) at buffer.old }
 {
     let refusal = log.refusal();
     if refusal != 0 {
@@ -146,7 +146,7 @@ pub fn write_image(log: Log, buffer: &mut [u8], at: usize) -> u8
 // No log that the reader gives is refused, so it is not checked again.
 #[unsafe(no_mangle)]
 pub extern "C" fn dpr_image_copy(image: &[u8], buffer: &mut [u8], offset: usize) -> u8
-    ensures { written result buffer.new ≡ copyImage image.now offset buffer.old }
+    ensures { written result buffer.new ≡ copy_image image.now offset buffer.old }
 {
     let read = read_image(image);
     let answer = read.answer;

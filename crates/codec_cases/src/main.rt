@@ -1,9 +1,9 @@
 // The examples of document 01's refusal table for images, buffers and message numbers with the numbers of 02's Jobs 1 and 3, and K10's
 // image, run and proved.
 ghost use Rattle.std.specs.Prelude.{◌≡◌, ◌+◌, ◌*◌, replicate};
-ghost use Rattle.codec.specs.Image.{checkImage, writeImage};
-ghost use Rattle.codec.specs.Messages.{messageParts, partsWritten};
-ghost use Rattle.codec.specs.Answers.{logIn, written};
+ghost use Rattle.codec.specs.Image.{check_image, write_image};
+ghost use Rattle.codec.specs.Messages.{message_parts, parts_written};
+ghost use Rattle.codec.specs.Answers.{log_in, written};
 
 use codec::log::Log;
 use codec::message::dpr_message_parts;
@@ -13,7 +13,7 @@ use codec::writer::{dpr_image_copy, write_image};
 
 // Reads an image, whose number and index are these.
 fn reads(image: &[u8], number: u8, index: u8)
-    requires { checkImage image.now ≡ number + 256 * index }
+    requires { check_image image.now ≡ number + 256 * index }
 {
     check::expect(dpr_image_check(image) == (number as u16) + 256 * (index as u16));
 }
@@ -123,7 +123,7 @@ fn buffers() {
 
 // Writes a log, which this number refuses.
 fn refuses(log: Log, number: u8)
-    requires { (writeImage log.site (logIn log) 0 (replicate 40 0xEE)).answer ≡ number }
+    requires { (write_image log.site (log_in log) 0 (replicate 40 0xEE)).answer ≡ number }
 {
     let mut buffer = [0xEEu8; 40];
     check::expect(write_image(log, &mut buffer, 0) == number);
@@ -172,7 +172,7 @@ fn logs() {
 
 // Turns a message number back: the answer, and the three lent bytes then.
 fn message(number: u16, answer: u8, parts: &[u8])
-    requires { partsWritten (messageParts number) (replicate 3 0xEE) ≡ written answer parts.now }
+    requires { parts_written (message_parts number) (replicate 3 0xEE) ≡ written answer parts.now }
 {
     let mut lent = [0xEEu8; 3];
     check::expect(dpr_message_parts(number, &mut lent) == answer);

@@ -16,13 +16,13 @@ use Rattle.joint.specs.State.{Run, fresh}
 use Rattle.joint.specs.Run.{Answer, after, answers}
 use Rattle.codec.specs.Sets.{participants}
 use Rattle.joint.specs.Totals.{Totals, totals}
-use Rattle.joint.specs.Drill.{eventsIn, answerBytes, Replayed, replayed, decimal, line, eventLines, totalsLine, drill, textInto}
-use Rattle.drill_text.specs.Inside.{answersIn, lines_of, openedIn, transactionLines, sites, siteLines, text_of}
-use Rattle.joint.specs.Answers.{runIn, totalsIn, replayIn}
+use Rattle.joint.specs.Drill.{events_in, answer_bytes, Replayed, replayed, decimal, line, event_lines, totals_line, drill, text_into}
+use Rattle.drill_text.specs.Inside.{answers_in, lines_of, opened_in, transaction_lines, sites, site_lines, text_of}
+use Rattle.joint.specs.Answers.{run_in, totals_in, replay_in}
 use Rattle.joint.specs.declared.replay.Ran.{Ran}
-use Rattle.codec.specs.laws.Stored.{length-stored, Left, left-front, left_end, next_last, left-next, left-put}
-use Rattle.drill_text.proofs.Texts.{text-length}
-use Rattle.joint.specs.laws.Events.{take-most, length-answers, bytes_of, bytesTold, length-told, eventsFor, events-count}
+use Rattle.codec.specs.Laws.Stored.{length-stored, Left, left_front, left_end, next_last, left_next, left_put}
+use Rattle.drill_text.proofs.Texts.{text_length}
+use Rattle.joint.specs.Laws.Events.{take-most, length-answers, bytes_of, bytes_told, length_told, events_for, events_count}
 
 -- ---- how long a line is
 
@@ -31,52 +31,52 @@ abbrev Digits : ℕ → ℕ → Type 0
 Digits zero n = n < 10
 Digits (suc j) n = Digits j (n / 10)
 
-digit-size : (j n : ℕ) (b : Bool) (front : List ℕ) → (b ≡ false → length front ≤ j)
+digit_size : (j n : ℕ) (b : Bool) (front : List ℕ) → (b ≡ false → length front ≤ j)
     → length {A = ℕ} (elim b [ true ↦ (48 + n) ∷ [] | false ↦ front ++ ((48 + n % 10) ∷ []) ]) ≤ suc j
-digit-size j n true front h = omega arith
-digit-size j n false front h = simp length-append (omega (arith, h refl))
+digit_size j n true front h = omega arith
+digit_size j n false front h = simp length-append (omega (arith, h refl))
 
 decimal-size : (j k n : ℕ) → Digits j n → length (decimal k n) ≤ suc j
 unfolding decimal
 decimal-size j zero n h = omega arith
-decimal-size zero (suc k) n h = digit-size 0 n (ltb n 10) (decimal k (n / 10)) (λ e. absurd (omega (arith, ltb-false n 10 e)))
-decimal-size (suc j) (suc k) n h = digit-size (suc j) n (ltb n 10) (decimal k (n / 10)) (λ e. decimal-size j k (n / 10) h)
+decimal-size zero (suc k) n h = digit_size 0 n (ltb n 10) (decimal k (n / 10)) (λ e. absurd (omega (arith, ltb-false n 10 e)))
+decimal-size (suc j) (suc k) n h = digit_size (suc j) n (ltb n 10) (decimal k (n / 10)) (λ e. decimal-size j k (n / 10) h)
 
-byte-size : (n : ℕ) → n < 256 → length (decimal 5 n) ≤ 3
-byte-size n h = decimal-size 2 5 n (omega arith)
+byte_size : (n : ℕ) → n < 256 → length (decimal 5 n) ≤ 3
+byte_size n h = decimal-size 2 5 n (omega arith)
 
 line-size : (n : ℕ) (a : Answer) → n ≤ 10000 → a.number < 256 → a.records < 256 → a.forces < 256 → a.sends < 256
     → length (line 5 (n ∷ a.number ∷ a.records ∷ a.forces ∷ a.sends ∷ [])) ≤ 22
 unfolding line
 line-size n a h p q r s =
     simp length-append
-    (omega (arith, decimal-size 4 5 n (omega arith), byte-size a.number p, byte-size a.records q, byte-size a.forces r, byte-size a.sends s))
+    (omega (arith, decimal-size 4 5 n (omega arith), byte_size a.number p, byte_size a.records q, byte_size a.forces r, byte_size a.sends s))
 
 -- a number of any size
-decimal-short : (k n : ℕ) → length (decimal k n) ≤ suc k
+decimal_short : (k n : ℕ) → length (decimal k n) ≤ suc k
 unfolding decimal
-decimal-short zero n = omega arith
-decimal-short (suc k) n = digit-size (suc k) n (ltb n 10) (decimal k (n / 10)) (λ e. decimal-short k (n / 10))
+decimal_short zero n = omega arith
+decimal_short (suc k) n = digit_size (suc k) n (ltb n 10) (decimal k (n / 10)) (λ e. decimal_short k (n / 10))
 
 -- the line of a site, and the lines of some sites
-totals-short : (x : Totals) → length (totalsLine x) ≤ 84
-unfolding totalsLine line
-totals-short x =
+totals_short : (x : Totals) → length (totals_line x) ≤ 84
+unfolding totals_line line
+totals_short x =
     simp length-append
-    (omega (arith, decimal-short 19 x.forces, decimal-short 19 x.handovers, decimal-short 19 x.quotient, decimal-short 19 x.remainder))
+    (omega (arith, decimal_short 19 x.forces, decimal_short 19 x.handovers, decimal_short 19 x.quotient, decimal_short 19 x.remainder))
 
-sites-short : (f : ℕ → Totals) (ss : List ℕ) → length (siteLines f ss) ≤ 84 * length ss
+sites_short : (f : ℕ → Totals) (ss : List ℕ) → length (site_lines f ss) ≤ 84 * length ss
 unfolding flatten
-sites-short f [] = omega arith
-sites-short f (s ∷ ss) = simp length-append (omega (arith, totals-short (f s), sites-short f ss))
+sites_short f [] = omega arith
+sites_short f (s ∷ ss) = simp length-append (omega (arith, totals_short (f s), sites_short f ss))
 
-pub sites-most : (f : ℕ → Totals) → length (siteLines f sites) ≤ 756
+pub sites-most : (f : ℕ → Totals) → length (site_lines f sites) ≤ 756
 unfolding participants
-sites-most f = sites-short f sites
+sites-most f = sites_short f sites
 
 -- the lines of n answers, numbered from m on
-lines-size : (m n : ℕ) (bytes : List ℕ) → m + n ≤ 10001 → ((i : ℕ) → get_or bytes i 0 < 256) → length (eventLines m (answersIn n bytes)) ≤ 22 * n
-unfolding answersIn eventLines
+lines-size : (m n : ℕ) (bytes : List ℕ) → m + n ≤ 10001 → ((i : ℕ) → get_or bytes i 0 < 256) → length (event_lines m (answers_in n bytes)) ≤ 22 * n
+unfolding answers_in event_lines
 lines-size m zero bytes h small = omega arith
 lines-size m (suc n) bytes h small =
     simp length-append
@@ -92,49 +92,49 @@ lines-size m (suc n) bytes h small =
 pub record Sized (count : ℕ) (bytes : List ℕ) (r : Run) (f : ℕ → Totals) (opened last : ℕ) : Type 0 where
   pub few : count ≤ 10000
   pub small : (i : ℕ) → get_or bytes i 0 < 256
-  pub opened-are : opened ≡ length (openedIn r)
+  pub opened_are : opened ≡ length (opened_in r)
   pub opened-few : opened ≤ 8
-  pub last-are : last ≡ length (siteLines f sites)
+  pub last_are : last ≡ length (site_lines f sites)
 
 module _ {count : ℕ} {bytes : List ℕ} {r : Run} {f : ℕ → Totals} {opened last : ℕ} (z : Sized count bytes r f opened last) where
   abbrev text : List ℕ
   text = text_of count bytes r f
 
-  text-size : length text ≡ length (lines_of count bytes) + 21 * opened + last
-  text-size = simp length-append (omega (arith, text-length r (openedIn r), z.opened-are, z.last-are))
+  text_size : length text ≡ length (lines_of count bytes) + 21 * opened + last
+  text_size = simp length-append (omega (arith, text_length r (opened_in r), z.opened_are, z.last_are))
 
-  pub last-short : last ≤ 756
-  last-short = omega (arith, z.last-are, sites-most f)
+  pub last_short : last ≤ 756
+  last_short = omega (arith, z.last_are, sites-most f)
 
-  pub lines-short : length (lines_of count bytes) ≤ 22 * count
-  lines-short = lines-size 1 count bytes (omega (arith, z.few)) z.small
+  pub lines_short : length (lines_of count bytes) ≤ 22 * count
+  lines_short = lines-size 1 count bytes (omega (arith, z.few)) z.small
 
-  pub text-short : length text ≤ 220924
-  text-short = omega (arith, text-size, lines-short, last-short, z.few, z.opened-few)
+  pub text_short : length text ≤ 220924
+  text_short = omega (arith, text_size, lines_short, last_short, z.few, z.opened-few)
 
   module _ (lines : ℕ) (e : lines ≡ length (lines_of count bytes)) (buffer : List ℕ) where
-    pub text-none : length buffer < lines + 21 * opened + last → written 0 buffer ≡ textInto text buffer
-    unfolding textInto
-    text-none h =
-        let short : leb (length text) (length buffer) ≡ false = lt-leb (length text) (length buffer) (omega (arith, text-size)) in
+    pub text_none : length buffer < lines + 21 * opened + last → written 0 buffer ≡ text_into text buffer
+    unfolding text_into
+    text_none h =
+        let short : leb (length text) (length buffer) ≡ false = lt-leb (length text) (length buffer) (omega (arith, text_size)) in
         rw short
 
     -- the lines of the answers, those of the transactions in the part behind them, and those of the sites
     module _ (lined part : List ℕ) (h : lines + 21 * opened + last ≤ length buffer) (p : lined ≡ stored 0 (lines_of count bytes) buffer)
-        (q : part ≡ stored 0 (transactionLines r) (mid_of lines (length lined - lines) lined)) where
-      pub text-last : Left 0 text buffer (lines + 21 * opened) (siteLines f sites) (put_mid lines (length lined - lines) lined part)
-      text-last =
-          let start : Left 0 text buffer 0 text buffer = left-front (omega (arith, text-size)) in
-          let behind : Left 0 text buffer lines (transactionLines r ++ siteLines f sites) lined = left-next start (record { split = refl }) lines (e ∙ sym (zero-add (length (lines_of count bytes)))) lined p in
-          left-put behind (record { split = refl }) (lines + 21 * opened) (omega (arith, text-length r (openedIn r), z.opened-are)) part q
+        (q : part ≡ stored 0 (transaction_lines r) (mid_of lines (length lined - lines) lined)) where
+      pub text_last : Left 0 text buffer (lines + 21 * opened) (site_lines f sites) (put_mid lines (length lined - lines) lined part)
+      text_last =
+          let start : Left 0 text buffer 0 text buffer = left_front (omega (arith, text_size)) in
+          let behind : Left 0 text buffer lines (transaction_lines r ++ site_lines f sites) lined = left_next start (record { split = refl }) lines (e ∙ sym (zero-add (length (lines_of count bytes)))) lined p in
+          left_put behind (record { split = refl }) (lines + 21 * opened) (omega (arith, text_length r (opened_in r), z.opened_are)) part q
 
-      pub text-all : (all : List ℕ) → all ≡ stored (lines + 21 * opened) (siteLines f sites) (put_mid lines (length lined - lines) lined part)
-          → written (lines + 21 * opened + last) all ≡ textInto text buffer
-      unfolding textInto
-      text-all all s =
-          let fits : leb (length text) (length buffer) ≡ true = le-leb (length text) (length buffer) (omega (arith, text-size)) in
-          let whole : all ≡ stored 0 text buffer = left_end (left-next text-last next_last (lines + 21 * opened + last) (omega (arith, z.last-are)) all s) refl in
-          rw (fits, whole, text-size, e)
+      pub text_all : (all : List ℕ) → all ≡ stored (lines + 21 * opened) (site_lines f sites) (put_mid lines (length lined - lines) lined part)
+          → written (lines + 21 * opened + last) all ≡ text_into text buffer
+      unfolding text_into
+      text_all all s =
+          let fits : leb (length text) (length buffer) ≡ true = le-leb (length text) (length buffer) (omega (arith, text_size)) in
+          let whole : all ≡ stored 0 text buffer = left_end (left_next text_last next_last (lines + 21 * opened + last) (omega (arith, z.last_are)) all s) refl in
+          rw (fits, whole, text_size, e)
 
 -- what was stored at the front
 pub front_of : (x buffer : List ℕ) (n : ℕ) → n ≡ length x → take n (stored 0 x buffer) ≡ x
@@ -144,10 +144,10 @@ front_of x buffer n e = take_at x (drop (0 + length x) buffer) n (sym e)
 -- ---- answers
 
 -- what an answer's four bytes stand for
-pub answers-back : (l : List Answer) (rest : List ℕ) → answersIn (length l) (bytes_of l ++ rest) ≡ l
-unfolding answersIn answerBytes flatten
-answers-back [] rest = refl
-answers-back (a ∷ l) rest = ap (λ (m : List Answer). a ∷ m) (answers-back l rest)
+pub answers_back : (l : List Answer) (rest : List ℕ) → answers_in (length l) (bytes_of l ++ rest) ≡ l
+unfolding answers_in answer_bytes flatten
+answers_back [] rest = refl
+answers_back (a ∷ l) rest = ap (λ (m : List Answer). a ∷ m) (answers_back l rest)
 
 -- ---- the drill
 
@@ -159,21 +159,21 @@ pub record Answered (input : List ℕ) (count : ℕ) (r : Run) (f : ℕ → Tota
 
 -- the buffer is long enough
 pub answered : (input start buffer : List ℕ) (len : ℕ) (x : Ran) → len ≡ min 60000 (length input) → length start ≡ 40000
-    → replayIn x buffer ≡ replayed (take len input) start → Answered input x.count (runIn x.run) (totalsIn x.run) buffer
-unfolding replayIn replayed eventsIn drill stored
+    → replay_in x buffer ≡ replayed (take len input) start → Answered input x.count (run_in x.run) (totals_in x.run) buffer
+unfolding replay_in replayed events_in drill stored
 answered input start buffer len x h k e =
-    let es = eventsIn input in
+    let es = events_in input in
     let first : take len input ≡ take 60000 input = rw h (take-most 60000 input) in
-    let most : eventsFor (take 60000 input) ≤ 10000 = omega (arith, length-take 60000 input) in
-    let count : length es ≡ eventsFor (take 60000 input) = events-count (take 60000 input) in
-    let size : length (bytesTold es) ≡ 4 * length es = length-told es in
-    let fits : leb (length (bytesTold es)) (length start) ≡ true = le-leb (length (bytesTold es)) (length start) (omega arith) in
-    let all : replayIn x buffer ≡ record { count = length es; run = after fresh es; totals = totals es; buffer = stored 0 (bytesTold es) start } = rw (first, fits) at e in
+    let most : events_for (take 60000 input) ≤ 10000 = omega (arith, length-take 60000 input) in
+    let count : length es ≡ events_for (take 60000 input) = events_count (take 60000 input) in
+    let size : length (bytes_told es) ≡ 4 * length es = length_told es in
+    let fits : leb (length (bytes_told es)) (length start) ≡ true = le-leb (length (bytes_told es)) (length start) (omega arith) in
+    let all : replay_in x buffer ≡ record { count = length es; run = after fresh es; totals = totals es; buffer = stored 0 (bytes_told es) start } = rw (first, fits) at e in
     let n : x.count ≡ length es = ap (λ (y : Replayed). y.count) all in
-    let held : buffer ≡ stored 0 (bytesTold es) start = ap (λ (y : Replayed). y.buffer) all in
-    let back : answersIn (length es) (stored 0 (bytesTold es) start) ≡ answers fresh es = rw (← length-answers fresh es) (answers-back (answers fresh es) (drop (0 + length (bytesTold es)) start)) in
+    let held : buffer ≡ stored 0 (bytes_told es) start = ap (λ (y : Replayed). y.buffer) all in
+    let back : answers_in (length es) (stored 0 (bytes_told es) start) ≡ answers fresh es = rw (← length-answers fresh es) (answers_back (answers fresh es) (drop (0 + length (bytes_told es)) start)) in
     record {
       few = omega arith;
-      room = rw held (omega (arith, length-stored 0 (bytesTold es) start (omega arith)));
+      room = rw held (omega (arith, length-stored 0 (bytes_told es) start (omega arith)));
       text = rw (n, held, ap (λ (y : Replayed). y.run) all, ap (λ (y : Replayed). y.totals) all, back);
     }

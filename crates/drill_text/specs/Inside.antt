@@ -7,7 +7,7 @@ use Rattle.joint.specs.State.{Run, opened}
 use Rattle.joint.specs.Plan.{transactions}
 use Rattle.joint.specs.Run.{Answer}
 use Rattle.joint.specs.Totals.{Totals}
-use Rattle.joint.specs.Drill.{line, eventLines, entryLetter, transactionLine, totalsLine}
+use Rattle.joint.specs.Drill.{line, event_lines, entry_letter, transaction_line, totals_line}
 use Rattle.drill_text.specs.declared.text.LastFour.{LastFour}
 
 -- the tens and the ones of a number, as characters
@@ -24,13 +24,13 @@ pub record Shows (d : LastFour) (n : ℕ) : Type 0 where
   pub value : 1000 * d.thousands + 100 * d.hundreds + 10 * d.tens + d.ones ≡ 48 * 1111 + n % 10000
 
 -- n answers of four bytes each
-unfoldable pub answersIn : ℕ → List ℕ → List Answer
-answersIn zero bytes = []
-answersIn (suc n) bytes =
-    record { number = get_or bytes 0 0; records = get_or bytes 1 0; forces = get_or bytes 2 0; sends = get_or bytes 3 0 } ∷ answersIn n (drop 4 bytes)
+unfoldable pub answers_in : ℕ → List ℕ → List Answer
+answers_in zero bytes = []
+answers_in (suc n) bytes =
+    record { number = get_or bytes 0 0; records = get_or bytes 1 0; forces = get_or bytes 2 0; sends = get_or bytes 3 0 } ∷ answers_in n (drop 4 bytes)
 
 abbrev pub lines_of : ℕ → List ℕ → List ℕ
-lines_of n bytes = eventLines 1 (answersIn n bytes)
+lines_of n bytes = event_lines 1 (answers_in n bytes)
 
 -- the line of event n, whose answer stands from `at` on
 abbrev pub line_at : ℕ → List ℕ → ℕ → List ℕ
@@ -39,22 +39,22 @@ line_at n bytes at =
 
 -- a letter for each site
 unfoldable pub letters : Run → ℕ → List ℕ
-letters r t = map (entryLetter (r.transaction t)) (0 ∷ participants)
+letters r t = map (entry_letter (r.transaction t)) (0 ∷ participants)
 
 -- the opened transactions, and their lines
-abbrev pub openedIn : Run → List ℕ
-openedIn r = select (opened r) transactions
+abbrev pub opened_in : Run → List ℕ
+opened_in r = select (opened r) transactions
 
-abbrev pub transactionLines : Run → List ℕ
-transactionLines r = flatten (map (transactionLine r) (openedIn r))
+abbrev pub transaction_lines : Run → List ℕ
+transaction_lines r = flatten (map (transaction_line r) (opened_in r))
 
 -- the sites, and their lines
 abbrev pub sites : List ℕ
 sites = 0 ∷ participants
 
-abbrev pub siteLines : (ℕ → Totals) → List ℕ → List ℕ
-siteLines f ss = flatten (map (λ s. totalsLine (f s)) ss)
+abbrev pub site_lines : (ℕ → Totals) → List ℕ → List ℕ
+site_lines f ss = flatten (map (λ s. totals_line (f s)) ss)
 
 -- the lines of n answers, of a run's opened transactions, and of the sites
 abbrev pub text_of : ℕ → List ℕ → Run → (ℕ → Totals) → List ℕ
-text_of n bytes r f = lines_of n bytes ++ (transactionLines r ++ siteLines f sites)
+text_of n bytes r f = lines_of n bytes ++ (transaction_lines r ++ site_lines f sites)

@@ -2,9 +2,9 @@
 ghost use Rattle.std.specs.Prelude.{◌≡◌, [], ◌∷◌, ◌++◌, ℕ, ◌+◌, ◌*◌, ◌<◌, ◌≤◌, length};
 ghost use Rattle.codec.specs.Image.{stored};
 ghost use Rattle.joint.specs.Drill as drill;
-ghost use Rattle.joint.specs.Drill.{decimal, line, entryLetter, transactionLine};
-ghost use Rattle.joint.specs.Answers.{runIn};
-ghost use Rattle.drill_text.specs.Inside.{two, Shows, line_at, lines_of, letters, openedIn, transactionLines};
+ghost use Rattle.joint.specs.Drill.{decimal, line, entry_letter, transaction_line};
+ghost use Rattle.joint.specs.Answers.{run_in};
+ghost use Rattle.drill_text.specs.Inside.{two, Shows, line_at, lines_of, letters, opened_in, transaction_lines};
 
 use codec::message::Parts;
 use joint::run::Run;
@@ -260,7 +260,7 @@ fn letter(commit: bool, abort: bool) -> u8
 }
 
 fn entry_letter(run: Run, transaction: u8, site: u8) -> u8
-    ensures { result ≡ entryLetter ((runIn run).transaction transaction) site }
+    ensures { result ≡ entry_letter ((run_in run).transaction transaction) site }
 {
     let commit = run.entered(transaction, site, Outcome::Commit);
     let abort = run.entered(transaction, site, Outcome::Abort);
@@ -270,7 +270,7 @@ fn entry_letter(run: Run, transaction: u8, site: u8) -> u8
 // A letter for each site.
 fn write_letters(run: Run, transaction: u8, out: &mut [u8], at: usize)
     requires { at + 9 ≤ length out.old }
-    ensures { out.new ≡ stored at (letters (runIn run) transaction) out.old }
+    ensures { out.new ≡ stored at (letters (run_in run) transaction) out.old }
 {
     let mut site: u8 = 0;
     while site <= Run::LAST_SITE {
@@ -281,7 +281,7 @@ fn write_letters(run: Run, transaction: u8, out: &mut [u8], at: usize)
 
 fn write_transaction(run: Run, transaction: u8, out: &mut [u8], at: usize)
     requires { (transaction < 8) × (at + 21 ≤ length out.old) }
-    ensures { out.new ≡ stored at (transactionLine (runIn run) transaction) out.old }
+    ensures { out.new ≡ stored at (transaction_line (run_in run) transaction) out.old }
 {
     let mut head = *b"HANDOVER 0 ";
     head[9] += transaction;
@@ -291,7 +291,7 @@ fn write_transaction(run: Run, transaction: u8, out: &mut [u8], at: usize)
 }
 
 pub fn opened_count(run: Run) -> usize
-    ensures { (result ≡ length (openedIn (runIn run))) × (result ≤ 8) }
+    ensures { (result ≡ length (opened_in (run_in run))) × (result ≤ 8) }
 {
     let mut count: usize = 0;
     let mut i: u8 = 0;
@@ -306,8 +306,8 @@ pub fn opened_count(run: Run) -> usize
 
 // The lines of the opened transactions, 21 bytes each.
 pub(crate) fn write_transactions(run: Run, out: &mut [u8])
-    requires { 21 * length (openedIn (runIn run)) ≤ length out.old }
-    ensures { out.new ≡ stored 0 (transactionLines (runIn run)) out.old }
+    requires { 21 * length (opened_in (run_in run)) ≤ length out.old }
+    ensures { out.new ≡ stored 0 (transaction_lines (run_in run)) out.old }
 {
     let mut at: usize = 0;
     let mut i: u8 = 0;

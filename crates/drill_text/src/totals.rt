@@ -1,9 +1,9 @@
 // The last lines of a drill, as bytes: those of the sites, with numbers of 64 bits.
 ghost use Rattle.std.specs.Prelude.{◌≡◌, [], ◌∷◌, ◌++◌, ◌+◌, ◌≤◌, length, drop};
 ghost use Rattle.codec.specs.Image.{stored};
-ghost use Rattle.joint.specs.Drill.{decimal, totalsLine};
-ghost use Rattle.joint.specs.Answers.{totalsIn, totalsSeen};
-ghost use Rattle.drill_text.specs.Inside.{sites, siteLines};
+ghost use Rattle.joint.specs.Drill.{decimal, totals_line};
+ghost use Rattle.joint.specs.Answers.{totals_in, totals_seen};
+ghost use Rattle.drill_text.specs.Inside.{sites, site_lines};
 
 use crate::text::write_bytes;
 use joint::run::Run;
@@ -49,8 +49,8 @@ fn write_total(n: u64, end: u8, out: &mut [u8], at: usize) -> usize
 
 // The line of a site: four numbers.
 fn write_totals(x: Totals, out: &mut [u8], at: usize) -> usize
-    requires { at + length (totalsLine (totalsSeen x)) ≤ length out.old }
-    ensures { (result ≡ at + length (totalsLine (totalsSeen x))) × (out.new ≡ stored at (totalsLine (totalsSeen x)) out.old) }
+    requires { at + length (totals_line (totals_seen x)) ≤ length out.old }
+    ensures { (result ≡ at + length (totals_line (totals_seen x))) × (out.new ≡ stored at (totals_line (totals_seen x)) out.old) }
 {
     let numbers = [x.forces, x.handovers, x.quotient, x.remainder];
     let mut at = at;
@@ -66,7 +66,7 @@ fn write_totals(x: Totals, out: &mut [u8], at: usize) -> usize
 // The lines of the sites, at most 84 bytes each.
 pub(crate) fn write_sites(run: Run, out: &mut [u8]) -> usize
     requires { 756 ≤ length out.old }
-    ensures { (result ≡ length (siteLines (totalsIn run) sites)) × (out.new ≡ stored 0 (siteLines (totalsIn run) sites) out.old) }
+    ensures { (result ≡ length (site_lines (totals_in run) sites)) × (out.new ≡ stored 0 (site_lines (totals_in run) sites) out.old) }
 {
     let mut at: usize = 0;
     let mut site: u8 = 0;

@@ -8,13 +8,13 @@ use mathlib.Core.Bool.{cond}
 use mathlib.Core.List.{List, [], ◌∷◌, ◌++◌, map, flatten}
 use lib.ListN.{replicate}
 use lib.Dec.{leb}
-use Rattle.site.specs.Numbers.{coordinatorPhase, waitingSet, participantPhase}
+use Rattle.site.specs.Numbers.{coordinator_phase, waiting_set, participant_phase}
 use Rattle.joint.specs.State.{Run, fresh}
-use Rattle.joint.specs.Run.{after, siteImage}
-use Rattle.joint.specs.Drill.{eventsIn, ascii, drill}
-use Rattle.codec.specs.Open.{codec-opens}
+use Rattle.joint.specs.Run.{after, site_image}
+use Rattle.joint.specs.Drill.{events_in, ascii, drill}
+use Rattle.codec.specs.Open.{codec_opens}
 use Rattle.site.specs.Open.{site-opens}
-use Rattle.joint.proofs.Open.{joint-opens}
+use Rattle.joint.proofs.Open.{joint_opens}
 
 -- ---- hexadecimal text as bytes; what stands below '0' in ASCII only separates
 
@@ -42,7 +42,7 @@ pub record Case : Type 0 where
   pub others : String
   pub transaction : ℕ
   pub phases : List ℕ
-  pub image-of-1 : String
+  pub image_of_1 : String
 
 pub cases : List Case
 cases =
@@ -54,7 +54,7 @@ cases =
       others = "0 0 0 0\n";
       transaction = 0;
       phases = 4 ∷ 0 ∷ 2 ∷ [];
-      image-of-1 = "44 50 52 4C 01 01 0A 00 03 00 05 00 01";
+      image_of_1 = "44 50 52 4C 01 01 0A 00 03 00 05 00 01";
     }
     -- K2: PC 00, and a last CommitAck
     ∷ record {
@@ -64,7 +64,7 @@ cases =
       others = "0 0 0 0\n";
       transaction = 0;
       phases = 4 ∷ 0 ∷ 2 ∷ [];
-      image-of-1 = "44 50 52 4C 01 02 0E 00 03 00 11 00 02 00 05 00 00 06 00";
+      image_of_1 = "44 50 52 4C 01 02 0E 00 03 00 11 00 02 00 05 00 00 06 00";
     }
     -- K3: after K2 deliver Yes: an Abort is sent, and the box ignores it. (Event 7: before that no Abort can be delivered.)
     ∷ record {
@@ -75,7 +75,7 @@ cases =
       others = "0 0 0 0\n";
       transaction = 0;
       phases = 4 ∷ 0 ∷ 2 ∷ [];
-      image-of-1 = "44 50 52 4C 01 02 0E 00 03 00 11 00 02 00 05 00 00 06 00";
+      image_of_1 = "44 50 52 4C 01 02 0E 00 03 00 11 00 02 00 05 00 00 06 00";
     }
     -- K4: K1's event 4 with cut 1, keep 0, then restart: hub enters abort
     ∷ record {
@@ -85,7 +85,7 @@ cases =
       others = "0 0 0 0\n";
       transaction = 0;
       phases = 3 ∷ 1 ∷ 1 ∷ [];
-      image-of-1 = "44 50 52 4C 01 01 0A 00 03 00 05 00 01";
+      image_of_1 = "44 50 52 4C 01 01 0A 00 03 00 05 00 01";
     }
     -- K5: with keep 1: hub enters commit, sends nothing; the box's Yes brings Commit. (Event 6: before that no Commit can be delivered.)
     ∷ record {
@@ -96,7 +96,7 @@ cases =
       others = "0 0 0 0\n";
       transaction = 0;
       phases = 4 ∷ 0 ∷ 2 ∷ [];
-      image-of-1 = "44 50 52 4C 01 01 0A 00 03 00 05 00 01";
+      image_of_1 = "44 50 52 4C 01 01 0A 00 03 00 05 00 01";
     }
     -- K6: cut 5 there answers 9, cut 4 is accepted
     ∷ record {
@@ -106,7 +106,7 @@ cases =
       others = "0 0 0 0\n";
       transaction = 0;
       phases = 4 ∷ 0 ∷ 1 ∷ [];
-      image-of-1 = "44 50 52 4C 01 01 0A 00 03 00 05 00 01";
+      image_of_1 = "44 50 52 4C 01 01 0A 00 03 00 05 00 01";
     }
     -- K7: after K1 discard at box 1 answers 8; after force, 0
     ∷ record {
@@ -117,7 +117,7 @@ cases =
       others = "0 0 0 0\n";
       transaction = 0;
       phases = 4 ∷ 0 ∷ 2 ∷ [];
-      image-of-1 = "44 50 52 4C 01 01 0A 00 02 00 06 00";
+      image_of_1 = "44 50 52 4C 01 01 0A 00 02 00 06 00";
     }
     -- K8: hub discards twice after K1, then 8
     ∷ record {
@@ -128,7 +128,7 @@ cases =
       others = "0 0 0 0\n";
       transaction = 0;
       phases = 4 ∷ 0 ∷ 2 ∷ [];
-      image-of-1 = "44 50 52 4C 01 01 0A 00 03 00 05 00 01";
+      image_of_1 = "44 50 52 4C 01 01 0A 00 03 00 05 00 01";
     }
     -- K9: handover 7 and members FF open; handover 8 or members 00 answer 1
     ∷ record {
@@ -138,7 +138,7 @@ cases =
       others = "0 1 0 0\n";
       transaction = 7;
       phases = 0 ∷ 0 ∷ 0 ∷ [];
-      image-of-1 = "44 50 52 4C 01 00";
+      image_of_1 = "44 50 52 4C 01 00";
     }
     -- K10: box 1's image after K1's event 3
     ∷ record {
@@ -148,26 +148,26 @@ cases =
       others = "0 0 0 0\n";
       transaction = 0;
       phases = 1 ∷ 1 ∷ 1 ∷ [];
-      image-of-1 = "44 50 52 4C 01 01 0A 00 03 00 05 00 01";
+      image_of_1 = "44 50 52 4C 01 01 0A 00 03 00 05 00 01";
     }
     ∷ []
 
 -- ---- the theorem
 
-phasesOf : Run → ℕ → List ℕ
-phasesOf r t =
+phases_of : Run → ℕ → List ℕ
+phases_of r t =
     let x = r.transaction t in
-    coordinatorPhase x.coordinator.phase ∷ waitingSet x.coordinator.phase ∷ participantPhase (x.participant 1) ∷ []
+    coordinator_phase x.coordinator.phase ∷ waiting_set x.coordinator.phase ∷ participant_phase (x.participant 1) ∷ []
 
 pub observed : Case → List (List ℕ)
 observed c =
-    let r = after fresh (eventsIn (hex c.input)) in
-    drill (hex c.input) ∷ phasesOf r c.transaction ∷ siteImage r 1 ∷ []
+    let r = after fresh (events_in (hex c.input)) in
+    drill (hex c.input) ∷ phases_of r c.transaction ∷ site_image r 1 ∷ []
 
 pub expected : Case → List (List ℕ)
 expected c =
-    (ascii c.output ++ ascii c.totals ++ flatten (replicate 7 (ascii c.others))) ∷ c.phases ∷ hex c.image-of-1 ∷ []
+    (ascii c.output ++ ascii c.totals ++ flatten (replicate 7 (ascii c.others))) ∷ c.phases ∷ hex c.image_of_1 ∷ []
 
-pub cases-hold : map observed cases ≡ map expected cases
-unfolding codec-opens site-opens joint-opens cases phasesOf observed expected
-cases-hold = refl
+pub cases_hold : map observed cases ≡ map expected cases
+unfolding codec_opens site-opens joint_opens cases phases_of observed expected
+cases_hold = refl

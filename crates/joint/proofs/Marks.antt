@@ -10,94 +10,94 @@ use native.Mathlib.Omega.{arith}
 use borrow.Author.Tests.{eq-eqb, eqb-true, not-false}
 use Rattle.codec.specs.Lists.{any, select, same, first}
 use Rattle.codec.specs.Sets.{member}
-use Rattle.codec.specs.Records.{LogRecord, membersIn, ofTransaction}
-use Rattle.codec.specs.laws.Tests.{true_of, of-true, every-at}
+use Rattle.codec.specs.Records.{LogRecord, members_in, of_transaction}
+use Rattle.codec.specs.Laws.Tests.{true_of, of_true, every_at}
 use Rattle.site.specs.Presumption.{commit}
-use Rattle.site.specs.Cohort.{Cohort, remaining, masksOf, writesInit}
-use Rattle.site.specs.Step.{voteYes, read_only, messageKind}
+use Rattle.site.specs.Cohort.{Cohort, remaining, masks_of, writes_init}
+use Rattle.site.specs.Step.{voteYes, read_only, message_kind}
 use Rattle.joint.specs.State.{Run, Site, fresh, opened, holds}
 use Rattle.joint.specs.Event.{delivery, Parsed}
 use Rattle.joint.specs.Refusals.{refusals}
 use Rattle.joint.specs.Plan.{Plan}
 use Rattle.joint.specs.Run.{Result, refuse, event, after}
-use Rattle.joint.specs.Safety.{Moment, history, steps, isEntry, isVote, isSending, Happens, accepts, isTakingOut, takenOut, marked, commitStable, Marks, EveryMark}
-use Rattle.joint.proofs.base.Booleans.{or-either, or_map, is_false}
-use Rattle.site.specs.laws.Lists.{select-append}
-use Rattle.joint.proofs.base.Lists.{Each, any-more, any-middle}
-use Rattle.joint.proofs.base.History.{Accepted, EventCase, refused, whole, cut, event-case, by-events, after-snoc, history-snoc}
-use Rattle.joint.proofs.base.Plans.{not-struck}
-use Rattle.joint.proofs.base.Moments.{placed, moment-cohort}
-use Rattle.joint.proofs.base.Recorded.{messages-happened}
-use Rattle.joint.proofs.base.Looked.{bytes-delivery, any_step, marks-happened}
-use Rattle.joint.proofs.view.View.{View, siteView, view}
-use Rattle.joint.proofs.safety.Tables.{Status, trail}
-use Rattle.joint.proofs.safety.Sets.{no_zero, has-member, member-remaining}
-use Rattle.joint.proofs.safety.Invariant.{Standing, out_of, hasDecided, stableAt, recordFor, sentIn, Mid, cohortOf}
-use Rattle.joint.proofs.safety.Kept.{decided-counted}
-use Rattle.joint.proofs.safety.Tracked.{seenAfter, small, tracked, record-decided, record-stands}
-use Rattle.joint.proofs.view.Cohorts.{event-leaves}
+use Rattle.joint.specs.Safety.{Moment, history, steps, is_entry, is_vote, is_sending, Happens, accepts, is_taking_out, taken_out, marked, commit_stable, Marks, EveryMark}
+use Rattle.joint.proofs.Base.Booleans.{or-either, or_map, is_false}
+use Rattle.site.specs.Laws.Lists.{select-append}
+use Rattle.joint.proofs.Base.Lists.{Each, any_more, any_middle}
+use Rattle.joint.proofs.Base.History.{Accepted, EventCase, refused, whole, cut, event_case, by_events, after_snoc, history_snoc}
+use Rattle.joint.proofs.Base.Plans.{not_struck}
+use Rattle.joint.proofs.Base.Moments.{placed, moment_cohort}
+use Rattle.joint.proofs.Base.Recorded.{messages-happened}
+use Rattle.joint.proofs.Base.Looked.{bytes_delivery, any_step, marks_happened}
+use Rattle.joint.proofs.View.View.{View, site_view, view}
+use Rattle.joint.proofs.Safety.Tables.{Status, trail}
+use Rattle.joint.proofs.Safety.Sets.{no_zero, has_member, member-remaining}
+use Rattle.joint.proofs.Safety.Invariant.{Standing, out_of, has_decided, stable_at, record_for, sent_in, Mid, cohort_of}
+use Rattle.joint.proofs.Safety.Kept.{decided-counted}
+use Rattle.joint.proofs.Safety.Tracked.{seen_after, small, tracked, record_decided, record_stands}
+use Rattle.joint.proofs.View.Cohorts.{event-leaves}
 use Rattle.joint.proofs.Demand3.{demand3}
 
 -- ---- a read-only vote that was delivered was sent
 
-module _ (r : Run) (e : List ℕ) (t p : ℕ) (bytes : same (take 4 e) (2 ∷ t ∷ p ∷ messageKind read_only ∷ []) ≡ true) where
-  vote-accepted : {x : Parsed} {q : Plan} → Accepted r e x q → T ((r.transaction t).sent p (messageKind read_only))
+module _ (r : Run) (e : List ℕ) (t p : ℕ) (bytes : same (take 4 e) (2 ∷ t ∷ p ∷ message_kind read_only ∷ []) ≡ true) where
+  vote_accepted : {x : Parsed} {q : Plan} → Accepted r e x q → T ((r.transaction t).sent p (message_kind read_only))
   unfolding refusals
-  vote-accepted {x} a =
-      let d = bytes-delivery e x a.parsed t p read_only bytes in
+  vote_accepted {x} a =
+      let d = bytes_delivery e x a.parsed t p read_only bytes in
       let b : first (refusals r (delivery t p read_only)) ≡ 0 = rw d.0 at a.passed in
-      let sent : (r.transaction t).sent p (messageKind read_only) ≡ true = not-false _ (not-struck 6 _ _ (not-struck 4 _ _ (not-struck 3 _ _ (not-struck 2 _ _ b).1).1).1).0 in
-      of-true sent
+      let sent : (r.transaction t).sent p (message_kind read_only) ≡ true = not-false _ (not_struck 6 _ _ (not_struck 4 _ _ (not_struck 3 _ _ (not_struck 2 _ _ b).1).1).1).0 in
+      of_true sent
 
-  vote-case : {z : Result} → EventCase r e z → eqb z.answer 0 ≡ true → T ((r.transaction t).sent p (messageKind read_only))
+  vote_case : {z : Result} → EventCase r e z → eqb z.answer 0 ≡ true → T ((r.transaction t).sent p (message_kind read_only))
   unfolding refuse
-  vote-case (refused n) h = absurd (omega (arith, eqb-true (suc n) 0 h))
-  vote-case (whole a c) h = vote-accepted a
-  vote-case (cut n j a c b) h = vote-accepted a
+  vote_case (refused n) h = absurd (omega (arith, eqb-true (suc n) 0 h))
+  vote_case (whole a c) h = vote_accepted a
+  vote_case (cut n j a c b) h = vote_accepted a
 
-vote-sent : (r : Run) (e : List ℕ) (t p : ℕ) → T (isTakingOut t p (r, e)) → T ((r.transaction t).sent p (messageKind read_only))
-unfolding isTakingOut accepts
-vote-sent r e t p k =
+vote_sent : (r : Run) (e : List ℕ) (t p : ℕ) → T (is_taking_out t p (r, e)) → T ((r.transaction t).sent p (message_kind read_only))
+unfolding is_taking_out accepts
+vote_sent r e t p k =
     let h = true_of _ k in
-    vote-case r e t p (every-at _ h 0) (event-case r e) (every-at _ h 1)
+    vote_case r e t p (every_at _ h 0) (event_case r e) (every_at _ h 1)
 
 -- a message that was sent stays sent
-sent-later : (es : List (List ℕ)) (e : List ℕ) (t p k : ℕ) → T (((after fresh es).transaction t).sent p k) → T (((after fresh (es ++ (e ∷ []))).transaction t).sent p k)
-sent-later es e t p k s =
-    subst T (sym (messages-happened (es ++ (e ∷ [])) t p k ∙ ap (any (isSending t p k)) (history-snoc fresh es e)))
-    (any-more (isSending t p k) (history fresh es) _ (subst T (messages-happened es t p k) s))
+sent_later : (es : List (List ℕ)) (e : List ℕ) (t p k : ℕ) → T (((after fresh es).transaction t).sent p k) → T (((after fresh (es ++ (e ∷ []))).transaction t).sent p k)
+sent_later es e t p k s =
+    subst T (sym (messages-happened (es ++ (e ∷ [])) t p k ∙ ap (any (is_sending t p k)) (history_snoc fresh es e)))
+    (any_more (is_sending t p k) (history fresh es) _ (subst T (messages-happened es t p k) s))
 
 -- whoever was taken out has sent a read-only vote
-pub taken-sent : (es : List (List ℕ)) (t p : ℕ) → T (takenOut es t p) → T (((after fresh es).transaction t).sent p (messageKind read_only))
-unfolding takenOut
+pub taken-sent : (es : List (List ℕ)) (t p : ℕ) → T (taken_out es t p) → T (((after fresh es).transaction t).sent p (message_kind read_only))
+unfolding taken_out
 taken-sent es t p =
-    by-events (λ es. T (any (isTakingOut t p) (steps fresh es)) → T (((after fresh es).transaction t).sent p (messageKind read_only)))
+    by_events (λ es. T (any (is_taking_out t p) (steps fresh es)) → T (((after fresh es).transaction t).sent p (message_kind read_only)))
     (λ k. absurd (unfold steps any in k))
     (λ es e h k.
-    sent-later es e t p (messageKind read_only)
-    (or-either (any (isTakingOut t p) (steps fresh es)) (isTakingOut t p (after fresh es, e)) h (vote-sent (after fresh es) e t p) (subst T (any_step (isTakingOut t p) es e) k))) es
+    sent_later es e t p (message_kind read_only)
+    (or-either (any (is_taking_out t p) (steps fresh es)) (is_taking_out t p (after fresh es, e)) h (vote_sent (after fresh es) e t p) (subst T (any_step (is_taking_out t p) es e) k))) es
 
-each-middle : (P : LogRecord → Type 0) (a : List LogRecord) (x : LogRecord) (b : List LogRecord) → Each P (a ++ (x ∷ b)) → P x
-each-middle P [] x b h = h.0
-each-middle P (y ∷ a) x b h = each-middle P a x b h.1
+each_middle : (P : LogRecord → Type 0) (a : List LogRecord) (x : LogRecord) (b : List LogRecord) → Each P (a ++ (x ∷ b)) → P x
+each_middle P [] x b h = h.0
+each_middle P (y ∷ a) x b h = each_middle P a x b h.1
 
 -- ---- marks and votes of a member
 
 -- a read-only vote is of one that is marked, a Yes of one that is not
-marked-looked : (s : Status) (k y r : Bool) → T (trail s k y r) → T r → T k
-marked-looked s true y r t u = tt
-marked-looked s false y true t u = t
-marked-looked s false y false t u = absurd u
+marked_looked : (s : Status) (k y r : Bool) → T (trail s k y r) → T r → T k
+marked_looked s true y r t u = tt
+marked_looked s false y true t u = t
+marked_looked s false y false t u = absurd u
 
-unmarked-yes : (s : Status) (k y r : Bool) → T (trail s k y r) → T y → k ≡ false
-unmarked-yes s true true true t u = absurd t
-unmarked-yes s true true false t u = absurd t
-unmarked-yes s true false r t u = absurd u
-unmarked-yes s false y r t u = refl
+unmarked_yes : (s : Status) (k y r : Bool) → T (trail s k y r) → T y → k ≡ false
+unmarked_yes s true true true t u = absurd t
+unmarked_yes s true true false t u = absurd t
+unmarked_yes s true false r t u = absurd u
+unmarked_yes s false y r t u = refl
 
 module _ (t : ℕ) (es : List (List ℕ)) where
   abbrev v : View
-  v = seenAfter t es
+  v = seen_after t es
 
   abbrev h : Standing
   h = (tracked t es).standing
@@ -105,112 +105,112 @@ module _ (t : ℕ) (es : List (List ℕ)) where
   abbrev mid : Mid t h v
   mid = (tracked t es).inv.mid
 
-  looked-marked : (n : ℕ) → T (member (suc n) (cohortOf v).members) → T (sentIn v (suc n) read_only) → T (marked es t (suc n))
+  looked_marked : (n : ℕ) → T (member (suc n) (cohort_of v).members) → T (sent_in v (suc n) read_only) → T (marked es t (suc n))
   unfolding view
-  looked-marked n m u =
-      subst T (marks-happened es t (suc n))
-      (marked-looked (mid.status n) (v.transaction.marked (suc n)) (sentIn v (suc n) voteYes) (sentIn v (suc n) read_only) (mid.fine n m).looked u)
+  looked_marked n m u =
+      subst T (marks_happened es t (suc n))
+      (marked_looked (mid.status n) (v.transaction.marked (suc n)) (sent_in v (suc n) voteYes) (sent_in v (suc n) read_only) (mid.fine n m).looked u)
 
-  yes-unmarked : (n : ℕ) → T (member (suc n) (cohortOf v).members) → T (sentIn v (suc n) voteYes) → marked es t (suc n) ≡ false
+  yes_unmarked : (n : ℕ) → T (member (suc n) (cohort_of v).members) → T (sent_in v (suc n) voteYes) → marked es t (suc n) ≡ false
   unfolding view
-  yes-unmarked n m u =
-      sym (marks-happened es t (suc n))
-      ∙ unmarked-yes (mid.status n) (v.transaction.marked (suc n)) (sentIn v (suc n) voteYes) (sentIn v (suc n) read_only) (mid.fine n m).looked u
+  yes_unmarked n m u =
+      sym (marks_happened es t (suc n))
+      ∙ unmarked_yes (mid.status n) (v.transaction.marked (suc n)) (sent_in v (suc n) voteYes) (sent_in v (suc n) read_only) (mid.fine n m).looked u
 
   -- ---- whom a record 2 names
 
   abbrev g : Cohort
-  g = cohortOf v
+  g = cohort_of v
 
   -- of a member that remained or was taken out
-  not-marked : T (hasDecided h commit) → (n : ℕ) → T (member (suc n) g.members) → (b : Bool) → member (suc n) (out_of h) ≡ b → not b ≡ not (marked es t (suc n))
-  not-marked d n m true e = ap not (sym (true_of (marked es t (suc n)) (looked-marked n m (mid.votes.looked n (of-true e)))))
+  not-marked : T (has_decided h commit) → (n : ℕ) → T (member (suc n) g.members) → (b : Bool) → member (suc n) (out_of h) ≡ b → not b ≡ not (marked es t (suc n))
+  not-marked d n m true e = ap not (sym (true_of (marked es t (suc n)) (looked_marked n m (mid.votes.looked n (of_true e)))))
   not-marked d n m false e =
-      ⊎_elim (λ k. absurd (true≢false (sym (true_of _ k) ∙ e))) (λ y. ap not (sym (yes-unmarked n m y))) (mid.votes.said n m (decided-counted h n d))
+      ⊎_elim (λ k. absurd (true≢false (sym (true_of _ k) ∙ e))) (λ y. ap not (sym (yes_unmarked n m y))) (mid.votes.said n m (decided-counted h n d))
 
-  named : T (hasDecided h commit) → (p : ℕ) → member p (remaining g (out_of h)).members ≡ (member p g.members && not (marked es t p))
+  named : T (has_decided h commit) → (p : ℕ) → member p (remaining g (out_of h)).members ≡ (member p g.members && not (marked es t p))
   named d zero =
       is_false (member 0 (remaining g (out_of h)).members) (no_zero (remaining g (out_of h)).members)
       ∙ ap (λ (b : Bool). b && not (marked es t 0)) (sym (is_false (member 0 g.members) (no_zero g.members)))
   named d (suc n) = member-remaining g (out_of h) mid.sound.byte n ∙ go (member (suc n) g.members) refl
     where
       go : (b : Bool) → member (suc n) g.members ≡ b → (b && not (member (suc n) (out_of h))) ≡ (b && not (marked es t (suc n)))
-      go true e = not-marked d n (of-true e) (member (suc n) (out_of h)) refl
+      go true e = not-marked d n (of_true e) (member (suc n) (out_of h)) refl
       go false e = refl
 
   -- each record of kind 2 in the log has the masks of those that remained
   abbrev Names : LogRecord → Type 0
-  Names x = x.kind ≡ 2 → membersIn x ≡ (remaining g (out_of h)).members
+  Names x = x.kind ≡ 2 → members_in x ≡ (remaining g (out_of h)).members
 
-  each-names : (ks : List ℕ) → Each Names (map (recordFor g (out_of h) t 0) ks)
+  each-names : (ks : List ℕ) → Each Names (map (record_for g (out_of h) t 0) ks)
   each-names [] = tt
-  each-names (k ∷ ks) = ((λ e. ap (λ (j : ℕ). membersIn (recordFor g (out_of h) t 0 j)) e ∙ (unfold membersIn masksOf in refl)), each-names ks)
+  each-names (k ∷ ks) = ((λ e. ap (λ (j : ℕ). members_in (record_for g (out_of h) t 0 j)) e ∙ (unfold members_in masks_of in refl)), each-names ks)
 
   -- x is one of the stable records of t
-  own-record : (before : List LogRecord) (x : LogRecord) (later : List LogRecord) → ((after fresh es).site 0).stable ≡ before ++ (x ∷ later) → x.transaction ≡ t
+  own_record : (before : List LogRecord) (x : LogRecord) (later : List LogRecord) → ((after fresh es).site 0).stable ≡ before ++ (x ∷ later) → x.transaction ≡ t
       → Names x
-  unfolding view siteView select ofTransaction
-  own-record before x later e q =
-      each-middle Names (select (ofTransaction t) before) x (select (ofTransaction t) later)
-      (subst (Each Names) here (each-names (stableAt (writesInit g) h)))
+  unfolding view site_view select of_transaction
+  own_record before x later e q =
+      each_middle Names (select (of_transaction t) before) x (select (of_transaction t) later)
+      (subst (Each Names) here (each-names (stable_at (writes_init g) h)))
     where
-      mine : select (ofTransaction t) (x ∷ later) ≡ x ∷ select (ofTransaction t) later
-      mine = unfold select ofTransaction in (rw (eq-eqb x.transaction t q) refl)
+      mine : select (of_transaction t) (x ∷ later) ≡ x ∷ select (of_transaction t) later
+      mine = unfold select of_transaction in (rw (eq-eqb x.transaction t q) refl)
 
-      here : map (recordFor g (out_of h) t 0) (stableAt (writesInit g) h) ≡ select (ofTransaction t) before ++ (x ∷ select (ofTransaction t) later)
+      here : map (record_for g (out_of h) t 0) (stable_at (writes_init g) h) ≡ select (of_transaction t) before ++ (x ∷ select (of_transaction t) later)
       here =
-          sym (ap (λ (s : Site). s.stable) mid.log) ∙ ap (select (ofTransaction t)) e ∙ select-append (ofTransaction t) before (x ∷ later)
-          ∙ ap (λ (l : List LogRecord). select (ofTransaction t) before ++ l) mine
+          sym (ap (λ (s : Site). s.stable) mid.log) ∙ ap (select (of_transaction t)) e ∙ select-append (of_transaction t) before (x ∷ later)
+          ∙ ap (λ (l : List LogRecord). select (of_transaction t) before ++ l) mine
 
   -- so commit is decided
-  record-is-commit : (before : List LogRecord) (x : LogRecord) (later : List LogRecord) → ((after fresh es).site 0).stable ≡ before ++ (x ∷ later) → x.kind ≡ 2
-      → x.transaction ≡ t → T (hasDecided h commit)
-  unfolding commitStable holds ofTransaction
-  record-is-commit before x later e k q =
-      record-decided t h mid
-      (subst T (record-stands t es h (tracked t es).inv)
+  record_is_commit : (before : List LogRecord) (x : LogRecord) (later : List LogRecord) → ((after fresh es).site 0).stable ≡ before ++ (x ∷ later) → x.kind ≡ 2
+      → x.transaction ≡ t → T (has_decided h commit)
+  unfolding commit_stable holds of_transaction
+  record_is_commit before x later e k q =
+      record_decided t h mid
+      (subst T (record_stands t es h (tracked t es).inv)
       (subst (λ (l : List LogRecord). T (any (λ y. eqb y.transaction t && eqb y.kind 2) l)) (sym e)
-      (any-middle (λ y. eqb y.transaction t && eqb y.kind 2) before x later (rw (eq-eqb x.transaction t q, eq-eqb x.kind 2 k) tt))))
+      (any_middle (λ y. eqb y.transaction t && eqb y.kind 2) before x later (rw (eq-eqb x.transaction t q, eq-eqb x.kind 2 k) tt))))
 
   remain : (before : List LogRecord) (x : LogRecord) (later : List LogRecord) → ((after fresh es).site 0).stable ≡ before ++ (x ∷ later) → x.kind ≡ 2
-      → x.transaction ≡ t → (p : ℕ) → member p (membersIn x) ≡ (member p ((after fresh es).transaction t).cohort.members && not (marked es t p))
+      → x.transaction ≡ t → (p : ℕ) → member p (members_in x) ≡ (member p ((after fresh es).transaction t).cohort.members && not (marked es t p))
   unfolding view
-  remain before x later e k q p = ap (member p) (own-record before x later e q k) ∙ named (record-is-commit before x later e k q) p
+  remain before x later e k q p = ap (member p) (own_record before x later e q k) ∙ named (record_is_commit before x later e k q) p
 
 -- ---- the second sentence by marks
 
-members-stay : (t p : ℕ) (es later : List (List ℕ)) → T (member p ((after fresh es).transaction t).cohort.members)
+members_stay : (t p : ℕ) (es later : List (List ℕ)) → T (member p ((after fresh es).transaction t).cohort.members)
     → T (member p ((after fresh (es ++ later)).transaction t).cohort.members)
-members-stay t p es [] m = rw append-nil m
-members-stay t p es (e ∷ later) m =
+members_stay t p es [] m = rw append-nil m
+members_stay t p es (e ∷ later) m =
     rw append_assoc at
-    (members-stay t p (es ++ (e ∷ [])) later
-    (subst (λ (g : Cohort). T (member p g.members)) (sym (ap (λ (r : Run). (r.transaction t).cohort) (after-snoc fresh es e) ∙ event-leaves t (after fresh es) e (small t es (tracked t es).standing (tracked t es).inv) now-opened)) m))
+    (members_stay t p (es ++ (e ∷ [])) later
+    (subst (λ (g : Cohort). T (member p g.members)) (sym (ap (λ (r : Run). (r.transaction t).cohort) (after_snoc fresh es e) ∙ event-leaves t (after fresh es) e (small t es (tracked t es).standing (tracked t es).inv) now_opened)) m))
   where
-    now-opened : opened (after fresh es) t ≡ true
-    now-opened = unfold opened in ap not (has-member ((after fresh es).transaction t).cohort.members p (true_of _ m))
+    now_opened : opened (after fresh es) t ≡ true
+    now_opened = unfold opened in ap not (has_member ((after fresh es).transaction t).cohort.members p (true_of _ m))
 
 -- a member stays one
-member-later : (es : List (List ℕ)) (earlier : List Moment) (m : Moment) → Happens es earlier m → (t p : ℕ) → T (member p (m.before.transaction t).cohort.members)
+member_later : (es : List (List ℕ)) (earlier : List Moment) (m : Moment) → Happens es earlier m → (t p : ℕ) → T (member p (m.before.transaction t).cohort.members)
     → T (member p ((after fresh es).transaction t).cohort.members)
-member-later es earlier m d t p b =
+member_later es earlier m d t p b =
     let x = placed es earlier m d in
-    let now = subst (λ (g : Cohort). T (member p g.members)) (moment-cohort (after fresh x.before) x.event x.seen m x.rest x.moments t) b in
-    subst (λ (l : List (List ℕ)). T (member p ((after fresh l).transaction t).cohort.members)) (sym x.list) (members-stay t p x.before (x.event ∷ x.later) now)
+    let now = subst (λ (g : Cohort). T (member p g.members)) (moment_cohort (after fresh x.before) x.event x.seen m x.rest x.moments t) b in
+    subst (λ (l : List (List ℕ)). T (member p ((after fresh l).transaction t).cohort.members)) (sym x.list) (members_stay t p x.before (x.event ∷ x.later) now)
 
-votes-by-marks : (es : List (List ℕ)) (earlier : List Moment) (m : Moment) → Happens es earlier m → (t : ℕ) → T (isEntry t commit m)
-    → (p : ℕ) → T (member p (m.before.transaction t).cohort.members) → T (any (isVote t p) earlier || marked es t p)
+votes_by_marks : (es : List (List ℕ)) (earlier : List Moment) (m : Moment) → Happens es earlier m → (t : ℕ) → T (is_entry t commit m)
+    → (p : ℕ) → T (member p (m.before.transaction t).cohort.members) → T (any (is_vote t p) earlier || marked es t p)
 unfolding view
-votes-by-marks es earlier m d t k zero b = absurd (no_zero (m.before.transaction t).cohort.members b)
-votes-by-marks es earlier m d t k (suc n) b =
-    or_map (any (isVote t (suc n)) earlier) (takenOut es t (suc n)) (marked es t (suc n))
-    (λ u. looked-marked t es n (member-later es earlier m d t (suc n) b) (taken-sent es t (suc n) u)) ((demand3 es).votes earlier m d t k (suc n) b)
+votes_by_marks es earlier m d t k zero b = absurd (no_zero (m.before.transaction t).cohort.members b)
+votes_by_marks es earlier m d t k (suc n) b =
+    or_map (any (is_vote t (suc n)) earlier) (taken_out es t (suc n)) (marked es t (suc n))
+    (λ u. looked_marked t es n (member_later es earlier m d t (suc n) b) (taken-sent es t (suc n) u)) ((demand3 es).votes earlier m d t k (suc n) b)
 
 -- ---- the claim
 
 pub every-mark : (events : List (List ℕ)) → Marks events
-every-mark es = record { votes = votes-by-marks es; remain = λ before x later e k p. remain x.transaction es before x later e k refl p }
+every-mark es = record { votes = votes_by_marks es; remain = λ before x later e k p. remain x.transaction es before x later e k refl p }
 
 -- as the definitions state it
-pub as-stated : EveryMark
-as-stated = every-mark
+pub as_stated : EveryMark
+as_stated = every-mark

@@ -8,18 +8,18 @@ use native.Mathlib.Omega.{arith}
 use borrow.Author.Tests.{ne_eqb, ltb-true}
 use Rattle.codec.specs.Lists.{select, any, all, every, same}
 use Rattle.codec.specs.Sets.{participants}
-use Rattle.codec.specs.laws.Tests.{and_right}
+use Rattle.codec.specs.Laws.Tests.{and_right}
 use Rattle.site.specs.Presumption.{Outcome, commit, abort}
 use Rattle.joint.specs.State.{Run, fresh, opened}
 use Rattle.joint.specs.Plan.{transactions}
 use Rattle.joint.specs.Run.{Answer, after, answers}
-use Rattle.joint.specs.Safety.{Moment, history, isEntry, isEntryAt}
+use Rattle.joint.specs.Safety.{Moment, history, is_entry, is_entry_at}
 use Rattle.joint.specs.Totals.{Totals, totals}
-use Rattle.joint.specs.Drill.{eventsIn, space, newline, decimal, line, eventLines, ascii, letter, entryLetter, transactionLine, totalsLine, drill}
-use Rattle.joint.specs.Screen.{inFront, lines, isHandover, letters, oneOutcome, letterOf, EveryScreen}
-use Rattle.joint.proofs.base.Booleans.{and_both, or-both, is_false}
-use Rattle.joint.proofs.base.Lists.{Each, each_append, each_map}
-use Rattle.joint.proofs.base.Recorded.{entries-happened}
+use Rattle.joint.specs.Drill.{events_in, space, newline, decimal, line, event_lines, ascii, letter, entry_letter, transaction_line, totals_line, drill}
+use Rattle.joint.specs.Screen.{in_front, lines, is_handover, letters, one_outcome, letter_of, EveryScreen}
+use Rattle.joint.proofs.Base.Booleans.{and_both, or_both, is_false}
+use Rattle.joint.proofs.Base.Lists.{Each, each_append, each_map}
+use Rattle.joint.proofs.Base.Recorded.{entries-happened}
 use Rattle.joint.proofs.Demand3.{demand3}
 
 -- ---- lines
@@ -29,16 +29,16 @@ abbrev Inner : ℕ → Type 0
 Inner b = eqb b 10 ≡ false
 
 lines_next : (l rest : List ℕ) → Each Inner l → lines (l ++ newline ∷ rest) ≡ l ∷ lines rest
-unfolding lines newline inFront
+unfolding lines newline in_front
 lines_next [] rest h = refl
 lines_next (b ∷ l) rest h = rw (h.0, lines_next l rest h.1)
 
 abbrev handovers : List ℕ → List (List ℕ)
-handovers text = select isHandover (lines text)
+handovers text = select is_handover (lines text)
 
-chosen-next : (l rest : List ℕ) → Each Inner l → handovers (l ++ newline ∷ rest) ≡ cond (isHandover l) (l ∷ handovers rest) (handovers rest)
+chosen_next : (l rest : List ℕ) → Each Inner l → handovers (l ++ newline ∷ rest) ≡ cond (is_handover l) (l ∷ handovers rest) (handovers rest)
 unfolding select
-chosen-next l rest h = rw (lines_next l rest h)
+chosen_next l rest h = rw (lines_next l rest h)
 
 -- ---- lines of events: digits and spaces
 
@@ -46,17 +46,17 @@ chosen-next l rest h = rw (lines_next l rest h)
 abbrev Plain : ℕ → Type 0
 Plain b = Inner b × (eqb b 72 ≡ false)
 
-digit-plain : (n : ℕ) → n < 10 → Plain (48 + n)
-digit-plain n h = (ne_eqb (48 + n) 10 (λ e. omega arith), ne_eqb (48 + n) 72 (λ e. omega arith))
+digit_plain : (n : ℕ) → n < 10 → Plain (48 + n)
+digit_plain n h = (ne_eqb (48 + n) 10 (λ e. omega arith), ne_eqb (48 + n) 72 (λ e. omega arith))
 
-decimal-plain : (k n : ℕ) → Each Plain (decimal k n)
+decimal_plain : (k n : ℕ) → Each Plain (decimal k n)
 unfolding decimal
-decimal-plain zero n = (digit-plain (n % 10) (omega arith), tt)
-decimal-plain (suc k) n = go (decimal-plain k (n / 10)) (ltb n 10) refl
+decimal_plain zero n = (digit_plain (n % 10) (omega arith), tt)
+decimal_plain (suc k) n = go (decimal_plain k (n / 10)) (ltb n 10) refl
   where
     go : Each Plain (decimal k (n / 10)) → (b : Bool) → ltb n 10 ≡ b → Each Plain (elim b [ true ↦ (48 + n) ∷ [] | false ↦ decimal k (n / 10) ++ ((48 + n % 10) ∷ []) ])
-    go h true e = (digit-plain n (ltb-true n 10 e), tt)
-    go h false e = each_append Plain (decimal k (n / 10)) _ h (digit-plain (n % 10) (omega arith), tt)
+    go h true e = (digit_plain n (ltb-true n 10 e), tt)
+    go h false e = each_append Plain (decimal k (n / 10)) _ h (digit_plain (n % 10) (omega arith), tt)
 
 -- a line's bytes in front of its newline
 abbrev PlainLine : List ℕ → Type 0
@@ -65,114 +65,114 @@ PlainLine l = (front : List ℕ) × (l ≡ front ++ newline ∷ []) × Each Plai
 line_plain : (k : ℕ) (ns : List ℕ) → PlainLine (line k ns)
 unfolding line space
 line_plain k [] = ([], refl, tt)
-line_plain k (n ∷ []) = (decimal k n, refl, decimal-plain k n)
+line_plain k (n ∷ []) = (decimal k n, refl, decimal_plain k n)
 line_plain k (n ∷ m ∷ ns) =
     let x = line_plain k (m ∷ ns) in (
       decimal k n ++ 32 ∷ x.0,
       ap (λ (l : List ℕ). decimal k n ++ 32 ∷ l) x.1 ∙ sym (append_assoc (decimal k n) (32 ∷ x.0) (newline ∷ [])),
-      each_append Plain (decimal k n) (32 ∷ x.0) (decimal-plain k n) ((refl, refl), x.2),
+      each_append Plain (decimal k n) (32 ∷ x.0) (decimal_plain k n) ((refl, refl), x.2),
     )
 
-each-inner : (l : List ℕ) → Each Plain l → Each Inner l
-each-inner = each_map Plain Inner (λ b h. h.0)
+each_inner : (l : List ℕ) → Each Plain l → Each Inner l
+each_inner = each_map Plain Inner (λ b h. h.0)
 
-no-handover : (l : List ℕ) → Each Plain l → isHandover l ≡ false
-unfolding isHandover ascii same
-no-handover [] h = refl
-no-handover (b ∷ l) h = rw h.0.1 refl
+no_handover : (l : List ℕ) → Each Plain l → is_handover l ≡ false
+unfolding is_handover ascii same
+no_handover [] h = refl
+no_handover (b ∷ l) h = rw h.0.1 refl
 
-plain-passed : (l rest : List ℕ) → PlainLine l → handovers (l ++ rest) ≡ handovers rest
-plain-passed l rest (front, e, h) =
+plain_passed : (l rest : List ℕ) → PlainLine l → handovers (l ++ rest) ≡ handovers rest
+plain_passed l rest (front, e, h) =
     ap (λ (m : List ℕ). handovers (m ++ rest)) e
     ∙ ap handovers (append_assoc front (newline ∷ []) rest)
-    ∙ chosen-next front rest (each-inner front h)
-    ∙ ap (λ (b : Bool). cond b (front ∷ handovers rest) (handovers rest)) (no-handover front h)
+    ∙ chosen_next front rest (each_inner front h)
+    ∙ ap (λ (b : Bool). cond b (front ∷ handovers rest) (handovers rest)) (no_handover front h)
 
-events-passed : (n : ℕ) (given : List Answer) (rest : List ℕ) → handovers (eventLines n given ++ rest) ≡ handovers rest
-unfolding eventLines
-events-passed n [] rest = refl
-events-passed n (a ∷ given) rest =
+events_passed : (n : ℕ) (given : List Answer) (rest : List ℕ) → handovers (event_lines n given ++ rest) ≡ handovers rest
+unfolding event_lines
+events_passed n [] rest = refl
+events_passed n (a ∷ given) rest =
     let l = n ∷ a.number ∷ a.records ∷ a.forces ∷ a.sends ∷ [] in
-    ap handovers (append_assoc (line 5 l) (eventLines (n + 1) given) rest)
-    ∙ plain-passed (line 5 l) (eventLines (n + 1) given ++ rest) (line_plain 5 l)
-    ∙ events-passed (n + 1) given rest
+    ap handovers (append_assoc (line 5 l) (event_lines (n + 1) given) rest)
+    ∙ plain_passed (line 5 l) (event_lines (n + 1) given ++ rest) (line_plain 5 l)
+    ∙ events_passed (n + 1) given rest
 
 -- and lines of sites
-totals-passed : (f : ℕ → Totals) (sites : List ℕ) → handovers (flatten (map (λ s. totalsLine (f s)) sites)) ≡ []
-unfolding flatten totalsLine
-totals-passed f [] = unfold lines select in refl
-totals-passed f (s ∷ sites) = plain-passed (totalsLine (f s)) (flatten (map (λ s. totalsLine (f s)) sites)) (line_plain 19 _) ∙ totals-passed f sites
+totals_passed : (f : ℕ → Totals) (sites : List ℕ) → handovers (flatten (map (λ s. totals_line (f s)) sites)) ≡ []
+unfolding flatten totals_line
+totals_passed f [] = unfold lines select in refl
+totals_passed f (s ∷ sites) = plain_passed (totals_line (f s)) (flatten (map (λ s. totals_line (f s)) sites)) (line_plain 19 _) ∙ totals_passed f sites
 
 -- ---- lines of transactions
 
-letter-inner : (c a : Bool) → Inner (letter c a)
+letter_inner : (c a : Bool) → Inner (letter c a)
 unfolding letter
-letter-inner true true = refl
-letter-inner true false = refl
-letter-inner false true = refl
-letter-inner false false = refl
+letter_inner true true = refl
+letter_inner true false = refl
+letter_inner false true = refl
+letter_inner false false = refl
 
 -- without its newline
-abbrev shownLine : Run → ℕ → List ℕ
-shownLine r t = ascii "HANDOVER" ++ space ∷ decimal 0 t ++ space ∷ map (entryLetter (r.transaction t)) (0 ∷ participants)
+abbrev shown_line : Run → ℕ → List ℕ
+shown_line r t = ascii "HANDOVER" ++ space ∷ decimal 0 t ++ space ∷ map (entry_letter (r.transaction t)) (0 ∷ participants)
 
-letters-inner : (f : ℕ → ℕ) → ((s : ℕ) → Inner (f s)) → (l : List ℕ) → Each Inner (map f l)
-letters-inner f h [] = tt
-letters-inner f h (s ∷ l) = (h s, letters-inner f h l)
+letters_inner : (f : ℕ → ℕ) → ((s : ℕ) → Inner (f s)) → (l : List ℕ) → Each Inner (map f l)
+letters_inner f h [] = tt
+letters_inner f h (s ∷ l) = (h s, letters_inner f h l)
 
-shown-inner : (r : Run) (t : ℕ) → Each Inner (shownLine r t)
-unfolding ascii space entryLetter
-shown-inner r t =
+shown_inner : (r : Run) (t : ℕ) → Each Inner (shown_line r t)
+unfolding ascii space entry_letter
+shown_inner r t =
     let x = r.transaction t in
-    let shown = map (entryLetter x) (0 ∷ participants) in
+    let shown = map (entry_letter x) (0 ∷ participants) in
     let word : Each Inner (ascii "HANDOVER") = (refl, (refl, (refl, (refl, (refl, (refl, (refl, (refl, tt)))))))) in
-    let ends : Each Inner (space ∷ shown) = (refl, letters-inner (entryLetter x) (λ s. letter-inner (x.entered s commit) (x.entered s abort)) (0 ∷ participants)) in
+    let ends : Each Inner (space ∷ shown) = (refl, letters_inner (entry_letter x) (λ s. letter_inner (x.entered s commit) (x.entered s abort)) (0 ∷ participants)) in
     each_append Inner (ascii "HANDOVER") (space ∷ decimal 0 t ++ space ∷ shown) word
-    (refl, each_append Inner (decimal 0 t) (space ∷ shown) (each-inner (decimal 0 t) (decimal-plain 0 t)) ends)
+    (refl, each_append Inner (decimal 0 t) (space ∷ shown) (each_inner (decimal 0 t) (decimal_plain 0 t)) ends)
 
-line-ends : (r : Run) (t : ℕ) (rest : List ℕ) → transactionLine r t ++ rest ≡ shownLine r t ++ newline ∷ rest
-unfolding transactionLine ascii space decimal participants
-line-ends r t rest = refl
+line_ends : (r : Run) (t : ℕ) (rest : List ℕ) → transaction_line r t ++ rest ≡ shown_line r t ++ newline ∷ rest
+unfolding transaction_line ascii space decimal participants
+line_ends r t rest = refl
 
-is-handover : (r : Run) (t : ℕ) → isHandover (shownLine r t) ≡ true
-unfolding isHandover ascii same
-is-handover r t = refl
+is_handover_lem : (r : Run) (t : ℕ) → is_handover (shown_line r t) ≡ true
+unfolding is_handover ascii same
+is_handover_lem r t = refl
 
-its-letters : (r : Run) (t : ℕ) → letters (shownLine r t) ≡ map (entryLetter (r.transaction t)) (0 ∷ participants)
+its_letters : (r : Run) (t : ℕ) → letters (shown_line r t) ≡ map (entry_letter (r.transaction t)) (0 ∷ participants)
 unfolding letters ascii decimal
-its-letters r t = refl
+its_letters r t = refl
 
 transactions-shown : (r : Run) (ts behind : List ℕ) → handovers behind ≡ []
-    → map letters (handovers (flatten (map (transactionLine r) ts) ++ behind)) ≡ map (λ t. map (entryLetter (r.transaction t)) (0 ∷ participants)) ts
+    → map letters (handovers (flatten (map (transaction_line r) ts) ++ behind)) ≡ map (λ t. map (entry_letter (r.transaction t)) (0 ∷ participants)) ts
 unfolding flatten
 transactions-shown r [] behind h = ap (map letters) h
 transactions-shown r (t ∷ ts) behind h =
-    let rest = flatten (map (transactionLine r) ts) ++ behind in
-    ap (λ (l : List ℕ). map letters (handovers l)) (append_assoc (transactionLine r t) (flatten (map (transactionLine r) ts)) behind ∙ line-ends r t rest)
-    ∙ ap (map letters) (chosen-next (shownLine r t) rest (shown-inner r t))
-    ∙ ap (λ (b : Bool). map letters (cond b (shownLine r t ∷ handovers rest) (handovers rest))) (is-handover r t)
-    ∙ ap (λ (l : List ℕ). l ∷ map letters (handovers rest)) (its-letters r t)
-    ∙ ap (λ (ls : List (List ℕ)). map (entryLetter (r.transaction t)) (0 ∷ participants) ∷ ls) (transactions-shown r ts behind h)
+    let rest = flatten (map (transaction_line r) ts) ++ behind in
+    ap (λ (l : List ℕ). map letters (handovers l)) (append_assoc (transaction_line r t) (flatten (map (transaction_line r) ts)) behind ∙ line_ends r t rest)
+    ∙ ap (map letters) (chosen_next (shown_line r t) rest (shown_inner r t))
+    ∙ ap (λ (b : Bool). map letters (cond b (shown_line r t ∷ handovers rest) (handovers rest))) (is_handover_lem r t)
+    ∙ ap (λ (l : List ℕ). l ∷ map letters (handovers rest)) (its_letters r t)
+    ∙ ap (λ (ls : List (List ℕ)). map (entry_letter (r.transaction t)) (0 ∷ participants) ∷ ls) (transactions-shown r ts behind h)
 
 -- ---- what they show is what happened
 
-letter-happened : (es : List (List ℕ)) (t s : ℕ) → entryLetter ((after fresh es).transaction t) s ≡ letterOf (history fresh es) t s
-unfolding entryLetter letterOf
+letter-happened : (es : List (List ℕ)) (t s : ℕ) → entry_letter ((after fresh es).transaction t) s ≡ letter_of (history fresh es) t s
+unfolding entry_letter letter_of
 letter-happened es t s = rw (entries-happened es t s commit, entries-happened es t s abort)
 
 module _ (input : List ℕ) where
   abbrev happened : List Moment
-  happened = history fresh (eventsIn input)
+  happened = history fresh (events_in input)
 
-  abbrev openedOnes : List ℕ
-  openedOnes = select (opened (after fresh (eventsIn input))) transactions
+  abbrev opened_ones : List ℕ
+  opened_ones = select (opened (after fresh (events_in input))) transactions
 
-  letters-happened : map letters (handovers (drill input)) ≡ map (λ t. map (letterOf happened t) (0 ∷ participants)) openedOnes
+  letters-happened : map letters (handovers (drill input)) ≡ map (λ t. map (letter_of happened t) (0 ∷ participants)) opened_ones
   unfolding drill
   letters-happened =
-      ap (map letters) (events-passed 1 (answers fresh (eventsIn input)) _)
-      ∙ transactions-shown (after fresh (eventsIn input)) openedOnes _ (totals-passed (totals (eventsIn input)) (0 ∷ participants))
-      ∙ ap (λ (f : ℕ → List ℕ). map f openedOnes) (fun_ext (λ t. ap (λ (f : ℕ → ℕ). map f (0 ∷ participants)) (fun_ext (letter-happened (eventsIn input) t))))
+      ap (map letters) (events_passed 1 (answers fresh (events_in input)) _)
+      ∙ transactions-shown (after fresh (events_in input)) opened_ones _ (totals_passed (totals (events_in input)) (0 ∷ participants))
+      ∙ ap (λ (f : ℕ → List ℕ). map f opened_ones) (fun_ext (λ t. ap (λ (f : ℕ → ℕ). map f (0 ∷ participants)) (fun_ext (letter-happened (events_in input) t))))
 
 -- ---- one outcome
 
@@ -187,44 +187,44 @@ unfolding letter
 no_abort true = (refl, refl)
 no_abort false = (refl, refl)
 
-no-commit : (a : Bool) → (eqb 88 (letter false a) ≡ false) × (eqb 67 (letter false a) ≡ false)
+no_commit : (a : Bool) → (eqb 88 (letter false a) ≡ false) × (eqb 67 (letter false a) ≡ false)
 unfolding letter
-no-commit true = (refl, refl)
-no-commit false = (refl, refl)
+no_commit true = (refl, refl)
+no_commit false = (refl, refl)
 
 -- of letters by c and a, where those imply two tests that exclude each other
 module _ (c a : ℕ → Bool) (l : List ℕ) where
-  abbrev shownBy : List ℕ
-  shownBy = map (λ s. letter (c s) (a s)) l
+  abbrev shown_by : List ℕ
+  shown_by = map (λ s. letter (c s) (a s)) l
 
-  one-committed : ((s : ℕ) → a s ≡ false) → T (oneOutcome shownBy)
-  unfolding oneOutcome every
-  one-committed h =
+  one_committed : ((s : ℕ) → a s ≡ false) → T (one_outcome shown_by)
+  unfolding one_outcome every
+  one_committed h =
       let n : (s : ℕ) → (eqb 88 (letter (c s) (a s)) ≡ false) × (eqb 65 (letter (c s) (a s)) ≡ false) = λ s. rw (h s) (no_abort (c s)) in
       rw (none-holds 88 (λ s. letter (c s) (a s)) (λ s. (n s).0) l, none-holds 65 (λ s. letter (c s) (a s)) (λ s. (n s).1) l, and-false) tt
 
-  one-aborted : ((s : ℕ) → c s ≡ false) → T (oneOutcome shownBy)
-  unfolding oneOutcome every
-  one-aborted h =
-      let n : (s : ℕ) → (eqb 88 (letter (c s) (a s)) ≡ false) × (eqb 67 (letter (c s) (a s)) ≡ false) = λ s. rw (h s) (no-commit (a s)) in
+  one_aborted : ((s : ℕ) → c s ≡ false) → T (one_outcome shown_by)
+  unfolding one_outcome every
+  one_aborted h =
+      let n : (s : ℕ) → (eqb 88 (letter (c s) (a s)) ≡ false) × (eqb 67 (letter (c s) (a s)) ≡ false) = λ s. rw (h s) (no_commit (a s)) in
       rw (none-holds 88 (λ s. letter (c s) (a s)) (λ s. (n s).0) l, none-holds 67 (λ s. letter (c s) (a s)) (λ s. (n s).1) l) tt
 
-  one_of_two : (C A : Bool) → ((s : ℕ) → T (c s) → T C) → ((s : ℕ) → T (a s) → T A) → (T C → T A → ⊥) → T (oneOutcome shownBy)
-  one_of_two true A f g apart = one-committed (λ s. is_false (a s) (λ k. apart tt (g s k)))
-  one_of_two false A f g apart = one-aborted (λ s. is_false (c s) (f s))
+  one_of_two : (C A : Bool) → ((s : ℕ) → T (c s) → T C) → ((s : ℕ) → T (a s) → T A) → (T C → T A → ⊥) → T (one_outcome shown_by)
+  one_of_two true A f g apart = one_committed (λ s. is_false (a s) (λ k. apart tt (g s k)))
+  one_of_two false A f g apart = one_aborted (λ s. is_false (c s) (f s))
 
-entered-anywhere : (t s : ℕ) (o : Outcome) (h : List Moment) → T (any (isEntryAt t s o) h) → T (any (isEntry t o) h)
-unfolding any isEntryAt
-entered-anywhere t s o [] k = k
-entered-anywhere t s o (m ∷ h) k =
-    or-both (eqb m.site s && isEntry t o m) (any (isEntryAt t s o) h) (isEntry t o m) (any (isEntry t o) h) (and_right (eqb m.site s) (isEntry t o m)) (entered-anywhere t s o h) k
+entered_anywhere : (t s : ℕ) (o : Outcome) (h : List Moment) → T (any (is_entry_at t s o) h) → T (any (is_entry t o) h)
+unfolding any is_entry_at
+entered_anywhere t s o [] k = k
+entered_anywhere t s o (m ∷ h) k =
+    or_both (eqb m.site s && is_entry t o m) (any (is_entry_at t s o) h) (is_entry t o m) (any (is_entry t o) h) (and_right (eqb m.site s) (is_entry t o m)) (entered_anywhere t s o h) k
 
-line-agrees : (es : List (List ℕ)) (t : ℕ) → T (oneOutcome (map (letterOf (history fresh es) t) (0 ∷ participants)))
-unfolding letterOf
+line-agrees : (es : List (List ℕ)) (t : ℕ) → T (one_outcome (map (letter_of (history fresh es) t) (0 ∷ participants)))
+unfolding letter_of
 line-agrees es t =
     let h = history fresh es in
-    one_of_two (λ s. any (isEntryAt t s commit) h) (λ s. any (isEntryAt t s abort) h) (0 ∷ participants) (any (isEntry t commit) h) (any (isEntry t abort) h)
-    (λ s. entered-anywhere t s commit h) (λ s. entered-anywhere t s abort h) ((demand3 es).agreement t)
+    one_of_two (λ s. any (is_entry_at t s commit) h) (λ s. any (is_entry_at t s abort) h) (0 ∷ participants) (any (is_entry t commit) h) (any (is_entry t abort) h)
+    (λ s. entered_anywhere t s commit h) (λ s. entered_anywhere t s abort h) ((demand3 es).agreement t)
 
 -- ---- all lines
 
@@ -238,12 +238,12 @@ unfolding all
 all_map f g h [] = tt
 all_map f g h (x ∷ l) = and_both (f (g x)) (all f (map g l)) (h x) (all_map f g h l)
 
-pub every-screen : EveryScreen
-every-screen input =
-    let ts = openedOnes input in
+pub every_screen : EveryScreen
+every_screen input =
+    let ts = opened_ones input in
     record {
       shown = letters-happened input;
       agreed =
-          subst T (sym (all_of_map oneOutcome letters (handovers (drill input)) ∙ ap (all oneOutcome) (letters-happened input)))
-          (all_map oneOutcome _ (line-agrees (eventsIn input)) ts);
+          subst T (sym (all_of_map one_outcome letters (handovers (drill input)) ∙ ap (all one_outcome) (letters-happened input)))
+          (all_map one_outcome _ (line-agrees (events_in input)) ts);
     }

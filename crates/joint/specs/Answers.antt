@@ -2,19 +2,19 @@
 use Rattle.std.specs.Prelude.{ℕ, Bool, true, ◌&&◌, List, map, length, take, drop, get_or, replicate}
 use Rattle.codec.specs.Lists.{select}
 use Rattle.codec.specs.Sets.{member}
-use Rattle.codec.specs.Answers.{recordIn, noRecord}
+use Rattle.codec.specs.Answers.{record_in, no_record}
 use Rattle.site.specs.Presumption.{Outcome, commit, abort}
 use Rattle.site.specs.Coordinator.{Coordinator}
-use Rattle.site.specs.Answers.{coordinatorIn, participantIn, hasKind}
+use Rattle.site.specs.Answers.{coordinator_in, participant_in, has_kind}
 use Rattle.site.specs.declared.phases.CoordinatorPhase.{CoordinatorPhase}
 use Rattle.site.specs.declared.phases.CoordinatorPhase.TheVariants as coordinator
 use Rattle.site.specs.declared.phases.ParticipantPhase.TheVariants as participant
 use Rattle.joint.specs.State as plain
-use Rattle.joint.specs.State.{opened, takesPart}
+use Rattle.joint.specs.State.{opened, takes_part}
 use Rattle.joint.specs.Plan.{transactions}
 use Rattle.joint.specs.Run as run
 use Rattle.joint.specs.Totals as totals
-use Rattle.joint.specs.Totals.{held, totalsOf}
+use Rattle.joint.specs.Totals.{held, totals_of}
 use Rattle.joint.specs.Drill.{Replayed}
 use Rattle.codec.specs.declared.record.Record.{Record}
 use Rattle.joint.specs.declared.sites.Site.{Site}
@@ -34,45 +34,45 @@ use Rattle.joint.specs.declared.totals.Totals.{Totals}
 -- ---- sites
 
 -- the counts, with the records behind them: the first `stable` are stable, and the next `unforced` are not
-unfoldable pub siteFrom : Site → List Record → plain.Site
-siteFrom x rs =
-    let records = map recordIn rs in
+unfoldable pub site_from : Site → List Record → plain.Site
+site_from x rs =
+    let records = map record_in rs in
     record { up = x.up; stable = take x.stable records; unforced = take x.unforced (drop x.stable records) }
 
 abbrev pub no_site : Site
 no_site = record { up = true; stable = 0; unforced = 0 }
 
-abbrev pub noRecords : Records
-noRecords = record { of = replicate 24 noRecord }
+abbrev pub no_records : Records
+no_records = record { of = replicate 24 no_record }
 
 -- ---- transactions
 
 -- the sites that entered commit, and those that entered abort, bit s for site s
 unfoldable pub entered_in : ℕ → ℕ → ℕ → Outcome → Bool
-entered_in committed aborted s commit = hasKind committed s
-entered_in committed aborted s abort = hasKind aborted s
+entered_in committed aborted s commit = has_kind committed s
+entered_in committed aborted s abort = has_kind aborted s
 
 abbrev pub no_held : Held
 no_held = record { phase = participant.Unknown }
 
 -- the coordinator's part, from its phase and the set taken out
-abbrev pub partIn : CoordinatorPhase → ℕ → Coordinator
-partIn phase out = record { phase = coordinatorIn phase; takenOut = out }
+abbrev pub part_in : CoordinatorPhase → ℕ → Coordinator
+part_in phase out = record { phase = coordinator_in phase; taken_out = out }
 
 -- `marked` has bit p for participant p; `sent` has the participants whose message was sent, by the message's kind
-unfoldable pub transactionIn : Transaction → plain.Transaction
-transactionIn x =
+unfoldable pub transaction_in : Transaction → plain.Transaction
+transaction_in x =
     record {
-      cohort = record { members = x.part.members; presumeCommit = x.part.presume_commit };
-      coordinator = partIn x.part.phase x.taken_out;
-      participant = λ p. participantIn (get_or x.participants p no_held).phase;
-      marked = hasKind x.marked;
+      cohort = record { members = x.part.members; presume_commit = x.part.presume_commit };
+      coordinator = part_in x.part.phase x.taken_out;
+      participant = λ p. participant_in (get_or x.participants p no_held).phase;
+      marked = has_kind x.marked;
       sent = λ p k. member p (get_or x.sent k 0);
       entered = entered_in x.committed x.aborted;
     }
 
-abbrev pub noTransaction : Transaction
-noTransaction =
+abbrev pub no_transaction : Transaction
+no_transaction =
     record {
       part = record { phase = coordinator.Unknown; members = 0; presume_commit = 0 };
       taken_out = 0;
@@ -83,60 +83,60 @@ noTransaction =
       aborted = 0;
     }
 
-abbrev pub transactionsIn : List Transaction → ℕ → plain.Transaction
-transactionsIn l t = transactionIn (get_or l t noTransaction)
+abbrev pub transactions_in : List Transaction → ℕ → plain.Transaction
+transactions_in l t = transaction_in (get_or l t no_transaction)
 
 -- ---- the run
 
-unfoldable pub runIn : Run → plain.Run
-runIn r =
+unfoldable pub run_in : Run → plain.Run
+run_in r =
     record {
-      site = λ s. siteFrom (get_or r.sites s no_site) (get_or r.records s noRecords).of;
-      transaction = transactionsIn r.transactions;
+      site = λ s. site_from (get_or r.sites s no_site) (get_or r.records s no_records).of;
+      transaction = transactions_in r.transactions;
     }
 
 -- ---- totals
 
 -- the forced writes that the run has counted at site s. (A counter has 64 bits.)
-unfoldable pub forcesIn : Run → ℕ → ℕ
-forcesIn r s = held (get_or r.forces s 0)
+unfoldable pub forces_in : Run → ℕ → ℕ
+forces_in r s = held (get_or r.forces s 0)
 
 -- the transactions that were opened with site s
-unfoldable pub handoversIn : plain.Run → ℕ → ℕ
-handoversIn r s = length (select (λ t. opened r t && takesPart (r.transaction t) s) transactions)
+unfoldable pub handovers_in : plain.Run → ℕ → ℕ
+handovers_in r s = length (select (λ t. opened r t && takes_part (r.transaction t) s) transactions)
 
-unfoldable pub totalsIn : Run → ℕ → totals.Totals
-totalsIn r s = totalsOf (forcesIn r s) (handoversIn (runIn r) s)
+unfoldable pub totals_in : Run → ℕ → totals.Totals
+totals_in r s = totals_of (forces_in r s) (handovers_in (run_in r) s)
 
 -- what a call gives of them
-unfoldable pub totalsSeen : Totals → totals.Totals
-totalsSeen x = record { forces = x.forces; handovers = x.handovers; quotient = x.quotient; remainder = x.remainder }
+unfoldable pub totals_seen : Totals → totals.Totals
+totals_seen x = record { forces = x.forces; handovers = x.handovers; quotient = x.quotient; remainder = x.remainder }
 
 -- ---- answers
 
 -- accepted is 0, with the counts; the others are the refusals 1 to 9
-unfoldable pub refusalNumber : ℕ → run.Answer
-refusalNumber n = record { number = n; records = 0; forces = 0; sends = 0 }
+unfoldable pub refusal_number : ℕ → run.Answer
+refusal_number n = record { number = n; records = 0; forces = 0; sends = 0 }
 
 abbrev pub accepted : Counts → run.Answer
 accepted c = record { number = 0; records = c.records; forces = c.forces; sends = c.sends }
 
 unfoldable pub answer_in : Answer → run.Answer
 answer_in (answer.Accepted c) = accepted c
-answer_in answer.Malformed = refusalNumber 1
-answer_in answer.OpenedBefore = refusalNumber 2
-answer_in answer.NeverOpened = refusalNumber 3
-answer_in answer.NoMember = refusalNumber 4
-answer_in answer.SiteDown = refusalNumber 5
-answer_in answer.SiteUp = refusalNumber 6
-answer_in answer.NeverSent = refusalNumber 7
-answer_in answer.NotAllowed = refusalNumber 8
-answer_in answer.CutTooFar = refusalNumber 9
+answer_in answer.Malformed = refusal_number 1
+answer_in answer.OpenedBefore = refusal_number 2
+answer_in answer.NeverOpened = refusal_number 3
+answer_in answer.NoMember = refusal_number 4
+answer_in answer.SiteDown = refusal_number 5
+answer_in answer.SiteUp = refusal_number 6
+answer_in answer.NeverSent = refusal_number 7
+answer_in answer.NotAllowed = refusal_number 8
+answer_in answer.CutTooFar = refusal_number 9
 
 -- a bill, with its counts, or refused
-unfoldable pub billIn : Bill → run.Answer
-billIn bill.Refused = refusalNumber 1
-billIn (bill.Costs c) = accepted c
+unfoldable pub bill_in : Bill → run.Answer
+bill_in bill.Refused = refusal_number 1
+bill_in (bill.Costs c) = accepted c
 
 -- what an event gives: its answer with the counts, and the next run
 pub record Seen : Type 0 where
@@ -146,9 +146,9 @@ pub record Seen : Type 0 where
 unfoldable pub seen : run.Result → Seen
 seen x = record { answer = run.answer_of x; run = x.run }
 
-unfoldable pub nextIn : Next → Seen
-nextIn x = record { answer = answer_in x.answer; run = runIn x.run }
+unfoldable pub next_in : Next → Seen
+next_in x = record { answer = answer_in x.answer; run = run_in x.run }
 
 -- what a replay gives, with the lent buffer
-unfoldable pub replayIn : Ran → List ℕ → Replayed
-replayIn x buffer = record { count = x.count; run = runIn x.run; totals = totalsIn x.run; buffer = buffer }
+unfoldable pub replay_in : Ran → List ℕ → Replayed
+replay_in x buffer = record { count = x.count; run = run_in x.run; totals = totals_in x.run; buffer = buffer }

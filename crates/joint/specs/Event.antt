@@ -5,12 +5,12 @@ use Rattle.codec.specs.Lists.{any, every, only_if}
 use Rattle.codec.specs.Sets.{part}
 use Rattle.site.specs.Step.{Message, prepare, messages}
 
-unfoldable pub eventLength : ℕ
-eventLength = 6
+unfoldable pub event_length : ℕ
+event_length = 6
 
 -- in the order of the codes, 0 to 8. t is a transaction, s a site, p a participant
 pub data Event : Type 0 where
-  opening : (t members presumeCommit : ℕ) → Event
+  opening : (t members presume_commit : ℕ) → Event
   beginning : (t : ℕ) → Event
   delivery : (t p : ℕ) → Message → Event
   timeout : (t s : ℕ) → Event
@@ -20,8 +20,8 @@ pub data Event : Type 0 where
   restart : (s : ℕ) → Event
   marking : (t p : ℕ) → Event
 
-unfoldable pub eventOf : ℕ → ℕ → ℕ → ℕ → Event
-eventOf code x y z =
+unfoldable pub event_of : ℕ → ℕ → ℕ → ℕ → Event
+event_of code x y z =
     get_or
     (opening x y z
     ∷ beginning x
@@ -61,8 +61,8 @@ ranges =
     ∷ []
 
 -- at open z is a part of y
-unfoldable pub bytesInRange : ℕ → ℕ → ℕ → ℕ → Bool
-bytesInRange code x y z =
+unfoldable pub bytes_in_range : ℕ → ℕ → ℕ → ℕ → Bool
+bytes_in_range code x y z =
     let row = get_or ranges code [] in
     every
     (leb code 8
@@ -74,8 +74,8 @@ bytesInRange code x y z =
     ∷ [])
 
 -- Cut is 255 for none; a smaller one stands on codes 1, 2, 3, 7. Keep is 0 but on a cut or a crash
-unfoldable pub cutInRange : ℕ → ℕ → ℕ → Bool
-cutInRange code cut keep =
+unfoldable pub cut_in_range : ℕ → ℕ → ℕ → Bool
+cut_in_range code cut keep =
     every
     (leb cut 255
     ∷ leb keep 255
@@ -106,5 +106,5 @@ parse bytes =
     let cut = get_or bytes 4 0 in
     let keep = get_or bytes 5 0 in
     only_if
-    (every (eqb (length bytes) eventLength ∷ bytesInRange code x y z ∷ cutInRange code cut keep ∷ []))
-    (record { event = eventOf code x y z; cut = cut_of code cut keep })
+    (every (eqb (length bytes) event_length ∷ bytes_in_range code x y z ∷ cut_in_range code cut keep ∷ []))
+    (record { event = event_of code x y z; cut = cut_of code cut keep })

@@ -12,4 +12,4 @@ pub mod Screen
 pub mod Answers
 pub mod Program
 pub mod Inside
-pub mod laws
+pub mod Laws

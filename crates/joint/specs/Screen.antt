@@ -6,24 +6,24 @@ use Rattle.site.specs.Presumption.{commit, abort}
 use Rattle.joint.specs.State.{fresh, opened}
 use Rattle.joint.specs.Plan.{transactions}
 use Rattle.joint.specs.Run.{after}
-use Rattle.joint.specs.Safety.{Moment, history, isEntryAt}
-use Rattle.joint.specs.Drill.{eventsIn, newline, ascii, letter, drill}
+use Rattle.joint.specs.Safety.{Moment, history, is_entry_at}
+use Rattle.joint.specs.Drill.{events_in, newline, ascii, letter, drill}
 
 -- ---- a text as lines
 
 -- b in front of the first line
-unfoldable pub inFront : ℕ → List (List ℕ) → List (List ℕ)
-inFront b [] = (b ∷ []) ∷ []
-inFront b (l ∷ ls) = (b ∷ l) ∷ ls
+unfoldable pub in_front : ℕ → List (List ℕ) → List (List ℕ)
+in_front b [] = (b ∷ []) ∷ []
+in_front b (l ∷ ls) = (b ∷ l) ∷ ls
 
 -- the lines of a text, without their newlines
 unfoldable pub lines : List ℕ → List (List ℕ)
 lines [] = []
-lines (b ∷ bytes) = cond (eqb b newline) ([] ∷ lines bytes) (inFront b (lines bytes))
+lines (b ∷ bytes) = cond (eqb b newline) ([] ∷ lines bytes) (in_front b (lines bytes))
 
 -- a line that begins with HANDOVER
-unfoldable pub isHandover : List ℕ → Bool
-isHandover l = same (take (length (ascii "HANDOVER")) l) (ascii "HANDOVER")
+unfoldable pub is_handover : List ℕ → Bool
+is_handover l = same (take (length (ascii "HANDOVER")) l) (ascii "HANDOVER")
 
 -- its letters: what stands behind that word, a space, the transaction's digit and a space
 unfoldable pub letters : List ℕ → List ℕ
@@ -32,21 +32,21 @@ letters l = drop 11 l
 -- ---- the claim
 
 -- no X, and not both C and A
-unfoldable pub oneOutcome : List ℕ → Bool
-oneOutcome l = every (not (any (eqb 88) l) ∷ not (any (eqb 67) l && any (eqb 65) l) ∷ [])
+unfoldable pub one_outcome : List ℕ → Bool
+one_outcome l = every (not (any (eqb 88) l) ∷ not (any (eqb 67) l && any (eqb 65) l) ∷ [])
 
 -- the letter of site s for transaction t, by the entries that happened
-unfoldable pub letterOf : List Moment → ℕ → ℕ → ℕ
-letterOf h t s = letter (any (isEntryAt t s commit) h) (any (isEntryAt t s abort) h)
+unfoldable pub letter_of : List Moment → ℕ → ℕ → ℕ
+letter_of h t s = letter (any (is_entry_at t s commit) h) (any (is_entry_at t s abort) h)
 
 pub record Screen (input : List ℕ) : Type 0 where
   -- there is a line for each opened transaction, and its letters are what happened
   pub shown :
-      let h = history fresh (eventsIn input) in
-      map letters (select isHandover (lines (drill input)))
-      ≡ map (λ t. map (letterOf h t) (0 ∷ participants)) (select (opened (after fresh (eventsIn input))) transactions)
+      let h = history fresh (events_in input) in
+      map letters (select is_handover (lines (drill input)))
+      ≡ map (λ t. map (letter_of h t) (0 ∷ participants)) (select (opened (after fresh (events_in input))) transactions)
   -- no line HANDOVER holds an X, and none holds both a C and an A
-  pub agreed : T (all (λ l. oneOutcome (letters l)) (select isHandover (lines (drill input))))
+  pub agreed : T (all (λ l. one_outcome (letters l)) (select is_handover (lines (drill input))))
 
 -- every input, of any bytes
 abbrev pub EveryScreen : Type 0

@@ -3,10 +3,10 @@
 use Rattle.std.specs.Prelude.{ℕ, zero, suc, ◌/◌, ◌%◌, ◌^◌, Bool, true, false, cond, not, ◌&&◌, ◌||◌, List, [], ◌∷◌, ◌++◌, length, eqb}
 use Rattle.codec.specs.Lists.{any}
 use Rattle.codec.specs.Sets.{member, empty}
-use Rattle.codec.specs.Records.{LogRecord, ofTransaction, membersIn, presumeCommitIn}
-use Rattle.site.specs.Presumption.{Outcome, sameOutcome}
+use Rattle.codec.specs.Records.{LogRecord, of_transaction, members_in, presume_commit_in}
+use Rattle.site.specs.Presumption.{Outcome, same_outcome}
 use Rattle.site.specs.Cohort.{Cohort}
-use Rattle.site.specs.Step.{messageKind, Effect, append, force, enter, send}
+use Rattle.site.specs.Step.{message_kind, Effect, append, force, enter, send}
 use Rattle.site.specs.Coordinator.{CoordinatorPhase, Coordinator}
 use Rattle.site.specs.Participant.{ParticipantPhase}
 
@@ -33,8 +33,8 @@ pub record Run : Type 0 where
   pub transaction : ℕ → Transaction
 
 -- a coordinator part in Unknown: nobody is taken out
-abbrev pub unknownPart : Coordinator
-unknownPart = record { phase = CoordinatorPhase.unknown; takenOut = 0 }
+abbrev pub unknown_part : Coordinator
+unknown_part = record { phase = CoordinatorPhase.unknown; taken_out = 0 }
 
 -- A fresh run has every site up, each phase Unknown, no record and no message.
 unfoldable pub fresh : Run
@@ -43,8 +43,8 @@ fresh =
       site = λ s. record { up = true; stable = []; unforced = [] };
       transaction =
           λ t. record {
-            cohort = record { members = 0; presumeCommit = 0 };
-            coordinator = unknownPart;
+            cohort = record { members = 0; presume_commit = 0 };
+            coordinator = unknown_part;
             participant = λ p. ParticipantPhase.unknown;
             marked = λ p. false;
             sent = λ p k. false;
@@ -56,11 +56,11 @@ fresh =
 unfoldable pub update {ℓ} : {A : Type ℓ} → ℕ → (A → A) → (ℕ → A) → ℕ → A
 update i g f j = cond (eqb j i) (g (f j)) (f j)
 
-unfoldable pub atSite : ℕ → (Site → Site) → Run → Run
-atSite s g r = record { site = update s g r.site; transaction = r.transaction }
+unfoldable pub at_site : ℕ → (Site → Site) → Run → Run
+at_site s g r = record { site = update s g r.site; transaction = r.transaction }
 
-unfoldable pub atTransaction : ℕ → (Transaction → Transaction) → Run → Run
-atTransaction t g r = record { site = r.site; transaction = update t g r.transaction }
+unfoldable pub at_transaction : ℕ → (Transaction → Transaction) → Run → Run
+at_transaction t g r = record { site = r.site; transaction = update t g r.transaction }
 
 unfoldable pub opened : Run → ℕ → Bool
 opened r t = not (empty (r.transaction t).cohort.members)
@@ -71,29 +71,29 @@ names members zero = true
 names members (suc n) = member (suc n) members
 
 -- the coordinator takes part in each transaction, a participant in those that it is a member of
-unfoldable pub takesPart : Transaction → ℕ → Bool
-takesPart x s = names x.cohort.members s
+unfoldable pub takes_part : Transaction → ℕ → Bool
+takes_part x s = names x.cohort.members s
 
 -- A site has a participant part and a coordinator part. The cohort as opened stands in the transaction; the cohort that a site coordinates:
 -- at site 0 the opened one, elsewhere nobody
-abbrev pub cohortAt : Transaction → ℕ → Cohort
-cohortAt x zero = x.cohort
-cohortAt x (suc n) = record { members = 0; presumeCommit = 0 }
+abbrev pub cohort_at : Transaction → ℕ → Cohort
+cohort_at x zero = x.cohort
+cohort_at x (suc n) = record { members = 0; presume_commit = 0 }
 
 -- the coordinator part of site s
-abbrev pub coordinatorAt : Transaction → ℕ → Coordinator
-coordinatorAt x zero = x.coordinator
-coordinatorAt x (suc n) = unknownPart
+abbrev pub coordinator_at : Transaction → ℕ → Coordinator
+coordinator_at x zero = x.coordinator
+coordinator_at x (suc n) = unknown_part
 
 -- a log has a record of kind k of transaction t
 unfoldable pub holds : ℕ → ℕ → List LogRecord → Bool
-holds t k log = any (λ x. ofTransaction t x && eqb x.kind k) log
+holds t k log = any (λ x. of_transaction t x && eqb x.kind k) log
 
 -- the cohort in the oldest record of kind k of transaction t
-unfoldable pub recordedCohort : ℕ → ℕ → List LogRecord → Cohort
-recordedCohort t k [] = record { members = 0; presumeCommit = 0 }
-recordedCohort t k (x ∷ xs) =
-    cond (ofTransaction t x && eqb x.kind k) (record { members = membersIn x; presumeCommit = presumeCommitIn x }) (recordedCohort t k xs)
+unfoldable pub recorded_cohort : ℕ → ℕ → List LogRecord → Cohort
+recorded_cohort t k [] = record { members = 0; presume_commit = 0 }
+recorded_cohort t k (x ∷ xs) =
+    cond (of_transaction t x && eqb x.kind k) (record { members = members_in x; presume_commit = presume_commit_in x }) (recorded_cohort t k xs)
 
 -- ---- changes of a site
 
@@ -110,8 +110,8 @@ survivors keep [] = []
 survivors keep (x ∷ xs) = cond (eqb (keep % 2) 1) (x ∷ survivors (keep / 2) xs) (survivors (keep / 2) xs)
 
 -- what keep may be then: no bit is set at or above their number
-unfoldable pub mayKeep : ℕ → List LogRecord → Bool
-mayKeep keep unforced = eqb (keep / 2 ^ length unforced) 0
+unfoldable pub may_keep : ℕ → List LogRecord → Bool
+may_keep keep unforced = eqb (keep / 2 ^ length unforced) 0
 
 -- down: the survivors become stable, the rest is lost
 unfoldable pub stopped : ℕ → Site → Site
@@ -123,8 +123,8 @@ started s = record { up = true; stable = s.stable; unforced = s.unforced }
 -- ---- changes of a transaction
 
 -- the coordinator part of site s
-unfoldable pub withCoordinator : ℕ → Coordinator → Transaction → Transaction
-withCoordinator zero c x =
+unfoldable pub with_coordinator : ℕ → Coordinator → Transaction → Transaction
+with_coordinator zero c x =
     record {
       cohort = x.cohort;
       coordinator = c;
@@ -133,10 +133,10 @@ withCoordinator zero c x =
       sent = x.sent;
       entered = x.entered;
     }
-withCoordinator (suc n) c x = x
+with_coordinator (suc n) c x = x
 
-unfoldable pub withParticipant : ℕ → ParticipantPhase → Transaction → Transaction
-withParticipant p c x =
+unfoldable pub with_participant : ℕ → ParticipantPhase → Transaction → Transaction
+with_participant p c x =
     record {
       cohort = x.cohort;
       coordinator = x.coordinator;
@@ -147,8 +147,8 @@ withParticipant p c x =
     }
 
 -- a mark stays; it means something while the participant is Working
-unfoldable pub withMarked : ℕ → Transaction → Transaction
-withMarked p x =
+unfoldable pub with_marked : ℕ → Transaction → Transaction
+with_marked p x =
     record {
       cohort = x.cohort;
       coordinator = x.coordinator;
@@ -159,8 +159,8 @@ withMarked p x =
     }
 
 -- a message once sent stays sent
-unfoldable pub withSent : ℕ → ℕ → Transaction → Transaction
-withSent p k x =
+unfoldable pub with_sent : ℕ → ℕ → Transaction → Transaction
+with_sent p k x =
     record {
       cohort = x.cohort;
       coordinator = x.coordinator;
@@ -171,20 +171,20 @@ withSent p k x =
     }
 
 -- an entry is never erased
-unfoldable pub withEntered : ℕ → Outcome → Transaction → Transaction
-withEntered s o x =
+unfoldable pub with_entered : ℕ → Outcome → Transaction → Transaction
+with_entered s o x =
     record {
       cohort = x.cohort;
       coordinator = x.coordinator;
       participant = x.participant;
       marked = x.marked;
       sent = x.sent;
-      entered = λ z d. (eqb z s && sameOutcome d o) || x.entered z d;
+      entered = λ z d. (eqb z s && same_outcome d o) || x.entered z d;
     }
 
 -- the phases at site s are Unknown, and the set taken out is gone with them
 unfoldable pub forgotten : ℕ → Transaction → Transaction
-forgotten s x = withCoordinator s unknownPart (withParticipant s ParticipantPhase.unknown x)
+forgotten s x = with_coordinator s unknown_part (with_participant s ParticipantPhase.unknown x)
 
 -- ---- site s goes down: all phases there are Unknown
 
@@ -199,12 +199,12 @@ pub record Act : Type 0 where
   pub effect : Effect
 
 unfoldable pub perform : ℕ → ℕ → Effect → Run → Run
-perform s t (append k fs) r = atSite s (appended (record { kind = k; transaction = t; fields = fs })) r
-perform s t force r = atSite s forced r
-perform s t (enter o) r = atTransaction t (withEntered s o) r
-perform s t (send m p) r = atTransaction t (withSent p (messageKind m)) r
+perform s t (append k fs) r = at_site s (appended (record { kind = k; transaction = t; fields = fs })) r
+perform s t force r = at_site s forced r
+perform s t (enter o) r = at_transaction t (with_entered s o) r
+perform s t (send m p) r = at_transaction t (with_sent p (message_kind m)) r
 
 -- acts in turn at site s
-unfoldable pub performAll : ℕ → List Act → Run → Run
-performAll s [] r = r
-performAll s (a ∷ rest) r = performAll s rest (perform s a.transaction a.effect r)
+unfoldable pub perform_all : ℕ → List Act → Run → Run
+perform_all s [] r = r
+perform_all s (a ∷ rest) r = perform_all s rest (perform s a.transaction a.effect r)

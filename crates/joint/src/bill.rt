@@ -1,7 +1,7 @@
 // The bill: what a clean run of a transaction costs (02).
 ghost use Rattle.std.specs.Prelude.{◌≡◌};
-ghost use Rattle.joint.specs.Bill.{billFor, billNumber};
-ghost use Rattle.joint.specs.Answers.{billIn};
+ghost use Rattle.joint.specs.Bill.{bill_for, bill_number};
+ghost use Rattle.joint.specs.Answers.{bill_in};
 
 use crate::answers::Counts;
 use codec::sets::{part, size};
@@ -16,7 +16,7 @@ pub enum Bill {
 impl Bill {
     // In 02's letters: n members, c of them presume commit, a do not.
     pub fn of(members: u8, presume_commit: u8) -> Bill
-        ensures { billIn result ≡ billFor members presume_commit }
+        ensures { bill_in result ≡ bill_for members presume_commit }
     {
         if (members == 0) | !part(presume_commit, members) {
             return Bill::Refused;
@@ -35,7 +35,7 @@ impl Bill {
 
     // Answer, records, forces and sends as the bytes of one number, the lowest first.
     pub fn number(self) -> u32
-        ensures { result ≡ billNumber (billIn self) }
+        ensures { result ≡ bill_number (bill_in self) }
     {
         match self {
             Bill::Refused => 1,

@@ -3,12 +3,12 @@ ghost use Rattle.std.specs.Prelude.{◌≡◌, true, not, ◌∷◌, ℕ, get_or
 ghost use Rattle.std.proofs.Math.Option.{none, some};
 ghost use Rattle.codec.specs.Lists.{any};
 ghost use Rattle.codec.specs.Sets.{listed};
-ghost use Rattle.site.specs.Answers.{effectsIn};
+ghost use Rattle.site.specs.Answers.{effects_in};
 ghost use Rattle.joint.specs.State as plain;
 ghost use Rattle.joint.specs.Event as event;
 ghost use Rattle.joint.specs.Run as run;
-ghost use Rattle.joint.specs.Answers.{siteFrom, no_site, transactionIn, seen};
-ghost use Rattle.joint.specs.Inside.{planIn, changeIn, Here, Fits, Asks, inputEvent, cutFrom, taken};
+ghost use Rattle.joint.specs.Answers.{site_from, no_site, transaction_in, seen};
+ghost use Rattle.joint.specs.Inside.{plan_in, change_in, Here, Fits, Asks, input_event, cut_from, taken};
 ghost use Rattle.joint.specs.Program.{room_for};
 
 use crate::answers::Answer;
@@ -33,7 +33,7 @@ pub enum Change {
 
 // A row of a transaction; or, up to the cut, the first effects of it, and then the site goes down.
 fn carry(site: Site, transaction: u8, row: Row, cut: u8, keep: u8) -> Change
-    ensures { (w : plain.Run) (s : ℕ) → Here site w s → Fits (effectsIn transaction row.effects) (w.site s) → changeIn w s transaction result ≡ seen (run.carry w (planIn s transaction row) (cutFrom cut keep)) }
+    ensures { (w : plain.Run) (s : ℕ) → Here site w s → Fits (effects_in transaction row.effects) (w.site s) → change_in w s transaction result ≡ seen (run.carry w (plan_in s transaction row) (cut_from cut keep)) }
 {
     if cut == Run::NO_CUT {
         return Change::Happens(row);
@@ -73,7 +73,7 @@ fn all_up(sites: [Site; Run::SITES], members: u8) -> bool
 }
 
 pub(crate) fn open(sites: [Site; Run::SITES], before: Transaction, e: Opening) -> Change
-    ensures { (w : plain.Run) → ((i : ℕ) → (get_or sites i no_site).up ≡ (w.site i).up) → transactionIn before ≡ w.transaction e.transaction → changeIn w 0 e.transaction result ≡ taken w (event.opening e.transaction e.members e.presume_commit) none }
+    ensures { (w : plain.Run) → ((i : ℕ) → (get_or sites i no_site).up ≡ (w.site i).up) → transaction_in before ≡ w.transaction e.transaction → change_in w 0 e.transaction result ≡ taken w (event.opening e.transaction e.members e.presume_commit) none }
 {
     if before.opened() {
         return Change::Refused(Answer::OpenedBefore);
@@ -92,13 +92,13 @@ pub(crate) fn open(sites: [Site; Run::SITES], before: Transaction, e: Opening) -
 
 // Begin, a message or a timer. Begin and a timer are refused where there is no row.
 pub(crate) fn input(site: Site, before: Transaction, e: Input) -> Change
-    requires { Asks (inputEvent e.kind e.transaction e.participant) e.transaction e.site e.kind e.participant }
-    ensures { (w : plain.Run) → Here site w e.site → transactionIn before ≡ w.transaction e.transaction → room_for w (inputEvent e.kind e.transaction e.participant) ≡ true → changeIn w e.site e.transaction result ≡ taken w (inputEvent e.kind e.transaction e.participant) (cutFrom e.cut e.keep) }
+    requires { Asks (input_event e.kind e.transaction e.participant) e.transaction e.site e.kind e.participant }
+    ensures { (w : plain.Run) → Here site w e.site → transaction_in before ≡ w.transaction e.transaction → room_for w (input_event e.kind e.transaction e.participant) ≡ true → change_in w e.site e.transaction result ≡ taken w (input_event e.kind e.transaction e.participant) (cut_from e.cut e.keep) }
 {
     if !before.opened() {
         return Change::Refused(Answer::NeverOpened);
     }
-    if !before.takes_part(e.participant) {
+    if !before.takes_part_lem(e.participant) {
         return Change::Refused(Answer::NoMember);
     }
     if !site.up {
@@ -120,7 +120,7 @@ pub(crate) fn input(site: Site, before: Transaction, e: Input) -> Change
 }
 
 pub(crate) fn force(site: Site) -> Change
-    ensures { (w : plain.Run) (s t : ℕ) → Here site w s → changeIn w s t result ≡ taken w (event.forcing s) none }
+    ensures { (w : plain.Run) (s t : ℕ) → Here site w s → change_in w s t result ≡ taken w (event.forcing s) none }
 {
     if !site.up {
         return Change::Refused(Answer::SiteDown);
@@ -135,12 +135,12 @@ pub(crate) fn force(site: Site) -> Change
 
 // The oldest record is dropped; with the last one gone a participant is Unknown.
 pub(crate) fn discard(site: Site, records: Records, before: Transaction, e: Discarding) -> Change
-    ensures { (w : plain.Run) → siteFrom site records.of ≡ w.site e.site → transactionIn before ≡ w.transaction e.transaction → changeIn w e.site e.transaction result ≡ taken w (event.discarding e.transaction e.site) none }
+    ensures { (w : plain.Run) → site_from site records.of ≡ w.site e.site → transaction_in before ≡ w.transaction e.transaction → change_in w e.site e.transaction result ≡ taken w (event.discarding e.transaction e.site) none }
 {
     if !before.opened() {
         return Change::Refused(Answer::NeverOpened);
     }
-    if !before.takes_part(e.site) {
+    if !before.takes_part_lem(e.site) {
         return Change::Refused(Answer::NoMember);
     }
     if !site.up {
@@ -161,7 +161,7 @@ pub(crate) fn discard(site: Site, records: Records, before: Transaction, e: Disc
 
 // An event of no effects, cut there.
 pub(crate) fn crash(site: Site, keep: u8) -> Change
-    ensures { (w : plain.Run) (s t : ℕ) → Here site w s → changeIn w s t result ≡ taken w (event.crash s) (some (0, keep)) }
+    ensures { (w : plain.Run) (s t : ℕ) → Here site w s → change_in w s t result ≡ taken w (event.crash s) (some (0, keep)) }
 {
     if !site.up {
         return Change::Refused(Answer::SiteDown);
@@ -177,12 +177,12 @@ pub(crate) fn crash(site: Site, keep: u8) -> Change
 
 // A participant that only looked is marked, while it is Working.
 pub(crate) fn mark(site: Site, before: Transaction, e: Marking) -> Change
-    ensures { (w : plain.Run) → Here site w e.participant → transactionIn before ≡ w.transaction e.transaction → changeIn w e.participant e.transaction result ≡ taken w (event.marking e.transaction e.participant) none }
+    ensures { (w : plain.Run) → Here site w e.participant → transaction_in before ≡ w.transaction e.transaction → change_in w e.participant e.transaction result ≡ taken w (event.marking e.transaction e.participant) none }
 {
     if !before.opened() {
         return Change::Refused(Answer::NeverOpened);
     }
-    if !before.takes_part(e.participant) {
+    if !before.takes_part_lem(e.participant) {
         return Change::Refused(Answer::NoMember);
     }
     if !site.up {

@@ -2,8 +2,8 @@
 ghost use Rattle.std.specs.Prelude.{◌≡◌, not, ◌&&◌, ◌||◌, eqb, get_or};
 ghost use Rattle.site.specs.Step as step;
 ghost use Rattle.site.specs.Step.{messages, prepare};
-ghost use Rattle.joint.specs.Event.{bytesInRange, cutInRange, parse};
-ghost use Rattle.joint.specs.Inside.{eventIn, InRange, stepSite, stepTransaction};
+ghost use Rattle.joint.specs.Event.{bytes_in_range, cut_in_range, parse};
+ghost use Rattle.joint.specs.Inside.{event_in, InRange, step_site, step_transaction};
 
 use crate::run::Run;
 use codec::message::Parts;
@@ -90,7 +90,7 @@ fn may_cut(cut: u8, keep: u8) -> bool
 // Whether an event's bytes are in their ranges: unused x, y, z are 0, and at open z is a part of y. A cut stands on codes
 // 1, 2, 3, 7; keep is 0 but on a cut or a crash.
 fn in_range(code: u8, x: u8, y: u8, z: u8, cut: u8, keep: u8) -> bool
-    ensures { result ≡ (bytesInRange code x y z && cutInRange code cut keep) }
+    ensures { result ≡ (bytes_in_range code x y z && cut_in_range code cut keep) }
 {
     match code {
         Run::OPEN => (x <= Parts::LAST_TRANSACTION) & (1 <= y) & part(z, y) & uncut(cut, keep),
@@ -139,7 +139,7 @@ fn receiver(kind: u8, participant: u8) -> u8
 
 impl Event {
     pub fn read(bytes: &[u8]) -> Event
-        ensures { (eventIn result ≡ parse bytes.now) × InRange result }
+        ensures { (event_in result ≡ parse bytes.now) × InRange result }
     {
         if bytes.len() != Run::EVENT_LENGTH {
             return Event::Malformed;
@@ -201,7 +201,7 @@ impl Event {
 impl Step {
     // An open is at the coordinator.
     pub fn site(self) -> u8
-        ensures { result ≡ stepSite self }
+        ensures { result ≡ step_site self }
     {
         match self {
             Step::Open(_) => 0,
@@ -215,7 +215,7 @@ impl Step {
 
     // 0 where it names none.
     pub fn transaction(self) -> u8
-        ensures { result ≡ stepTransaction self }
+        ensures { result ≡ step_transaction self }
     {
         match self {
             Step::Open(e) => e.transaction,

@@ -1,14 +1,14 @@
 // The records of a site's log. Its counts stand apart (src/sites.rt): only what appends, drops or reads a record comes here.
 ghost use Rattle.std.specs.Prelude.{◌≡◌, cond, ◌||◌, map, ℕ, ◌≤◌, eqb, take, get_or};
 ghost use Rattle.codec.specs.Lists.{select, any};
-ghost use Rattle.codec.specs.Records.{ofTransaction};
-ghost use Rattle.codec.specs.Answers.{recordIn, written};
-ghost use Rattle.codec.specs.Image.{writeImage};
-ghost use Rattle.site.specs.Answers.{cohortIn, hasKind, effectsIn};
-ghost use Rattle.joint.specs.State.{holds, recordedCohort, stopped};
+ghost use Rattle.codec.specs.Records.{of_transaction};
+ghost use Rattle.codec.specs.Answers.{record_in, written};
+ghost use Rattle.codec.specs.Image.{write_image};
+ghost use Rattle.site.specs.Answers.{cohort_in, has_kind, effects_in};
+ghost use Rattle.joint.specs.State.{holds, recorded_cohort, stopped};
 ghost use Rattle.joint.specs.Plan as plan;
-ghost use Rattle.joint.specs.Answers.{siteFrom, noRecords};
-ghost use Rattle.joint.specs.Inside.{oldestAt, sought, put_at, putRow, rowSite, Fits};
+ghost use Rattle.joint.specs.Answers.{site_from, no_records};
+ghost use Rattle.joint.specs.Inside.{oldest_at, sought, put_at, put_row, row_site, Fits};
 
 use crate::rows::{Row, Then};
 use crate::run::Run;
@@ -42,14 +42,14 @@ pub struct Kinds {
 // With one bit more.
 pub(crate) fn with_bit(set: u16, at: u8) -> u16
     requires { at ≤ 15 }
-    ensures { (k : ℕ) → hasKind result k ≡ (eqb k at || hasKind set k) }
+    ensures { (k : ℕ) → has_kind result k ≡ (eqb k at || has_kind set k) }
 {
     set | (1 << at)
 }
 
 // Whether a record closes its transaction at its site: 3, 4, or 2 without PrA members; 6 or 7.
 fn closes(x: Record) -> bool
-    ensures { result ≡ plan.closes (recordIn x) }
+    ensures { result ≡ plan.closes (record_in x) }
 {
     let kind = x.kind;
     match kind {
@@ -61,7 +61,7 @@ fn closes(x: Record) -> bool
 
 impl Records {
     pub fn new() -> Records
-        ensures { result ≡ noRecords }
+        ensures { result ≡ no_records }
     {
         Records {
             of: [Record::NONE; Log::COORDINATOR_MOST],
@@ -83,7 +83,7 @@ impl Records {
     // A row's records of a transaction, behind the first `count`.
     fn append(self, count: usize, transaction: u8, effects: Effects) -> Records
         requires { count ≤ 24 }
-        ensures { result.of ≡ putRow count transaction effects self.of }
+        ensures { result.of ≡ put_row count transaction effects self.of }
     {
         let first = self.put(
             count,
@@ -112,7 +112,7 @@ impl Records {
 
     // After a row of a transaction, with the counts of its site.
     pub(crate) fn after(self, site: Site, transaction: u8, row: Row) -> SiteLog
-        ensures { Fits (effectsIn transaction row.effects) (siteFrom site self.of) → siteFrom result.site result.records.of ≡ rowSite transaction row (siteFrom site self.of) }
+        ensures { Fits (effects_in transaction row.effects) (site_from site self.of) → site_from result.site result.records.of ≡ row_site transaction row (site_from site self.of) }
     {
         let effects = row.effects;
         let then = row.then;
@@ -131,7 +131,7 @@ impl Records {
     // The site goes down. Of its unforced records those survive whose bit is set, bit 0 for the oldest, and close up behind
     // the stable ones.
     pub(crate) fn stop(self, site: Site, keep: u8) -> SiteLog
-        ensures { siteFrom result.site result.records.of ≡ stopped keep (siteFrom site self.of) }
+        ensures { site_from result.site result.records.of ≡ stopped keep (site_from site self.of) }
     {
         let stable = site.stable_count();
         let unforced = site.unforced_count();
@@ -160,7 +160,7 @@ impl Records {
     // The kinds of the first `count` records of each transaction.
     pub(crate) fn kinds(self, count: usize) -> Kinds
         requires { count ≤ 24 }
-        ensures { (t k : ℕ) → t ≤ 7 → k ≤ 7 → hasKind (get_or result.of t 0) k ≡ holds t k (take count (map recordIn self.of)) }
+        ensures { (t k : ℕ) → t ≤ 7 → k ≤ 7 → has_kind (get_or result.of t 0) k ≡ holds t k (take count (map record_in self.of)) }
     {
         let records = self.of;
         let mut kinds = [0u16; Run::TRANSACTIONS];
@@ -179,7 +179,7 @@ impl Records {
     // Whether the newest of the first `count` records of a transaction closes it.
     pub(crate) fn may_discard(self, transaction: u8, count: usize) -> bool
         requires { count ≤ 24 }
-        ensures { result ≡ plan.newest plan.closes (select (ofTransaction transaction) (take count (map recordIn self.of))) }
+        ensures { result ≡ plan.newest plan.closes (select (of_transaction transaction) (take count (map record_in self.of))) }
     {
         let records = self.of;
         let mut i = count;
@@ -197,7 +197,7 @@ impl Records {
     // `count`, where there is none.
     fn oldest(self, transaction: u8, kind: u8, count: usize) -> usize
         requires { count ≤ 24 }
-        ensures { result ≡ oldestAt (sought transaction kind) (take count (map recordIn self.of)) }
+        ensures { result ≡ oldest_at (sought transaction kind) (take count (map record_in self.of)) }
     {
         let records = self.of;
         let mut i = 0;
@@ -214,7 +214,7 @@ impl Records {
     // The cohort in the oldest of the first `count` records of a transaction that is Commit, or that is Init.
     pub(crate) fn cohort(self, transaction: u8, commit: bool, count: usize) -> Coordinator
         requires { count ≤ 24 }
-        ensures { cohortIn result ≡ recordedCohort transaction (cond commit 2 1) (take count (map recordIn self.of)) }
+        ensures { cohort_in result ≡ recorded_cohort transaction (cond commit 2 1) (take count (map record_in self.of)) }
     {
         let kind = if commit { Record::COMMIT } else { Record::INIT };
         let oldest = self.oldest(transaction, kind, count);
@@ -237,7 +237,7 @@ impl Records {
 
     // Without the oldest stable record of a transaction.
     pub(crate) fn trim(self, site: Site, transaction: u8) -> SiteLog
-        ensures { siteFrom result.site result.records.of ≡ plan.trimmed transaction (siteFrom site self.of) }
+        ensures { site_from result.site result.records.of ≡ plan.trimmed transaction (site_from site self.of) }
     {
         let stable = site.stable_count();
         let oldest = self.oldest(transaction, 0, stable);
@@ -269,7 +269,7 @@ impl Records {
     // Whether the first `count` have one of a transaction.
     pub(crate) fn remember(self, transaction: u8, count: usize) -> bool
         requires { count ≤ 24 }
-        ensures { result ≡ any (ofTransaction transaction) (take count (map recordIn self.of)) }
+        ensures { result ≡ any (of_transaction transaction) (take count (map record_in self.of)) }
     {
         self.oldest(transaction, 0, count) < count
     }
@@ -277,7 +277,7 @@ impl Records {
     // The image of the first `count`, as the log of site `number`, from `at` on: 0, or 21, 23, 27, 28, 24, 25 and the buffer as it was.
     pub(crate) fn write_log(self, number: u8, count: usize, buffer: &mut [u8], at: usize) -> u8
         requires { count ≤ 24 }
-        ensures { written result buffer.new ≡ writeImage number (take count (map recordIn self.of)) at buffer.old }
+        ensures { written result buffer.new ≡ write_image number (take count (map record_in self.of)) at buffer.old }
     {
         let records = self.of;
         let log = Log {

@@ -1,8 +1,8 @@
 // Events run one after the other: a list of them from the fresh run, or one.
 ghost use Rattle.std.specs.Prelude.{◌≡◌, ◌+◌, ◌*◌, ◌≤◌, length};
 ghost use Rattle.codec.specs.Image.{stored};
-ghost use Rattle.joint.specs.Drill.{answerBytes, replayed};
-ghost use Rattle.joint.specs.Answers.{answer_in, runIn, forcesIn, replayIn};
+ghost use Rattle.joint.specs.Drill.{answer_bytes, replayed};
+ghost use Rattle.joint.specs.Answers.{answer_in, run_in, forces_in, replay_in};
 ghost use Rattle.joint.specs.Program.{Takes};
 ghost use Rattle.joint.specs.Inside.{Goes};
 
@@ -24,7 +24,7 @@ pub struct Ran {
 // Stores an answer and its counts of records, forces and sends, a byte each.
 fn store(answer: Answer, answers: &mut [u8], at: usize)
     requires { at + 4 ≤ length answers.old }
-    ensures { answers.new ≡ stored at (answerBytes (answer_in answer)) answers.old }
+    ensures { answers.new ≡ stored at (answer_bytes (answer_in answer)) answers.old }
 {
     answers[at] = answer.number();
     answers[at + 1] = answer.records();
@@ -36,7 +36,7 @@ fn store(answer: Answer, answers: &mut [u8], at: usize)
 // each, in `answers`. Each is read, decided, and what it changes is stored, its forces counted; a refusal changes nothing.
 fn go(run: Run, bytes: &[u8], answers: &mut [u8], events: usize) -> Ran
     requires { (4 * events ≤ length answers.old) × (6 * events ≤ length bytes.now + 5) }
-    ensures { Goes (runIn run) (forcesIn run) events bytes.now answers.old answers.new result }
+    ensures { Goes (run_in run) (forces_in run) events bytes.now answers.old answers.new result }
 {
     let len = bytes.len();
     let mut run = run;
@@ -140,7 +140,7 @@ fn go(run: Run, bytes: &[u8], answers: &mut [u8], events: usize) -> Ran
 // Runs the events in `bytes`, six bytes each, the last perhaps broken, and stores their answers, four bytes each, in
 // `answers`. Where `answers` is too short for all, no event is run.
 pub fn replay(bytes: &[u8], answers: &mut [u8]) -> Ran
-    ensures { replayIn result answers.new ≡ replayed bytes.now answers.old }
+    ensures { replay_in result answers.new ≡ replayed bytes.now answers.old }
 {
     let len = bytes.len();
     let events = (len + (Run::EVENT_LENGTH - 1)) / Run::EVENT_LENGTH;

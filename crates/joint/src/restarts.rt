@@ -1,11 +1,11 @@
 // Restart of a site, in each opened transaction; and power that goes at a site.
 ghost use Rattle.std.specs.Prelude.{◌≡◌, map, ◌≤◌, take};
-ghost use Rattle.codec.specs.Answers.{recordIn};
+ghost use Rattle.codec.specs.Answers.{record_in};
 ghost use Rattle.joint.specs.State as plain;
 ghost use Rattle.joint.specs.State.{forgotten};
 ghost use Rattle.joint.specs.Event as event;
-ghost use Rattle.joint.specs.Answers.{siteFrom, transactionsIn};
-ghost use Rattle.joint.specs.Inside.{KindsOf, resumedIn, resumed, restartedIn, taken, cutFrom};
+ghost use Rattle.joint.specs.Answers.{site_from, transactions_in};
+ghost use Rattle.joint.specs.Inside.{KindsOf, resumed_in, resumed, restarted_in, taken, cut_from};
 
 use crate::answers::{Answer, Counts};
 use crate::events::Restart;
@@ -38,7 +38,7 @@ pub(crate) fn forget_all(
     site: usize,
 ) -> [Transaction; Run::TRANSACTIONS]
     requires { site ≤ 8 }
-    ensures { transactionsIn result ≡ (λ t. forgotten site (transactionsIn transactions t)) }
+    ensures { transactions_in result ≡ (λ t. forgotten site (transactions_in transactions t)) }
 {
     let mut transactions = transactions;
     let mut i: usize = 0;
@@ -61,7 +61,7 @@ fn resume_all(
     cut: u8,
 ) -> Resumed
     requires { (site ≤ 8) × (count ≤ 24) }
-    ensures { (x : plain.Run) → transactionsIn transactions ≡ x.transaction → KindsOf kinds.of x site → take count (map recordIn records.of) ≡ (x.site site).stable → resumedIn result ≡ resumed x site cut }
+    ensures { (x : plain.Run) → transactions_in transactions ≡ x.transaction → KindsOf kinds.of x site → take count (map record_in records.of) ≡ (x.site site).stable → resumed_in result ≡ resumed x site cut }
 {
     let kinds = kinds.of;
     let mut transactions = transactions;
@@ -98,7 +98,7 @@ pub(crate) fn restart(
     e: Restart,
 ) -> Restarted
     requires { e.site ≤ 8 }
-    ensures { (x : plain.Run) → siteFrom site records.of ≡ x.site e.site → transactionsIn transactions ≡ x.transaction → restartedIn e.site x result ≡ taken x (event.restart e.site) (cutFrom e.cut e.keep) }
+    ensures { (x : plain.Run) → site_from site records.of ≡ x.site e.site → transactions_in transactions ≡ x.transaction → restarted_in e.site x result ≡ taken x (event.restart e.site) (cut_from e.cut e.keep) }
 {
     if site.up {
         return Restarted {

@@ -1,15 +1,15 @@
 // One site's row in a transaction, by site's step or restart, and what follows its effects.
 ghost use Rattle.std.specs.Prelude.{◌≡◌, true, ◌&&◌, ◌||◌, map, ℕ, ◌≤◌, leb, take};
 ghost use Rattle.codec.specs.Sets.{member};
-ghost use Rattle.codec.specs.Answers.{recordIn};
+ghost use Rattle.codec.specs.Answers.{record_in};
 ghost use Rattle.site.specs.Numbers.{input_of, receives};
-ghost use Rattle.site.specs.Cohort.{presumptionOf};
-ghost use Rattle.site.specs.Answers.{participantIn, presumptionIn, hasKind};
+ghost use Rattle.site.specs.Cohort.{presumption_of};
+ghost use Rattle.site.specs.Answers.{participant_in, presumption_in, has_kind};
 ghost use Rattle.joint.specs.State as plain;
 ghost use Rattle.joint.specs.State.{holds};
 ghost use Rattle.joint.specs.Plan as plan;
-ghost use Rattle.joint.specs.Answers.{transactionIn};
-ghost use Rattle.joint.specs.Inside.{planIn, foundIn, writesLog, goesDown, MayReceive};
+ghost use Rattle.joint.specs.Answers.{transaction_in};
+ghost use Rattle.joint.specs.Inside.{plan_in, found_in, writes_log, goes_down, MayReceive};
 
 use crate::records::Records;
 use crate::transactions::Transaction;
@@ -61,7 +61,7 @@ impl Row {
 
     // Whether it appends, drops or keeps a record.
     pub fn writes(self) -> bool
-        ensures { result ≡ writesLog self }
+        ensures { result ≡ writes_log self }
     {
         let effects = self.effects;
         let then = self.then;
@@ -77,7 +77,7 @@ impl Row {
 
     // Whether the site is down after it.
     pub fn goes_down(self) -> bool
-        ensures { result ≡ goesDown self.then }
+        ensures { result ≡ goes_down self.then }
     {
         let then = self.then;
         match then {
@@ -88,7 +88,7 @@ impl Row {
 
     fn participant(transaction: Transaction, number: u8) -> Participant
         requires { number ≤ 8 }
-        ensures { (result.number ≡ number) × ((participantIn result.phase ≡ (transactionIn transaction).participant number) × ((presumptionIn result.presumption ≡ presumptionOf (transactionIn transaction).cohort number) × (result.marked ≡ (transactionIn transaction).marked number))) }
+        ensures { (result.number ≡ number) × ((participant_in result.phase ≡ (transaction_in transaction).participant number) × ((presumption_in result.presumption ≡ presumption_of (transaction_in transaction).cohort number) × (result.marked ≡ (transaction_in transaction).marked number))) }
     {
         let coordinator = transaction.coordinator();
         Participant {
@@ -101,8 +101,8 @@ impl Row {
 
     // The coordinator's, upon a message of a member, begin or its timer.
     fn coordinator_step(transaction: Transaction, kind: u8, participant: u8) -> Found
-        requires { (receives 0 kind && (leb 16 kind || member participant (transactionIn transaction).cohort.members)) ≡ true }
-        ensures { (w : plain.Run) (t : ℕ) → transactionIn transaction ≡ w.transaction t → foundIn 0 t result ≡ plan.step w t 0 (input_of kind participant) }
+        requires { (receives 0 kind && (leb 16 kind || member participant (transaction_in transaction).cohort.members)) ≡ true }
+        ensures { (w : plain.Run) (t : ℕ) → transaction_in transaction ≡ w.transaction t → found_in 0 t result ≡ plan.step w t 0 (input_of kind participant) }
     {
         let coordinator = transaction.coordinator();
         let answer = coordinator.step(kind, participant);
@@ -123,7 +123,7 @@ impl Row {
     // A participant's, upon a message or its timer.
     fn participant_step(transaction: Transaction, number: u8, kind: u8) -> Found
         requires { (1 ≤ number) × ((number ≤ 8) × (receives 1 kind ≡ true)) }
-        ensures { (w : plain.Run) (t : ℕ) → transactionIn transaction ≡ w.transaction t → foundIn number t result ≡ plan.step w t number (input_of kind number) }
+        ensures { (w : plain.Run) (t : ℕ) → transaction_in transaction ≡ w.transaction t → found_in number t result ≡ plan.step w t number (input_of kind number) }
     {
         let participant = Row::participant(transaction, number);
         let answer = participant.step(kind);
@@ -140,8 +140,8 @@ impl Row {
 
     // Of a site: the coordinator upon a message of a member, begin or its timer, a participant upon its own message or its timer.
     pub(crate) fn step(transaction: Transaction, site: u8, kind: u8, participant: u8) -> Found
-        requires { MayReceive (transactionIn transaction) site kind participant }
-        ensures { (w : plain.Run) (t : ℕ) → transactionIn transaction ≡ w.transaction t → foundIn site t result ≡ plan.step w t site (input_of kind participant) }
+        requires { MayReceive (transaction_in transaction) site kind participant }
+        ensures { (w : plain.Run) (t : ℕ) → transaction_in transaction ≡ w.transaction t → found_in site t result ≡ plan.step w t site (input_of kind participant) }
     {
         if site == 0 {
             return Row::coordinator_step(transaction, kind, participant);
@@ -160,7 +160,7 @@ impl Row {
         count: usize,
     ) -> Row
         requires { (site ≤ 8) × (count ≤ 24) }
-        ensures { (w : plain.Run) → transactionIn transaction ≡ w.transaction t → ((k : ℕ) → k ≤ 7 → hasKind kinds k ≡ holds t k (w.site site).stable) → take count (map recordIn records.of) ≡ (w.site site).stable → planIn site t result ≡ plan.restarting w site t }
+        ensures { (w : plain.Run) → transaction_in transaction ≡ w.transaction t → ((k : ℕ) → k ≤ 7 → has_kind kinds k ≡ holds t k (w.site site).stable) → take count (map record_in records.of) ≡ (w.site site).stable → plan_in site t result ≡ plan.restarting w site t }
     {
         if site == 0 {
             let coordinator = records.cohort(t, has(kinds, Record::COMMIT), count);

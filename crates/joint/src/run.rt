@@ -1,9 +1,9 @@
 // The joint run: its state, and what can be seen of it.
 ghost use Rattle.std.specs.Prelude.{◌≡◌};
-ghost use Rattle.codec.specs.Image.{writeImage};
+ghost use Rattle.codec.specs.Image.{write_image};
 ghost use Rattle.codec.specs.Answers.{written};
-ghost use Rattle.site.specs.Answers.{coordinatorIn, participantIn, outcomeIn};
-ghost use Rattle.joint.specs.Answers.{transactionIn, runIn};
+ghost use Rattle.site.specs.Answers.{coordinator_in, participant_in, outcome_in};
+ghost use Rattle.joint.specs.Answers.{transaction_in, run_in};
 ghost use Rattle.joint.specs.Program.{Begins};
 
 use crate::answers::Answer;
@@ -79,7 +79,7 @@ impl Run {
     // ---- what can be seen of a run; what is no site or no transaction is as in a fresh run
 
     pub fn up(self, site: u8) -> bool
-        ensures { result ≡ ((runIn self).site site).up }
+        ensures { result ≡ ((run_in self).site site).up }
     {
         if Run::LAST_SITE < site {
             return true;
@@ -90,7 +90,7 @@ impl Run {
     }
 
     pub(crate) fn transaction(self, transaction: u8) -> Transaction
-        ensures { transactionIn result ≡ (runIn self).transaction transaction }
+        ensures { transaction_in result ≡ (run_in self).transaction transaction }
     {
         if Parts::LAST_TRANSACTION < transaction {
             return Transaction::new();
@@ -100,7 +100,7 @@ impl Run {
     }
 
     pub fn members(self, transaction: u8) -> u8
-        ensures { result ≡ ((runIn self).transaction transaction).cohort.members }
+        ensures { result ≡ ((run_in self).transaction transaction).cohort.members }
     {
         let found = self.transaction(transaction);
         let part = found.part;
@@ -108,7 +108,7 @@ impl Run {
     }
 
     pub fn presume_commit(self, transaction: u8) -> u8
-        ensures { result ≡ ((runIn self).transaction transaction).cohort.presumeCommit }
+        ensures { result ≡ ((run_in self).transaction transaction).cohort.presume_commit }
     {
         let found = self.transaction(transaction);
         let part = found.part;
@@ -116,7 +116,7 @@ impl Run {
     }
 
     pub fn coordinator_phase(self, transaction: u8) -> CoordinatorPhase
-        ensures { coordinatorIn result ≡ ((runIn self).transaction transaction).coordinator.phase }
+        ensures { coordinator_in result ≡ ((run_in self).transaction transaction).coordinator.phase }
     {
         let found = self.transaction(transaction);
         let part = found.part;
@@ -125,14 +125,14 @@ impl Run {
 
     // The participants that the coordinator has taken out.
     pub fn taken_out(self, transaction: u8) -> u8
-        ensures { result ≡ ((runIn self).transaction transaction).coordinator.takenOut }
+        ensures { result ≡ ((run_in self).transaction transaction).coordinator.taken_out }
     {
         let found = self.transaction(transaction);
         found.taken_out
     }
 
     pub fn participant_phase(self, transaction: u8, participant: u8) -> ParticipantPhase
-        ensures { participantIn result ≡ ((runIn self).transaction transaction).participant participant }
+        ensures { participant_in result ≡ ((run_in self).transaction transaction).participant participant }
     {
         let found = self.transaction(transaction);
         found.participant_phase(participant)
@@ -140,7 +140,7 @@ impl Run {
 
     // Whether a participant is marked as one that only looked.
     pub fn marked(self, transaction: u8, participant: u8) -> bool
-        ensures { result ≡ ((runIn self).transaction transaction).marked participant }
+        ensures { result ≡ ((run_in self).transaction transaction).marked participant }
     {
         let found = self.transaction(transaction);
         found.marked(participant)
@@ -148,14 +148,14 @@ impl Run {
 
     // Whether a message of a kind, to a participant or from it, was sent.
     pub fn sent(self, transaction: u8, participant: u8, kind: u8) -> bool
-        ensures { result ≡ ((runIn self).transaction transaction).sent participant kind }
+        ensures { result ≡ ((run_in self).transaction transaction).sent participant kind }
     {
         let found = self.transaction(transaction);
         found.sent(participant, kind)
     }
 
     pub fn entered(self, transaction: u8, site: u8, outcome: Outcome) -> bool
-        ensures { result ≡ ((runIn self).transaction transaction).entered site (outcomeIn outcome) }
+        ensures { result ≡ ((run_in self).transaction transaction).entered site (outcome_in outcome) }
     {
         let found = self.transaction(transaction);
         found.entered(site, outcome)
@@ -163,7 +163,7 @@ impl Run {
 
     // A site's log image from `at` on: 0, or the number that refuses it, 21, 23, 27, 28, 24 or 25, and the buffer as it was.
     pub fn write_log(self, site: u8, buffer: &mut [u8], at: usize) -> u8
-        ensures { written result buffer.new ≡ writeImage site ((runIn self).site site).stable at buffer.old }
+        ensures { written result buffer.new ≡ write_image site ((run_in self).site site).stable at buffer.old }
     {
         if Run::LAST_SITE < site {
             return Log::OVER_LIMIT;

@@ -1,13 +1,13 @@
 // A site: whether it is up, and how many records its log has. The records stand apart (src/records.rt).
 ghost use Rattle.std.specs.Prelude.{◌≡◌, false, List, [], ◌∷◌, ℕ, ◌-◌, length};
-ghost use Rattle.codec.specs.Answers.{recordIn};
+ghost use Rattle.codec.specs.Answers.{record_in};
 ghost use Rattle.codec.specs.declared.record.Record.{Record};
 ghost use Rattle.site.specs.Step.{force, given};
 ghost use Rattle.site.specs.Numbers.{appending};
-ghost use Rattle.site.specs.Answers.{effectsIn};
-ghost use Rattle.joint.specs.State.{forced, mayKeep, stopped, started};
-ghost use Rattle.joint.specs.Answers.{siteFrom};
-ghost use Rattle.joint.specs.Inside.{stableOf, count_of, put_at, putRow, siteAfter, rowSite, writesLog, Fits};
+ghost use Rattle.site.specs.Answers.{effects_in};
+ghost use Rattle.joint.specs.State.{forced, may_keep, stopped, started};
+ghost use Rattle.joint.specs.Answers.{site_from};
+ghost use Rattle.joint.specs.Inside.{stable_of, count_of, put_at, put_row, site_after, row_site, writes_log, Fits};
 
 use crate::rows::{Row, Then};
 use codec::log::Log;
@@ -30,7 +30,7 @@ impl Site {
 
     // How many records are stable, and how many there are.
     pub fn stable_count(self) -> usize
-        ensures { result ≡ stableOf self }
+        ensures { result ≡ stable_of self }
     {
         let stable = self.stable as usize;
         if Log::COORDINATOR_MOST < stable {
@@ -50,7 +50,7 @@ impl Site {
     }
 
     pub fn unforced_count(self) -> usize
-        ensures { result ≡ count_of self - stableOf self }
+        ensures { result ≡ count_of self - stable_of self }
     {
         self.count() - self.stable_count()
     }
@@ -58,7 +58,7 @@ impl Site {
     // With a record of a kind more; kind 0 is none. A full log stays as it is: no log of a run that events reach is full when
     // a record is appended.
     fn append(self, kind: u8) -> Site
-        ensures { (rs : List Record) (x : Record) → x.kind ≡ kind → length rs ≡ 24 → Fits (appending kind (recordIn x).fields) (siteFrom self rs) → siteFrom result (put_at (count_of self) x rs) ≡ siteAfter x.transaction (appending kind (recordIn x).fields) (siteFrom self rs) }
+        ensures { (rs : List Record) (x : Record) → x.kind ≡ kind → length rs ≡ 24 → Fits (appending kind (record_in x).fields) (site_from self rs) → site_from result (put_at (count_of self) x rs) ≡ site_after x.transaction (appending kind (record_in x).fields) (site_from self rs) }
     {
         if (kind == 0) | (Log::COORDINATOR_MOST <= self.count()) {
             return self;
@@ -71,7 +71,7 @@ impl Site {
     }
 
     fn force(self) -> Site
-        ensures { (rs : List Record) → length rs ≡ 24 → siteFrom result rs ≡ forced (siteFrom self rs) }
+        ensures { (rs : List Record) → length rs ≡ 24 → site_from result rs ≡ forced (site_from self rs) }
     {
         Site {
             up: self.up,
@@ -81,7 +81,7 @@ impl Site {
     }
 
     fn force_if(self, forced: bool) -> Site
-        ensures { (rs : List Record) (t : ℕ) → length rs ≡ 24 → siteFrom result rs ≡ siteAfter t (given forced (force ∷ [])) (siteFrom self rs) }
+        ensures { (rs : List Record) (t : ℕ) → length rs ≡ 24 → site_from result rs ≡ site_after t (given forced (force ∷ [])) (site_from self rs) }
     {
         if forced {
             return self.force();
@@ -91,7 +91,7 @@ impl Site {
 
     // With a row's records and its force.
     pub(crate) fn after(self, effects: Effects) -> Site
-        ensures { (rs : List Record) (t : ℕ) → length rs ≡ 24 → Fits (effectsIn t effects) (siteFrom self rs) → siteFrom result (putRow (count_of self) t effects rs) ≡ siteAfter t (effectsIn t effects) (siteFrom self rs) }
+        ensures { (rs : List Record) (t : ℕ) → length rs ≡ 24 → Fits (effects_in t effects) (site_from self rs) → site_from result (put_row (count_of self) t effects rs) ≡ site_after t (effects_in t effects) (site_from self rs) }
     {
         let first = self.append(effects.appended);
         let forced = first.force_if(effects.forced);
@@ -100,14 +100,14 @@ impl Site {
 
     // Whether every set bit of a mask stands for an unforced record.
     pub(crate) fn may_keep(self, keep: u8) -> bool
-        ensures { (rs : List Record) → length rs ≡ 24 → result ≡ mayKeep keep (siteFrom self rs).unforced }
+        ensures { (rs : List Record) → length rs ≡ 24 → result ≡ may_keep keep (site_from self rs).unforced }
     {
         (keep as u32) >> self.unforced_count() == 0
     }
 
     // The site goes down, and no unforced record survives.
     fn stop(self) -> Site
-        ensures { (rs : List Record) → siteFrom result rs ≡ stopped 0 (siteFrom self rs) }
+        ensures { (rs : List Record) → site_from result rs ≡ stopped 0 (site_from self rs) }
     {
         Site {
             up: false,
@@ -117,7 +117,7 @@ impl Site {
     }
 
     pub(crate) fn start(self) -> Site
-        ensures { (rs : List Record) → siteFrom result rs ≡ started (siteFrom self rs) }
+        ensures { (rs : List Record) → site_from result rs ≡ started (site_from self rs) }
     {
         let mut site = self;
         site.up = true;
@@ -126,8 +126,8 @@ impl Site {
 
     // After a row that leaves the records where they are.
     pub(crate) fn settle(self, row: Row) -> Site
-        requires { writesLog row ≡ false }
-        ensures { (rs : List Record) (t : ℕ) → length rs ≡ 24 → siteFrom result rs ≡ rowSite t row (siteFrom self rs) }
+        requires { writes_log row ≡ false }
+        ensures { (rs : List Record) (t : ℕ) → length rs ≡ 24 → site_from result rs ≡ row_site t row (site_from self rs) }
     {
         let effects = row.effects;
         let then = row.then;

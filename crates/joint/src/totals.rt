@@ -1,8 +1,8 @@
 // Forced writes and handovers of a site, and the quotient with its exact remainder.
 ghost use Rattle.std.specs.Prelude.{◌≡◌, ◌+◌};
 ghost use Rattle.joint.specs.Totals as plain;
-ghost use Rattle.joint.specs.Totals.{held, totalsOf};
-ghost use Rattle.joint.specs.Answers.{runIn, forcesIn, handoversIn, totalsIn, totalsSeen};
+ghost use Rattle.joint.specs.Totals.{held, totals_of};
+ghost use Rattle.joint.specs.Answers.{run_in, forces_in, handovers_in, totals_in, totals_seen};
 
 use crate::run::Run;
 use codec::message::Parts;
@@ -30,7 +30,7 @@ pub(crate) fn add_held(total: u64, more: u8) -> u64
 impl Totals {
     // A site without handovers gives 0, and its forces as remainder.
     fn of(forces: u64, handovers: u64) -> Totals
-        ensures { totalsSeen result ≡ totalsOf forces handovers }
+        ensures { totals_seen result ≡ totals_of forces handovers }
     {
         if handovers == 0 {
             return Totals {
@@ -52,7 +52,7 @@ impl Totals {
 impl Run {
     // Forced writes so far.
     fn forces(self, site: u8) -> u64
-        ensures { result ≡ forcesIn self site }
+        ensures { result ≡ forces_in self site }
     {
         if Run::LAST_SITE < site {
             return 0;
@@ -63,13 +63,13 @@ impl Run {
 
     // Handovers opened with a site; those of the coordinator are all.
     fn handovers(self, site: u8) -> u64
-        ensures { result ≡ handoversIn (runIn self) site }
+        ensures { result ≡ handovers_in (run_in self) site }
     {
         let mut count: u64 = 0;
         let mut i: u8 = 0;
         while i <= Parts::LAST_TRANSACTION {
             let transaction = self.transaction(i);
-            if transaction.opened() & transaction.takes_part(site) {
+            if transaction.opened() & transaction.takes_part_lem(site) {
                 count += 1;
             }
             i += 1;
@@ -79,7 +79,7 @@ impl Run {
 
     // Of a site above 8: as in a fresh run.
     pub fn totals(self, site: u8) -> Totals
-        ensures { totalsSeen result ≡ totalsIn self site }
+        ensures { totals_seen result ≡ totals_in self site }
     {
         Totals::of(self.forces(site), self.handovers(site))
     }

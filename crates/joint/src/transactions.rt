@@ -2,11 +2,11 @@
 ghost use Rattle.std.specs.Prelude.{◌≡◌, not, ◌||◌, ℕ, ◌≤◌};
 ghost use Rattle.codec.specs.Sets.{empty, member};
 ghost use Rattle.site.specs.Numbers.{entry_of};
-ghost use Rattle.site.specs.Answers.{coordinatorStateIn, cohortIn, participantIn, outcomeIn, sending, effectsIn};
-ghost use Rattle.joint.specs.State.{takesPart, withCoordinator, withParticipant, withMarked, forgotten};
-ghost use Rattle.joint.specs.Plan.{openedAs};
-ghost use Rattle.joint.specs.Answers.{partIn, transactionIn, noTransaction};
-ghost use Rattle.joint.specs.Inside.{transactionAfter, thenTransaction};
+ghost use Rattle.site.specs.Answers.{coordinator_state_in, cohort_in, participant_in, outcome_in, sending, effects_in};
+ghost use Rattle.joint.specs.State.{takes_part, with_coordinator, with_participant, with_marked, forgotten};
+ghost use Rattle.joint.specs.Plan.{opened_as};
+ghost use Rattle.joint.specs.Answers.{part_in, transaction_in, no_transaction};
+ghost use Rattle.joint.specs.Inside.{transaction_after, then_transaction};
 
 use crate::records::with_bit;
 use crate::rows::Then;
@@ -65,7 +65,7 @@ impl Held {
 
 impl Transaction {
     pub fn new() -> Transaction
-        ensures { result ≡ noTransaction }
+        ensures { result ≡ no_transaction }
     {
         Transaction {
             part: Part {
@@ -84,7 +84,7 @@ impl Transaction {
 
     // As its step takes it.
     pub(crate) fn coordinator(self) -> Coordinator
-        ensures { (cohortIn result ≡ (transactionIn self).cohort) × (coordinatorStateIn result ≡ (transactionIn self).coordinator) }
+        ensures { (cohort_in result ≡ (transaction_in self).cohort) × (coordinator_state_in result ≡ (transaction_in self).coordinator) }
     {
         let part = self.part;
         let phase = part.phase;
@@ -97,15 +97,15 @@ impl Transaction {
     }
 
     pub fn opened(self) -> bool
-        ensures { result ≡ not (empty (transactionIn self).cohort.members) }
+        ensures { result ≡ not (empty (transaction_in self).cohort.members) }
     {
         let part = self.part;
         part.members != 0
     }
 
     // The coordinator takes part in each transaction, a participant in those that it is a member of.
-    pub fn takes_part(self, site: u8) -> bool
-        ensures { result ≡ takesPart (transactionIn self) site }
+    pub fn takes_part_lem(self, site: u8) -> bool
+        ensures { result ≡ takes_part (transaction_in self) site }
     {
         let part = self.part;
         if site == 0 {
@@ -115,13 +115,13 @@ impl Transaction {
     }
 
     pub fn marked(self, participant: u8) -> bool
-        ensures { result ≡ (transactionIn self).marked participant }
+        ensures { result ≡ (transaction_in self).marked participant }
     {
         has(self.marked, participant)
     }
 
     pub fn sent(self, participant: u8, kind: u8) -> bool
-        ensures { result ≡ (transactionIn self).sent participant kind }
+        ensures { result ≡ (transaction_in self).sent participant kind }
     {
         if Parts::LAST_KIND < kind {
             return false;
@@ -131,7 +131,7 @@ impl Transaction {
     }
 
     pub fn entered(self, site: u8, outcome: Outcome) -> bool
-        ensures { result ≡ (transactionIn self).entered site (outcomeIn outcome) }
+        ensures { result ≡ (transaction_in self).entered site (outcome_in outcome) }
     {
         match outcome {
             Outcome::Commit => has(self.committed, site),
@@ -140,7 +140,7 @@ impl Transaction {
     }
 
     pub fn participant_phase(self, participant: u8) -> ParticipantPhase
-        ensures { participantIn result ≡ (transactionIn self).participant participant }
+        ensures { participant_in result ≡ (transaction_in self).participant participant }
     {
         if Run::LAST_SITE < participant {
             return ParticipantPhase::Unknown;
@@ -153,7 +153,7 @@ impl Transaction {
     // ---- changes
 
     pub fn with_coordinator(self, phase: CoordinatorPhase, taken_out: u8) -> Transaction
-        ensures { transactionIn result ≡ withCoordinator 0 (partIn phase taken_out) (transactionIn self) }
+        ensures { transaction_in result ≡ with_coordinator 0 (part_in phase taken_out) (transaction_in self) }
     {
         let was = self.part;
         let part = Part {
@@ -169,7 +169,7 @@ impl Transaction {
 
     pub(crate) fn with_participant(self, participant: usize, phase: ParticipantPhase) -> Transaction
         requires { participant ≤ 8 }
-        ensures { transactionIn result ≡ withParticipant participant (participantIn phase) (transactionIn self) }
+        ensures { transaction_in result ≡ with_participant participant (participant_in phase) (transaction_in self) }
     {
         let mut transaction = self;
         transaction.participants[participant] = Held { phase };
@@ -178,7 +178,7 @@ impl Transaction {
 
     pub(crate) fn with_marked(self, participant: u8) -> Transaction
         requires { participant ≤ 8 }
-        ensures { transactionIn result ≡ withMarked participant (transactionIn self) }
+        ensures { transaction_in result ≡ with_marked participant (transaction_in self) }
     {
         let mut transaction = self;
         transaction.marked = with_bit(self.marked, participant);
@@ -188,7 +188,7 @@ impl Transaction {
     // 1 commit, 2 abort; what is neither enters nothing.
     fn enter(self, site: u8, entered: u8) -> Transaction
         requires { site ≤ 8 }
-        ensures { transactionIn result ≡ transactionAfter site (entry_of entered) (transactionIn self) }
+        ensures { transaction_in result ≡ transaction_after site (entry_of entered) (transaction_in self) }
     {
         let mut transaction = self;
         if entered == Effects::COMMIT_ENTERED {
@@ -204,7 +204,7 @@ impl Transaction {
 
     // A message of each participant in a set. What is no kind of message is not sent.
     fn send(self, kind: u8, to: u8) -> Transaction
-        ensures { (s t owing : ℕ) → transactionIn result ≡ transactionAfter s (sending t kind owing to) (transactionIn self) }
+        ensures { (s t owing : ℕ) → transaction_in result ≡ transaction_after s (sending t kind owing to) (transaction_in self) }
     {
         let mut transaction = self;
         if (to != 0) & (kind <= Parts::LAST_KIND) {
@@ -217,7 +217,7 @@ impl Transaction {
     // With a row's entry and messages at a site.
     pub(crate) fn after(self, site: u8, effects: Effects) -> Transaction
         requires { site ≤ 8 }
-        ensures { (t : ℕ) → transactionIn result ≡ transactionAfter site (effectsIn t effects) (transactionIn self) }
+        ensures { (t : ℕ) → transaction_in result ≡ transaction_after site (effects_in t effects) (transaction_in self) }
     {
         let entered = self.enter(site, effects.entered);
         entered.send(effects.message, effects.to)
@@ -226,7 +226,7 @@ impl Transaction {
     // The phases at a site are Unknown, and the set taken out is gone with them.
     pub(crate) fn forget(self, site: usize) -> Transaction
         requires { site ≤ 8 }
-        ensures { transactionIn result ≡ forgotten site (transactionIn self) }
+        ensures { transaction_in result ≡ forgotten site (transaction_in self) }
     {
         let forgotten = self.with_participant(site, ParticipantPhase::Unknown);
         if site == 0 {
@@ -238,7 +238,7 @@ impl Transaction {
     // With what follows a row at a site. (Where the site goes down, its phases in all transactions are to be forgotten.)
     pub(crate) fn settle(self, site: u8, then: Then) -> Transaction
         requires { site ≤ 8 }
-        ensures { transactionIn result ≡ thenTransaction site then (transactionIn self) }
+        ensures { transaction_in result ≡ then_transaction site then (transaction_in self) }
     {
         match then {
             Then::Coordinator { phase, taken_out } => self.with_coordinator(phase, taken_out),
@@ -260,7 +260,7 @@ impl Transaction {
 
     // Opened: the coordinator Open, members Working.
     pub fn open(self, members: u8, presume_commit: u8) -> Transaction
-        ensures { transactionIn result ≡ openedAs (record { members = members; presumeCommit = presume_commit }) (transactionIn self) }
+        ensures { transaction_in result ≡ opened_as (record { members = members; presume_commit = presume_commit }) (transaction_in self) }
     {
         let mut participants = self.participants;
         let mut i: usize = 1;

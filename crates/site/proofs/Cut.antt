@@ -8,16 +8,16 @@ use lib.ListN.{length, take, get_or, length-append, length-map}
 use lib.Seq.{take-nil}
 use lib.Dec.{eqb, leb, ltb}
 use borrow.Author.Tests.{ne_eqb, le-leb, lt-leb, ltb-false}
-use Rattle.codec.specs.laws.Tests.{or-none}
+use Rattle.codec.specs.Laws.Tests.{or_none}
 use Rattle.codec.specs.Sets.{listed}
 use Rattle.site.specs.Step.{prepare, messages, force, send, given}
 use Rattle.site.specs.Coordinator.{ordered}
 use Rattle.site.specs.Numbers.{appending, entry_of}
-use Rattle.site.specs.Answers.{fieldsBy, sending, effectsIn}
+use Rattle.site.specs.Answers.{fields_by, sending, effects_in}
 use Rattle.site.specs.Inside.{up_to}
-use Rattle.site.specs.laws.Lists.{take-append}
-use Rattle.site.specs.laws.Order.{order-length}
-use Rattle.site.specs.laws.Parts.{five}
+use Rattle.site.specs.Laws.Lists.{take-append}
+use Rattle.site.specs.Laws.Order.{order_length}
+use Rattle.site.specs.Laws.Parts.{five}
 use Rattle.site.specs.declared.effects.Effects.{Effects}
 
 -- ---- the length of each
@@ -35,36 +35,36 @@ unfolding given
 given-length true = refl
 given-length false = refl
 
-pub entry-none : (k : ℕ) → (ltb k 1 || ltb 2 k) ≡ true → 0 ≡ length (entry_of k)
+pub entry_none : (k : ℕ) → (ltb k 1 || ltb 2 k) ≡ true → 0 ≡ length (entry_of k)
 unfolding entry_of
-entry-none zero e = refl
-entry-none (suc zero) e = cc
-entry-none (suc (suc zero)) e = cc
-entry-none (suc (suc (suc k))) e = refl
+entry_none zero e = refl
+entry_none (suc zero) e = cc
+entry_none (suc (suc zero)) e = cc
+entry_none (suc (suc (suc k))) e = refl
 
-pub entry-one : (k : ℕ) → (ltb k 1 || ltb 2 k) ≡ false → 1 ≡ length (entry_of k)
+pub entry_one : (k : ℕ) → (ltb k 1 || ltb 2 k) ≡ false → 1 ≡ length (entry_of k)
 unfolding entry_of
-entry-one zero e = cc
-entry-one (suc zero) e = refl
-entry-one (suc (suc zero)) e = refl
-entry-one (suc (suc (suc k))) e =
-    let h : suc (suc (suc k)) ≤ 2 = ltb-false 2 (suc (suc (suc k))) (or-none (ltb (suc (suc (suc k))) 1) (ltb 2 (suc (suc (suc k)))) e).1 in
+entry_one zero e = cc
+entry_one (suc zero) e = refl
+entry_one (suc (suc zero)) e = refl
+entry_one (suc (suc (suc k))) e =
+    let h : suc (suc (suc k)) ≤ 2 = ltb-false 2 (suc (suc (suc k))) (or_none (ltb (suc (suc (suc k))) 1) (ltb 2 (suc (suc (suc k)))) e).1 in
     absurd (omega (arith, h))
 
-pub no-sends : (t kind owing to : ℕ) → 7 < kind → 0 ≡ length (sending t kind owing to)
+pub no_sends : (t kind owing to : ℕ) → 7 < kind → 0 ≡ length (sending t kind owing to)
 unfolding sending given
-no-sends t kind owing to h = rw (lt-leb kind 7 h)
+no_sends t kind owing to h = rw (lt-leb kind 7 h)
 
 pub sending-length : (t kind owing to : ℕ) → kind ≤ 7 → length (sending t kind owing to) ≡ length (listed to)
 unfolding sending given
-sending-length t kind owing to h = rw (le-leb kind 7 h, length-map) (order-length t owing to)
+sending-length t kind owing to h = rw (le-leb kind 7 h, length-map) (order_length t owing to)
 
 -- ---- the first of each
 
 take-one {ℓ} : {A : Type ℓ} (n : ℕ) (x : A) → take (suc n) (x ∷ []) ≡ x ∷ []
 take-one {A} n x = ap (λ (l : List A). x ∷ l) (take-nil n)
 
-pub appending-cut : (n k a b : ℕ) → take n (appending k (fieldsBy k a b)) ≡ appending (up_to n k) (fieldsBy (up_to n k) a b)
+pub appending-cut : (n k a b : ℕ) → take n (appending k (fields_by k a b)) ≡ appending (up_to n k) (fields_by (up_to n k) a b)
 unfolding appending
 appending-cut zero k a b = refl
 appending-cut (suc n) zero a b = rw suc-eqb
@@ -77,13 +77,13 @@ given-cut zero false = refl
 given-cut (suc n) true = rw (suc-eqb n) (take-one n _)
 given-cut (suc n) false = refl
 
-pub entry-cut : (n k : ℕ) → take n (entry_of k) ≡ entry_of (up_to n k)
+pub entry_cut : (n k : ℕ) → take n (entry_of k) ≡ entry_of (up_to n k)
 unfolding entry_of
-entry-cut zero k = refl
-entry-cut (suc n) zero = rw (suc-eqb n)
-entry-cut (suc n) (suc zero) = rw (suc-eqb n) (take-one n _)
-entry-cut (suc n) (suc (suc zero)) = rw (suc-eqb n) (take-one n _)
-entry-cut (suc n) (suc (suc (suc k))) = rw (suc-eqb n)
+entry_cut zero k = refl
+entry_cut (suc n) zero = rw (suc-eqb n)
+entry_cut (suc n) (suc zero) = rw (suc-eqb n) (take-one n _)
+entry_cut (suc n) (suc (suc zero)) = rw (suc-eqb n) (take-one n _)
+entry_cut (suc n) (suc (suc (suc k))) = rw (suc-eqb n)
 
 take-map : {A B : Type 0} (f : A → B) (n : ℕ) (l : List A) → take n (map f l) ≡ map f (take n l)
 take-map f zero l = refl
@@ -103,22 +103,22 @@ sending-cut t n kind owing to to' e = by (leb kind 7)
 pub count_law : (t : ℕ) (e : Effects) (a f x s l : ℕ)
     → a ≡ cond (not (eqb e.appended 0)) 1 0 → f ≡ cond e.forced 1 0 → x ≡ length (entry_of e.entered)
     → s ≡ length (sending t e.message e.owing e.to) → l ≡ cond (not (eqb e.last 0)) 1 0
-    → a + f + x + s + l ≡ length (effectsIn t e)
+    → a + f + x + s + l ≡ length (effects_in t e)
 count_law t e a f x s l ea ef ex es el =
     rw (five t e) (simp (length-append, appending-length, given-length) (omega (arith, ea, ef, ex, es, el)))
 
-parts-taken : {A : Type 0} (n n₁ n₂ n₃ n₄ : ℕ) (a f e m l : List A)
+parts_taken : {A : Type 0} (n n₁ n₂ n₃ n₄ : ℕ) (a f e m l : List A)
     → n₁ ≡ n - length a → n₂ ≡ n₁ - length f → n₃ ≡ n₂ - length e → n₄ ≡ n₃ - length m
     → take n (a ++ (f ++ (e ++ (m ++ l)))) ≡ take n a ++ (take n₁ f ++ (take n₂ e ++ (take n₃ m ++ take n₄ l)))
-parts-taken n n₁ n₂ n₃ n₄ a f e m l q₁ q₂ q₃ q₄ = simp (q₄, q₃, q₂, q₁, take-append)
+parts_taken n n₁ n₂ n₃ n₄ a f e m l q₁ q₂ q₃ q₄ = simp (q₄, q₃, q₂, q₁, take-append)
 
-pub cut-law : (t : ℕ) (e : Effects) (most forces enters sends closes to : ℕ)
+pub cut_law : (t : ℕ) (e : Effects) (most forces enters sends closes to : ℕ)
     → forces ≡ most - cond (not (eqb e.appended 0)) 1 0
     → enters ≡ forces - cond e.forced 1 0
     → sends ≡ enters - length (entry_of e.entered)
     → closes ≡ sends - length (sending t e.message e.owing e.to)
     → ordered t e.owing to ≡ take sends (ordered t e.owing e.to)
-    → effectsIn t
+    → effects_in t
     (record {
       appended = up_to most e.appended;
       first = e.first;
@@ -130,14 +130,14 @@ pub cut-law : (t : ℕ) (e : Effects) (most forces enters sends closes to : ℕ)
       owing = e.owing;
       last = up_to closes e.last;
     })
-    ≡ take most (effectsIn t e)
-cut-law t e most forces enters sends closes to ef ee es ec eo =
+    ≡ take most (effects_in t e)
+cut_law t e most forces enters sends closes to ef ee es ec eo =
     five t _
     ∙ ap₂ ◌++◌ (sym (appending-cut most e.appended e.first e.second))
     (ap₂ ◌++◌ (sym (given-cut forces e.forced))
-    (ap₂ ◌++◌ (sym (entry-cut enters e.entered))
+    (ap₂ ◌++◌ (sym (entry_cut enters e.entered))
     (ap₂ ◌++◌ (sym (sending-cut t sends e.message e.owing e.to to eo)) (sym (appending-cut closes e.last 0 0)))))
-    ∙ sym (ap (take most) (five t e) ∙ parts-taken most forces enters sends closes _ _ _ _ _
+    ∙ sym (ap (take most) (five t e) ∙ parts_taken most forces enters sends closes _ _ _ _ _
     (ef ∙ ap (λ (k : ℕ). most - k) (sym (appending-length e.appended _)))
     (ee ∙ ap (λ (k : ℕ). forces - k) (sym (given-length e.forced)))
     es ec)

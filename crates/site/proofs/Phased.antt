@@ -10,52 +10,52 @@ use denote.Enum.Declared.{tag_of}
 use types.Run.{OneOf}
 use Rattle.site.specs.Presumption.{commit, abort}
 use Rattle.codec.specs.Sets.{empty, part}
-use Rattle.codec.specs.laws.Members.{high_bits}
+use Rattle.codec.specs.Laws.Members.{high_bits}
 use Rattle.site.specs.Cohort.{Cohort, owing}
 use Rattle.site.specs.Coordinator as coordinator
 use Rattle.site.specs.Participant as participant
-use Rattle.site.specs.Numbers.{waitingSet, coordinatorFrom, participantFrom, waitingInRange}
-use Rattle.site.specs.Answers.{coordinatorIn, hasKind}
+use Rattle.site.specs.Numbers.{waiting_set, coordinator_from, participant_from, waiting_in_range}
+use Rattle.site.specs.Answers.{coordinator_in, has_kind}
 use Rattle.site.specs.declared.phases.CoordinatorPhase.{CoordinatorPhase}
 use Rattle.site.specs.declared.phases.CoordinatorPhase.TheVariants.{Open, Collecting, Committing, Aborting, Unknown}
 use Rattle.site.specs.contracts.phases.CoordinatorPhase.{the_type}
 
-pub last-coordinator : (phase w : ℕ) → 4 ≤ phase → coordinatorFrom phase w ≡ coordinator.unknown
-unfolding coordinatorFrom
+pub last-coordinator : (phase w : ℕ) → 4 ≤ phase → coordinator_from phase w ≡ coordinator.unknown
+unfolding coordinator_from
 last-coordinator phase w h =
     get_or-eq_default
-    (coordinator.initial ∷ coordinator.collecting w ∷ coordinator.awaitingAcks commit w ∷ coordinator.awaitingAcks abort w ∷ [])
+    (coordinator.initial ∷ coordinator.collecting w ∷ coordinator.awaiting_acks commit w ∷ coordinator.awaiting_acks abort w ∷ [])
     coordinator.unknown h
 
-pub last-participant : (phase : ℕ) → 4 ≤ phase → participantFrom phase ≡ participant.unknown
-unfolding participantFrom
+pub last-participant : (phase : ℕ) → 4 ≤ phase → participant_from phase ≡ participant.unknown
+unfolding participant_from
 last-participant phase h =
     get_or-eq_default
     (participant.working ∷ participant.prepared ∷ participant.decided commit ∷ participant.decided abort ∷ [])
     participant.unknown h
 
-pub waits-for-none : (x : CoordinatorPhase) → OneOf (0 ∷ 4 ∷ []) (tag_of the_type x) → waitingSet (coordinatorIn x) ≡ 0
-unfolding waitingSet
-waits-for-none Open k = refl
-waits-for-none (Collecting w) (inl k) = cc
-waits-for-none (Collecting w) (inr k) = cc
-waits-for-none (Committing w) (inl k) = cc
-waits-for-none (Committing w) (inr k) = cc
-waits-for-none (Aborting w) (inl k) = cc
-waits-for-none (Aborting w) (inr k) = cc
-waits-for-none Unknown k = refl
+pub waits_for_none : (x : CoordinatorPhase) → OneOf (0 ∷ 4 ∷ []) (tag_of the_type x) → waiting_set (coordinator_in x) ≡ 0
+unfolding waiting_set
+waits_for_none Open k = refl
+waits_for_none (Collecting w) (inl k) = cc
+waits_for_none (Collecting w) (inr k) = cc
+waits_for_none (Committing w) (inl k) = cc
+waits_for_none (Committing w) (inr k) = cc
+waits_for_none (Aborting w) (inl k) = cc
+waits_for_none (Aborting w) (inr k) = cc
+waits_for_none Unknown k = refl
 
-none-of-five : (n : ℕ) → (n ≡ 0 → ⊥) → (n ≡ 1 → ⊥) → (n ≡ 2 → ⊥) → (n ≡ 3 → ⊥) → (n ≡ 4 → ⊥) → 5 ≤ n
-none-of-five zero a b c d e = absurd (a refl)
-none-of-five (suc zero) a b c d e = absurd (b refl)
-none-of-five (suc (suc zero)) a b c d e = absurd (c refl)
-none-of-five (suc (suc (suc zero))) a b c d e = absurd (d refl)
-none-of-five (suc (suc (suc (suc zero)))) a b c d e = absurd (e refl)
-none-of-five (suc (suc (suc (suc (suc n))))) a b c d e = omega arith
+none_of_five : (n : ℕ) → (n ≡ 0 → ⊥) → (n ≡ 1 → ⊥) → (n ≡ 2 → ⊥) → (n ≡ 3 → ⊥) → (n ≡ 4 → ⊥) → 5 ≤ n
+none_of_five zero a b c d e = absurd (a refl)
+none_of_five (suc zero) a b c d e = absurd (b refl)
+none_of_five (suc (suc zero)) a b c d e = absurd (c refl)
+none_of_five (suc (suc (suc zero))) a b c d e = absurd (d refl)
+none_of_five (suc (suc (suc (suc zero)))) a b c d e = absurd (e refl)
+none_of_five (suc (suc (suc (suc (suc n))))) a b c d e = omega arith
 
-pub no-phase : (g : Cohort) (phase w : ℕ) → (OneOf (0 ∷ 4 ∷ []) phase → ⊥) → (phase ≡ 1 → ⊥) → (phase ≡ 2 → ⊥) → (phase ≡ 3 → ⊥) → waitingInRange g phase w ≡ false
-unfolding waitingInRange
-no-phase g phase w a b c d =
+pub no_phase : (g : Cohort) (phase w : ℕ) → (OneOf (0 ∷ 4 ∷ []) phase → ⊥) → (phase ≡ 1 → ⊥) → (phase ≡ 2 → ⊥) → (phase ≡ 3 → ⊥) → waiting_in_range g phase w ≡ false
+unfolding waiting_in_range
+no_phase g phase w a b c d =
     get_or-eq_default
     (empty w
     ∷ (not (empty w) && part w g.members)
@@ -63,10 +63,10 @@ no-phase g phase w a b c d =
     ∷ (not (empty w) && part w (owing g abort))
     ∷ empty w
     ∷ [])
-    false (none-of-five phase (λ e. a (inl e)) b c d (λ e. a (inr e)))
+    false (none_of_five phase (λ e. a (inl e)) b c d (λ e. a (inr e)))
 
 -- ---- kinds of record
 
-pub no_kind : (kinds k : ℕ) → kinds < 65536 → 15 < k → hasKind kinds k ≡ false
-unfolding hasKind
+pub no_kind : (kinds k : ℕ) → kinds < 65536 → 15 < k → has_kind kinds k ≡ false
+unfolding has_kind
 no_kind kinds k h l = rw (high_bits kinds 16 k h l) refl

@@ -11,18 +11,18 @@ use lib.Dec.{eqb, eqb→eq}
 use borrow.Author.Tests.{eqb-true}
 use Rattle.codec.specs.Lists.{select, same}
 use Rattle.codec.specs.Sets.{participants, member, listed, bits, those, only, both, either}
-use Rattle.codec.specs.laws.Tests.{alike, alike-eq, below, below_at, below-at-2, same-list, true_of, lt-or-le}
-use Rattle.codec.specs.laws.Masks.{those-alike, those-below, those-members, in-those}
-use Rattle.codec.specs.laws.Members.{none_in}
-use Rattle.codec.specs.laws.Listed.{weight}
+use Rattle.codec.specs.Laws.Tests.{alike, alike_eq, below, below_at, below_at_2, same_list, true_of, lt_or_le}
+use Rattle.codec.specs.Laws.Masks.{those_alike, those-below, those-members, in_those}
+use Rattle.codec.specs.Laws.Members.{none_in}
+use Rattle.codec.specs.Laws.Listed.{weight}
 use Rattle.site.specs.Coordinator.{round, in_turn}
-use Rattle.site.specs.laws.Lists.{select-append, select-select}
-use Rattle.site.specs.laws.Order.{in-turn-adds, in-turn-those}
+use Rattle.site.specs.Laws.Lists.{select-append, select-select}
+use Rattle.site.specs.Laws.Order.{in_turn_adds, in_turn_those}
 
 -- what is no transaction has the round of 0
-pub turn-beyond : (t to : ℕ) → 7 < t → in_turn t to ≡ in_turn 0 to
+pub turn_beyond : (t to : ℕ) → 7 < t → in_turn t to ≡ in_turn 0 to
 unfolding in_turn round participants
-turn-beyond t to h = rw (drop_of_length-le participants {i = t} (omega (arith, h)), take_all t participants (omega (arith, h))) refl
+turn_beyond t to h = rw (drop_of_length-le participants {i = t} (omega (arith, h)), take_all t participants (omega (arith, h))) refl
 
 -- ---- the round one by one
 
@@ -35,21 +35,21 @@ front s i = weight (take i (round s))
 
 place_at : (s i : ℕ) → s < 8 → i < 8 → get_or (round s) i 0 ≡ place s i
 unfolding round participants
-place_at s i h k = eqb→eq _ _ (below-at-2 8 8 (λ s i. eqb (get_or (round s) i 0) (place s i)) tt s i h k)
+place_at s i h k = eqb→eq _ _ (below_at_2 8 8 (λ s i. eqb (get_or (round s) i 0) (place s i)) tt s i h k)
 
 -- the set grows by that one
-front-more : (s i j : ℕ) → s < 8 → i < 8 → j < 8 → member (suc j) (front s (suc i)) ≡ (member (suc j) (front s i) || eqb (suc j) (place s i))
+front_more : (s i j : ℕ) → s < 8 → i < 8 → j < 8 → member (suc j) (front s (suc i)) ≡ (member (suc j) (front s i) || eqb (suc j) (place s i))
 unfolding round participants member
-front-more s i j h k l = alike-eq _ _ (below_at 8 (test s i) (below-at-2 8 8 (λ s i. below 8 (test s i)) tt s i h k) j l)
+front_more s i j h k l = alike_eq _ _ (below_at 8 (test s i) (below_at_2 8 8 (λ s i. below 8 (test s i)) tt s i h k) j l)
   where
     test : ℕ → ℕ → ℕ → Bool
     test s i j = alike (member (suc j) (front s (suc i))) (member (suc j) (front s i) || eqb (suc j) (place s i))
 
 -- and in turn it is these
-front-listed : (s i : ℕ) → s < 8 → i < 9 → select (λ p. member p (front s i)) (round s) ≡ take i (round s)
+front_listed : (s i : ℕ) → s < 8 → i < 9 → select (λ p. member p (front s i)) (round s) ≡ take i (round s)
 unfolding round participants member select same
-front-listed s i h k =
-    same-list _ _ (true_of _ (below-at-2 8 9 (λ s i. same (select (λ p. member p (front s i)) (round s)) (take i (round s))) tt s i h k))
+front_listed s i h k =
+    same_list _ _ (true_of _ (below_at_2 8 9 (λ s i. same (select (λ p. member p (front s i)) (round s)) (take i (round s))) tt s i h k))
 
 round-length : (s : ℕ) → length (round s) ≡ 8
 unfolding round participants
@@ -73,13 +73,13 @@ module _ (start mask : ℕ) (h : start < 8) where
   unfolding both
   taken-listed taken i k e =
       ap (in_turn start) e
-      ∙ in-turn-those start (λ p. member p (front start i) && member p mask)
+      ∙ in_turn_those start (λ p. member p (front start i) && member p mask)
       ∙ sym (select-select (λ p. member p (front start i)) chosen (round start))
-      ∙ ap (select chosen) (front-listed start i h k)
+      ∙ ap (select chosen) (front_listed start i h k)
 
-  pub walk-starts : (most : ℕ) → most < length (listed mask) → Walked start mask most 0 most 0
+  pub walk_starts : (most : ℕ) → most < length (listed mask) → Walked start mask most 0 most 0
   unfolding both those bits participants select
-  walk-starts most more =
+  walk_starts most more =
       record {
         byte = omega arith;
         more = more;
@@ -89,7 +89,7 @@ module _ (start mask : ℕ) (h : start < 8) where
       }
     where
       none : 0 ≡ both (front start 0) mask
-      none = those-alike (λ p. false) (λ p. member p 0 && member p mask) (λ i l. rw (none_in (suc i)) refl)
+      none = those_alike (λ p. false) (λ p. member p 0 && member p mask) (λ i l. rw (none_in (suc i)) refl)
 
   module _ (most taken left i : ℕ) (w : Walked start mask most taken left i) where
     -- where some may still be taken the round is not over
@@ -101,8 +101,8 @@ module _ (start mask : ℕ) (h : start < 8) where
         let e : i ≡ 8 = omega (arith, k, w.within) in
         let all : in_turn start taken ≡ in_turn start mask =
         taken-listed taken i (omega (arith, e)) w.passed ∙ ap (select chosen) (take_all i (round start) (omega (arith, round-length start, e))) in
-        absurd (omega (arith, l, w.counted, w.more, ap length all, in-turn-adds length length-append start mask)))
-        (lt-or-le i 8)
+        absurd (omega (arith, l, w.counted, w.more, ap length all, in_turn_adds length length-append start mask)))
+        (lt_or_le i 8)
 
     -- the set with the next one, if that is of the set
     abbrev next : ℕ
@@ -111,14 +111,14 @@ module _ (start mask : ℕ) (h : start < 8) where
     abbrev taking : Bool → ℕ
     taking b = cond b (either taken (only next)) taken
 
-    taking-passed : i < 8 → (b : Bool) → member next mask ≡ b → taking b ≡ both (front start (suc i)) mask
+    taking_passed : i < 8 → (b : Bool) → member next mask ≡ b → taking b ≡ both (front start (suc i)) mask
     unfolding both either only
-    taking-passed k true e =
-        those-alike (λ p. member p taken || member p (only next)) (λ p. member p (front start (suc i)) && member p mask)
+    taking_passed k true e =
+        those_alike (λ p. member p taken || member p (only next)) (λ p. member p (front start (suc i)) && member p mask)
         (λ j l.
-        ap₂ ◌||◌ (ap (member (suc j)) w.passed ∙ in-those (λ p. member p (front start i) && member p mask) j l) (in-those (λ p. eqb p next) j l)
+        ap₂ ◌||◌ (ap (member (suc j)) w.passed ∙ in_those (λ p. member p (front start i) && member p mask) j l) (in_those (λ p. eqb p next) j l)
         ∙ grows (member (suc j) (front start i)) (member (suc j) mask) (eqb (suc j) next) (λ q. ap (λ (p : ℕ). member p mask) (eqb-true (suc j) next q) ∙ e)
-        ∙ ap (◌&& member (suc j) mask) (sym (front-more start i j h k l)))
+        ∙ ap (◌&& member (suc j) mask) (sym (front_more start i j h k l)))
       where
         grows : (f m e : Bool) → (e ≡ true → m ≡ true) → ((f && m) || e) ≡ ((f || e) && m)
         grows true true e q = refl
@@ -128,12 +128,12 @@ module _ (start mask : ℕ) (h : start < 8) where
         grows false true false q = refl
         grows false false true q = sym (q refl)
         grows false false false q = refl
-    taking-passed k false e =
+    taking_passed k false e =
         w.passed
-        ∙ those-alike (λ p. member p (front start i) && member p mask) (λ p. member p (front start (suc i)) && member p mask)
+        ∙ those_alike (λ p. member p (front start i) && member p mask) (λ p. member p (front start (suc i)) && member p mask)
         (λ j l.
         stays (member (suc j) (front start i)) (member (suc j) mask) (eqb (suc j) next) (λ q. ap (λ (p : ℕ). member p mask) (eqb-true (suc j) next q) ∙ e)
-        ∙ ap (◌&& member (suc j) mask) (sym (front-more start i j h k l)))
+        ∙ ap (◌&& member (suc j) mask) (sym (front_more start i j h k l)))
       where
         stays : (f m e : Bool) → (e ≡ true → m ≡ false) → (f && m) ≡ ((f || e) && m)
         stays true m e q = refl
@@ -145,7 +145,7 @@ module _ (start mask : ℕ) (h : start < 8) where
     one_more k b e =
         let grown : take (suc i) (round start) ≡ take i (round start) ++ (next ∷ []) =
         take-suc (round start) i 0 (omega (arith, k, round-length start)) ∙ ap (λ (p : ℕ). take i (round start) ++ (p ∷ [])) (place_at start i h k) in
-        ap length (taken-listed (taking b) (suc i) (omega (arith, k)) (taking-passed k b e) ∙ ap (select chosen) grown ∙ select-append chosen (take i (round start)) (next ∷ []))
+        ap length (taken-listed (taking b) (suc i) (omega (arith, k)) (taking_passed k b e) ∙ ap (select chosen) grown ∙ select-append chosen (take i (round start)) (next ∷ []))
         ∙ length-append (select chosen (take i (round start))) (select chosen (next ∷ []))
         ∙ ap₂ ◌+◌ (ap length (sym (taken-listed taken i (omega (arith, k)) w.passed))) (rw e (by b))
       where
@@ -153,21 +153,21 @@ module _ (start mask : ℕ) (h : start < 8) where
         by true = refl
         by false = refl
 
-    pub walk-on : 1 ≤ left → (b : Bool) → member next mask ≡ b → Walked start mask most (taking b) (cond b (left - 1) left) (i + 1)
-    walk-on l b e =
+    pub walk_on : 1 ≤ left → (b : Bool) → member next mask ≡ b → Walked start mask most (taking b) (cond b (left - 1) left) (i + 1)
+    walk_on l b e =
         let k = goes_on l in
         let more : i + 1 ≡ suc i = omega arith in
         record {
-          byte = below-256 b;
+          byte = below_256 b;
           more = w.more;
           within = omega (arith, k);
-          passed = rw more (taking-passed k b e);
+          passed = rw more (taking_passed k b e);
           counted = omega (arith, one_more k b e, w.counted, fewer b);
         }
       where
-        below-256 : (b : Bool) → taking b < 256
-        below-256 true = unfold either in those-below (λ p. member p taken || member p (only next))
-        below-256 false = w.byte
+        below_256 : (b : Bool) → taking b < 256
+        below_256 true = unfold either in those-below (λ p. member p taken || member p (only next))
+        below_256 false = w.byte
 
         fewer : (b : Bool) → cond b (left - 1) left + cond b 1 0 ≡ left
         fewer true = omega (arith, l)
@@ -176,15 +176,15 @@ module _ (start mask : ℕ) (h : start < 8) where
     -- nothing is left to take
     pub walk_ends : left ≡ 0 → (in_turn start taken ≡ take most (in_turn start mask)) × (both taken mask ≡ taken)
     unfolding in_turn both
-    walk_ends z = (sym front-taken, within-mask)
+    walk_ends z = (sym front_taken, within_mask)
       where
         twice : (f m : Bool) → ((f && m) && m) ≡ (f && m)
         twice true true = refl
         twice true false = refl
         twice false m = refl
 
-        front-taken : take most (in_turn start mask) ≡ in_turn start taken
-        front-taken =
+        front_taken : take most (in_turn start mask) ≡ in_turn start taken
+        front_taken =
             let e = taken-listed taken i (omega (arith, w.within)) w.passed in
             let whole : in_turn start mask ≡ select chosen (take i (round start)) ++ select chosen (drop i (round start)) =
             ap (select chosen) (sym (take-append-drop i (round start))) ∙ select-append chosen (take i (round start)) (drop i (round start)) in
@@ -194,10 +194,10 @@ module _ (start mask : ℕ) (h : start < 8) where
             ∙ take-append_seam (select chosen (take i (round start))) (select chosen (drop i (round start)))
             ∙ sym e
 
-        within-mask : both taken mask ≡ taken
-        within-mask =
-            those-alike (λ p. member p taken && member p mask) (λ p. member p taken)
+        within_mask : both taken mask ≡ taken
+        within_mask =
+            those_alike (λ p. member p taken && member p mask) (λ p. member p taken)
             (λ j l.
-            let e = ap (member (suc j)) w.passed ∙ in-those (λ p. member p (front start i) && member p mask) j l in
+            let e = ap (member (suc j)) w.passed ∙ in_those (λ p. member p (front start i) && member p mask) j l in
             ap (◌&& member (suc j) mask) e ∙ twice (member (suc j) (front start i)) (member (suc j) mask) ∙ sym e)
             ∙ those-members taken w.byte

@@ -28,38 +28,38 @@ use Rattle.site.specs.declared.participant.ParticipantAnswer.TheVariants as part
 
 -- ---- outcomes, presumptions, phases
 
-abbrev pub outcomeIn : Outcome → outcomes.Outcome
-outcomeIn outcome.Commit = outcomes.commit
-outcomeIn outcome.Abort = outcomes.abort
+abbrev pub outcome_in : Outcome → outcomes.Outcome
+outcome_in outcome.Commit = outcomes.commit
+outcome_in outcome.Abort = outcomes.abort
 
-abbrev pub presumptionIn : Presumption → outcomes.Presumption
-presumptionIn presumption.Abort = outcomes.presumedAbort
-presumptionIn presumption.Commit = outcomes.presumedCommit
+abbrev pub presumption_in : Presumption → outcomes.Presumption
+presumption_in presumption.Abort = outcomes.presumedAbort
+presumption_in presumption.Commit = outcomes.presumedCommit
 
-abbrev pub coordinatorIn : CoordinatorPhase → coordinator-step.CoordinatorPhase
-coordinatorIn coordinator.Open = coordinator-step.initial
-coordinatorIn (coordinator.Collecting w) = coordinator-step.collecting w
-coordinatorIn (coordinator.Committing w) = coordinator-step.awaitingAcks outcomes.commit w
-coordinatorIn (coordinator.Aborting w) = coordinator-step.awaitingAcks outcomes.abort w
-coordinatorIn coordinator.Unknown = coordinator-step.unknown
+abbrev pub coordinator_in : CoordinatorPhase → coordinator-step.CoordinatorPhase
+coordinator_in coordinator.Open = coordinator-step.initial
+coordinator_in (coordinator.Collecting w) = coordinator-step.collecting w
+coordinator_in (coordinator.Committing w) = coordinator-step.awaiting_acks outcomes.commit w
+coordinator_in (coordinator.Aborting w) = coordinator-step.awaiting_acks outcomes.abort w
+coordinator_in coordinator.Unknown = coordinator-step.unknown
 
-abbrev pub participantIn : ParticipantPhase → participant-step.ParticipantPhase
-participantIn participant.Working = participant-step.working
-participantIn participant.Prepared = participant-step.prepared
-participantIn participant.Committed = participant-step.decided outcomes.commit
-participantIn participant.Aborted = participant-step.decided outcomes.abort
-participantIn participant.Unknown = participant-step.unknown
+abbrev pub participant_in : ParticipantPhase → participant-step.ParticipantPhase
+participant_in participant.Working = participant-step.working
+participant_in participant.Prepared = participant-step.prepared
+participant_in participant.Committed = participant-step.decided outcomes.commit
+participant_in participant.Aborted = participant-step.decided outcomes.abort
+participant_in participant.Unknown = participant-step.unknown
 
 -- its phase and the set taken out
-abbrev pub coordinatorStateIn : Coordinator → coordinator-step.Coordinator
-coordinatorStateIn c = record { phase = coordinatorIn c.phase; takenOut = c.taken_out }
+abbrev pub coordinator_state_in : Coordinator → coordinator-step.Coordinator
+coordinator_state_in c = record { phase = coordinator_in c.phase; taken_out = c.taken_out }
 
-abbrev pub cohortIn : Coordinator → Cohort
-cohortIn c = record { members = c.members; presumeCommit = c.presume_commit }
+abbrev pub cohort_in : Coordinator → Cohort
+cohort_in c = record { members = c.members; presume_commit = c.presume_commit }
 
 -- a set of record kinds, bit k for kind k
-unfoldable pub hasKind : ℕ → ℕ → Bool
-hasKind kinds k = eqb (kinds / 2 ^ k % 2) 1
+unfoldable pub has_kind : ℕ → ℕ → Bool
+has_kind kinds k = eqb (kinds / 2 ^ k % 2) 1
 
 -- ---- the effects that a row's numbers stand for in transaction t, in their order: 0 is none, and what is no outcome or message has no effect.
 -- There is no message where the set is empty. The order of sends is the definitions' own, `ordered`: whoever performs a row keeps to it
@@ -68,43 +68,43 @@ unfoldable pub sending : ℕ → ℕ → ℕ → ℕ → List Effect
 sending t kind owing to = given (leb kind 7) (map (send (get_or messages kind prepare)) (ordered t owing to))
 
 -- a record has as many of two fields as its kind
-abbrev pub fieldsBy : ℕ → ℕ → ℕ → List ℕ
-fieldsBy kind first second = take (length_of kind - 2) (first ∷ second ∷ [])
+abbrev pub fields_by : ℕ → ℕ → ℕ → List ℕ
+fields_by kind first second = take (length_of kind - 2) (first ∷ second ∷ [])
 
 unfoldable pub closing : ℕ → List Effect → List Effect
 closing zero es = es
-closing (suc k) es = es ++ append (suc k) (fieldsBy (suc k) 0 0) ∷ []
+closing (suc k) es = es ++ append (suc k) (fields_by (suc k) 0 0) ∷ []
 
-unfoldable pub effectsIn : ℕ → Effects → List Effect
-effectsIn t e =
-    numbers.appending e.appended (fieldsBy e.appended e.first e.second)
+unfoldable pub effects_in : ℕ → Effects → List Effect
+effects_in t e =
+    numbers.appending e.appended (fields_by e.appended e.first e.second)
     ++ (given e.forced (force ∷ []) ++ (numbers.entry_of e.entered ++ closing e.last (sending t e.message e.owing e.to)))
 
-abbrev pub summaryIn : Summary → numbers.Summary
-summaryIn x = record { first = x.first; last = x.last; forced = x.forced; entered = x.entered; message = x.message; to = x.to }
+abbrev pub summary_in : Summary → numbers.Summary
+summary_in x = record { first = x.first; last = x.last; forced = x.forced; entered = x.entered; message = x.message; to = x.to }
 
 -- ---- rows and answers
 
-abbrev pub coordinatorRowIn : ℕ → CoordinatorRow → Row coordinator-step.Coordinator
-coordinatorRowIn t r = record { effects = effectsIn t r.effects; phase = record { phase = coordinatorIn r.phase; takenOut = r.taken_out } }
+abbrev pub coordinator_row_in : ℕ → CoordinatorRow → Row coordinator-step.Coordinator
+coordinator_row_in t r = record { effects = effects_in t r.effects; phase = record { phase = coordinator_in r.phase; taken_out = r.taken_out } }
 
-abbrev pub participantRowIn : ℕ → ParticipantRow → Row participant-step.ParticipantPhase
-participantRowIn t r = record { effects = effectsIn t r.effects; phase = participantIn r.phase }
+abbrev pub participant_row_in : ℕ → ParticipantRow → Row participant-step.ParticipantPhase
+participant_row_in t r = record { effects = effects_in t r.effects; phase = participant_in r.phase }
 
-abbrev pub coordinatorAnswerIn : ℕ → CoordinatorAnswer → Answer coordinator-step.Coordinator
-coordinatorAnswerIn t (coordinator-answer.Row r) = row (coordinatorRowIn t r)
-coordinatorAnswerIn t coordinator-answer.NoRow = no_row
-coordinatorAnswerIn t coordinator-answer.Refused = refused
+abbrev pub coordinator_answer_in : ℕ → CoordinatorAnswer → Answer coordinator-step.Coordinator
+coordinator_answer_in t (coordinator-answer.Row r) = row (coordinator_row_in t r)
+coordinator_answer_in t coordinator-answer.NoRow = no_row
+coordinator_answer_in t coordinator-answer.Refused = refused
 
-abbrev pub participantAnswerIn : ℕ → ParticipantAnswer → Answer participant-step.ParticipantPhase
-participantAnswerIn t (participant-answer.Row r) = row (participantRowIn t r)
-participantAnswerIn t participant-answer.NoRow = no_row
-participantAnswerIn t participant-answer.Refused = refused
+abbrev pub participant_answer_in : ℕ → ParticipantAnswer → Answer participant-step.ParticipantPhase
+participant_answer_in t (participant-answer.Row r) = row (participant_row_in t r)
+participant_answer_in t participant-answer.NoRow = no_row
+participant_answer_in t participant-answer.Refused = refused
 
 -- ---- the call's arguments
 
-abbrev pub argumentsIn : ℕ → ℕ → ℕ → ℕ → ℕ → ℕ → ℕ → ℕ → ℕ → ℕ → ℕ → numbers.Arguments
-argumentsIn s k t p q ph w m pc mark out =
+abbrev pub arguments_in : ℕ → ℕ → ℕ → ℕ → ℕ → ℕ → ℕ → ℕ → ℕ → ℕ → ℕ → numbers.Arguments
+arguments_in s k t p q ph w m pc mark out =
     record {
       site = s;
       kind = k;
@@ -113,7 +113,7 @@ argumentsIn s k t p q ph w m pc mark out =
       presumption = q;
       phase = ph;
       waiting = w;
-      cohort = record { members = m; presumeCommit = pc };
+      cohort = record { members = m; presume_commit = pc };
       mark = mark;
-      takenOut = out;
+      taken_out = out;
     }

@@ -7,4 +7,4 @@ pub mod Numbers
 pub mod Answers
 pub mod Inside
 pub mod Open
-pub mod laws
+pub mod Laws

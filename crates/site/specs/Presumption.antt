@@ -4,11 +4,11 @@ use Rattle.std.specs.Prelude.{ℕ, Bool, true, false}
 pub data Outcome : Type 0 where
   commit abort : Outcome
 
-unfoldable pub sameOutcome : Outcome → Outcome → Bool
-sameOutcome commit commit = true
-sameOutcome commit abort = false
-sameOutcome abort commit = false
-sameOutcome abort abort = true
+unfoldable pub same_outcome : Outcome → Outcome → Bool
+same_outcome commit commit = true
+same_outcome commit abort = false
+same_outcome abort commit = false
+same_outcome abort abort = true
 
 -- Presumed abort (01: PrA, presumption 0) and presumed commit (PrC, 1). `acks` and `silence` are all that a presumption says.
 pub data Presumption : Type 0 where
@@ -26,6 +26,6 @@ unfoldable pub silence : Presumption → Outcome
 silence presumedAbort = abort
 silence presumedCommit = commit
 
-unfoldable pub presumptionNumber : Presumption → ℕ
-presumptionNumber presumedAbort = 0
-presumptionNumber presumedCommit = 1
+unfoldable pub presumption_number : Presumption → ℕ
+presumption_number presumedAbort = 0
+presumption_number presumedCommit = 1

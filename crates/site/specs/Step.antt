@@ -13,28 +13,28 @@ pub data Message : Type 0 where
 unfoldable pub messages : List Message
 messages = prepare ∷ voteYes ∷ voteNo ∷ tell commit ∷ tell abort ∷ ack commit ∷ ack abort ∷ read_only ∷ []
 
-unfoldable pub messageKind : Message → ℕ
-messageKind prepare = 0
-messageKind voteYes = 1
-messageKind voteNo = 2
-messageKind (tell commit) = 3
-messageKind (tell abort) = 4
-messageKind (ack commit) = 5
-messageKind (ack abort) = 6
-messageKind read_only = 7
+unfoldable pub message_kind : Message → ℕ
+message_kind prepare = 0
+message_kind voteYes = 1
+message_kind voteNo = 2
+message_kind (tell commit) = 3
+message_kind (tell abort) = 4
+message_kind (ack commit) = 5
+message_kind (ack abort) = 6
+message_kind read_only = 7
 
 -- the site that coordinates participant p
-unfoldable pub coordinatorOf : ℕ → ℕ
-coordinatorOf p = 0
+unfoldable pub coordinator_of : ℕ → ℕ
+coordinator_of p = 0
 
 -- the site that a message of participant p goes to: 0, 3 and 4 to the participant, the others to its coordinator
 unfoldable pub receiver : Message → ℕ → ℕ
 receiver prepare p = p
-receiver voteYes p = coordinatorOf p
-receiver voteNo p = coordinatorOf p
-receiver read_only p = coordinatorOf p
+receiver voteYes p = coordinator_of p
+receiver voteNo p = coordinator_of p
+receiver read_only p = coordinator_of p
 receiver (tell o) p = p
-receiver (ack o) p = coordinatorOf p
+receiver (ack o) p = coordinator_of p
 
 -- what a site is given: begin, its timer, or a message of participant p
 pub data Input : Type 0 where
@@ -63,15 +63,15 @@ pub data Answer (Phase : Type 0) : Type 0 where
   row : Row Phase → Answer Phase
 
 -- its number; begin and timer without a row answer 8 in the joint run
-unfoldable pub answerNumber : {Phase : Type 0} → Answer Phase → ℕ
-answerNumber refused = 1
-answerNumber no_row = 0
-answerNumber (row r) = 0
+unfoldable pub answer_number : {Phase : Type 0} → Answer Phase → ℕ
+answer_number refused = 1
+answer_number no_row = 0
+answer_number (row r) = 0
 
 unfoldable pub answered : {Phase : Type 0} → Option (Row Phase) → Answer Phase
 answered none = no_row
 answered (some r) = row r
 
-unfoldable pub answerIf : {Phase : Type 0} → Bool → Option (Row Phase) → Answer Phase
-answerIf true r = answered r
-answerIf false r = refused
+unfoldable pub answer_if : {Phase : Type 0} → Bool → Option (Row Phase) → Answer Phase
+answer_if true r = answered r
+answer_if false r = refused

@@ -4,9 +4,9 @@ ghost use Rattle.codec.specs.Sets as sets;
 ghost use Rattle.site.specs.Cohort as cohort;
 ghost use Rattle.site.specs.Coordinator as coordinator;
 ghost use Rattle.site.specs.Step.{answered};
-ghost use Rattle.site.specs.Numbers.{coordinatorAnswer};
-ghost use Rattle.site.specs.Answers.{outcomeIn, presumptionIn, coordinatorIn, coordinatorStateIn, cohortIn, hasKind, coordinatorRowIn, coordinatorAnswerIn};
-ghost use Rattle.site.specs.Inside.{toldTo};
+ghost use Rattle.site.specs.Numbers.{coordinator_answer};
+ghost use Rattle.site.specs.Answers.{outcome_in, presumption_in, coordinator_in, coordinator_state_in, cohort_in, has_kind, coordinator_row_in, coordinator_answer_in};
+ghost use Rattle.site.specs.Inside.{told_to};
 
 use crate::effects::Effects;
 use crate::inputs::{BEGIN, TIMER};
@@ -44,7 +44,7 @@ pub enum CoordinatorAnswer {
 
 // Acks of `waiting` are missing; if none is, the end record.
 fn acked(outcome: Outcome, waiting: u8, taken_out: u8) -> CoordinatorRow
-    ensures { (t : ℕ) → coordinatorRowIn t result ≡ coordinator.leaving taken_out (coordinator.acked (outcomeIn outcome) (sets.empty waiting) waiting) }
+    ensures { (t : ℕ) → coordinator_row_in t result ≡ coordinator.leaving taken_out (coordinator.acked (outcome_in outcome) (sets.empty waiting) waiting) }
 {
     if waiting == 0 {
         let mut effects = Effects::NONE;
@@ -64,7 +64,7 @@ fn acked(outcome: Outcome, waiting: u8, taken_out: u8) -> CoordinatorRow
 
 impl Coordinator {
     pub fn presumption(self, participant: u8) -> Presumption
-        ensures { presumptionIn result ≡ cohort.presumptionOf (cohortIn self) participant }
+        ensures { presumption_in result ≡ cohort.presumption_of (cohort_in self) participant }
     {
         if member(participant, self.presume_commit) {
             return Presumption::Commit;
@@ -74,7 +74,7 @@ impl Coordinator {
 
     // The members that owe an ack for an outcome.
     pub fn owing(self, outcome: Outcome) -> u8
-        ensures { result ≡ cohort.owing (cohortIn self) (outcomeIn outcome) }
+        ensures { result ≡ cohort.owing (cohort_in self) (outcome_in outcome) }
     {
         match outcome {
             Outcome::Commit => minus(self.members, self.presume_commit),
@@ -84,7 +84,7 @@ impl Coordinator {
 
     // The cohort without those taken out; phase and set stay.
     pub fn remaining(self) -> Coordinator
-        ensures { (cohortIn result ≡ cohort.remaining (cohortIn self) self.taken_out) × (result.taken_out ≡ self.taken_out) }
+        ensures { (cohort_in result ≡ cohort.remaining (cohort_in self) self.taken_out) × (result.taken_out ≡ self.taken_out) }
     {
         let phase = self.phase;
         let taken_out = self.taken_out;
@@ -98,13 +98,13 @@ impl Coordinator {
 
     // Whether Init is written at begin.
     fn writes_init(self) -> bool
-        ensures { result ≡ cohort.writesInit (cohortIn self) }
+        ensures { result ≡ cohort.writes_init (cohort_in self) }
     {
         self.presume_commit != 0
     }
 
     fn preparing(self) -> CoordinatorRow
-        ensures { (t : ℕ) → coordinatorRowIn t result ≡ coordinator.leaving self.taken_out (coordinator.preparing t (cohortIn self) (cohort.writesInit (cohortIn self))) }
+        ensures { (t : ℕ) → coordinator_row_in t result ≡ coordinator.leaving self.taken_out (coordinator.preparing t (cohort_in self) (cohort.writes_init (cohort_in self))) }
     {
         let members = self.members;
         let forced = self.writes_init();
@@ -127,7 +127,7 @@ impl Coordinator {
 
     // All have voted Yes.
     fn committing(self) -> CoordinatorRow
-        ensures { (t : ℕ) → coordinatorRowIn t result ≡ coordinator.leaving self.taken_out (coordinator.committing t (cohortIn self)) }
+        ensures { (t : ℕ) → coordinator_row_in t result ≡ coordinator.leaving self.taken_out (coordinator.committing t (cohort_in self)) }
     {
         let awaited = self.owing(Outcome::Commit);
         CoordinatorRow {
@@ -149,7 +149,7 @@ impl Coordinator {
 
     // Nobody remains: nothing is entered, and AbortEnd is appended exactly if Init was.
     fn deserted(self) -> CoordinatorRow
-        ensures { (t : ℕ) → coordinatorRowIn t result ≡ coordinator.leaving self.taken_out (coordinator.voted t (cohortIn self) self.taken_out true true 0) }
+        ensures { (t : ℕ) → coordinator_row_in t result ≡ coordinator.leaving self.taken_out (coordinator.voted t (cohort_in self) self.taken_out true true 0) }
     {
         let mut effects = Effects::NONE;
         effects.appended = if self.writes_init() {
@@ -166,7 +166,7 @@ impl Coordinator {
 
     // A vote came, and votes of `waiting` are still missing.
     fn counting(self, waiting: u8) -> CoordinatorRow
-        ensures { (t : ℕ) → coordinatorRowIn t result ≡ coordinator.leaving self.taken_out (coordinator.counting t (cohortIn self) self.taken_out waiting) }
+        ensures { (t : ℕ) → coordinator_row_in t result ≡ coordinator.leaving self.taken_out (coordinator.counting t (cohort_in self) self.taken_out waiting) }
     {
         let rest = self.remaining();
         if rest.members == 0 {
@@ -184,7 +184,7 @@ impl Coordinator {
 
     // Abort, told to the set `to`; whether Init was written.
     fn aborting(self, init: bool, to: u8) -> CoordinatorRow
-        ensures { (t : ℕ) → coordinatorRowIn t result ≡ coordinator.leaving self.taken_out (coordinator.aborting t (cohortIn self) init to) }
+        ensures { (t : ℕ) → coordinator_row_in t result ≡ coordinator.leaving self.taken_out (coordinator.aborting t (cohort_in self) init to) }
     {
         let owing = self.owing(Outcome::Abort);
         let waiting = both(to, owing);
@@ -208,7 +208,7 @@ impl Coordinator {
 
     // An outcome told to a set, those first that owe an ack for it, and nothing else; the phase stays.
     fn telling(self, outcome: Outcome, to: u8) -> CoordinatorRow
-        ensures { (t : ℕ) → coordinatorRowIn t result ≡ coordinator.leaving self.taken_out (toldTo t (cohortIn self) (outcomeIn outcome) to (coordinatorIn self.phase)) }
+        ensures { (t : ℕ) → coordinator_row_in t result ≡ coordinator.leaving self.taken_out (told_to t (cohort_in self) (outcome_in outcome) to (coordinator_in self.phase)) }
     {
         let mut effects = Effects::NONE;
         effects.message = outcome.message();
@@ -223,7 +223,7 @@ impl Coordinator {
     }
 
     fn on_begin(self) -> CoordinatorAnswer
-        ensures { (t : ℕ) → coordinatorAnswerIn t result ≡ answered (coordinator.leavingIf self.taken_out (coordinator.onBegin t (cohortIn self) (coordinatorIn self.phase))) }
+        ensures { (t : ℕ) → coordinator_answer_in t result ≡ answered (coordinator.leaving_if self.taken_out (coordinator.on_begin t (cohort_in self) (coordinator_in self.phase))) }
     {
         let phase = self.phase;
         match phase {
@@ -234,7 +234,7 @@ impl Coordinator {
 
     fn on_yes(self, participant: u8) -> CoordinatorAnswer
         requires { sets.member participant self.members ≡ true }
-        ensures { (t : ℕ) → coordinatorAnswerIn t result ≡ answered (coordinator.leavingIf self.taken_out (coordinator.onYes t (cohortIn self) self.taken_out participant (coordinatorIn self.phase))) }
+        ensures { (t : ℕ) → coordinator_answer_in t result ≡ answered (coordinator.leaving_if self.taken_out (coordinator.on_yes t (cohort_in self) self.taken_out participant (coordinator_in self.phase))) }
     {
         let phase = self.phase;
         match phase {
@@ -261,7 +261,7 @@ impl Coordinator {
     }
 
     fn on_no(self, participant: u8) -> CoordinatorAnswer
-        ensures { (t : ℕ) → coordinatorAnswerIn t result ≡ answered (coordinator.leavingIf self.taken_out (coordinator.onNo t (cohortIn self) self.taken_out participant (coordinatorIn self.phase))) }
+        ensures { (t : ℕ) → coordinator_answer_in t result ≡ answered (coordinator.leaving_if self.taken_out (coordinator.on_no t (cohort_in self) self.taken_out participant (coordinator_in self.phase))) }
     {
         let phase = self.phase;
         match phase {
@@ -279,7 +279,7 @@ impl Coordinator {
 
     // The participant is taken out.
     fn on_read_only(self, participant: u8) -> CoordinatorAnswer
-        ensures { (t : ℕ) → coordinatorAnswerIn t result ≡ answered (coordinator.leavingIf (coordinator.takingOut participant self.taken_out) (coordinator.onReadOnly t (cohortIn self) self.taken_out participant (coordinatorIn self.phase))) }
+        ensures { (t : ℕ) → coordinator_answer_in t result ≡ answered (coordinator.leaving_if (coordinator.taking_out participant self.taken_out) (coordinator.on_read_only t (cohort_in self) self.taken_out participant (coordinator_in self.phase))) }
     {
         let phase = self.phase;
         match phase {
@@ -300,7 +300,7 @@ impl Coordinator {
     }
 
     fn on_timer(self) -> CoordinatorAnswer
-        ensures { (t : ℕ) → coordinatorAnswerIn t result ≡ answered (coordinator.leavingIf self.taken_out (coordinator.coordinatorTimer t (cohortIn self) self.taken_out (coordinatorIn self.phase))) }
+        ensures { (t : ℕ) → coordinator_answer_in t result ≡ answered (coordinator.leaving_if self.taken_out (coordinator.coordinator_timer t (cohort_in self) self.taken_out (coordinator_in self.phase))) }
     {
         let phase = self.phase;
         match phase {
@@ -321,7 +321,7 @@ impl Coordinator {
     }
 
     fn on_ack(self, outcome: Outcome, participant: u8) -> CoordinatorAnswer
-        ensures { (t : ℕ) → coordinatorAnswerIn t result ≡ answered (coordinator.leavingIf self.taken_out (coordinator.onAck (outcomeIn outcome) participant (coordinatorIn self.phase))) }
+        ensures { (t : ℕ) → coordinator_answer_in t result ≡ answered (coordinator.leaving_if self.taken_out (coordinator.on_ack (outcome_in outcome) participant (coordinator_in self.phase))) }
     {
         let phase = self.phase;
         match outcome {
@@ -347,7 +347,7 @@ impl Coordinator {
     // A message: one of what is no member, or of a kind that the coordinator never receives, is refused.
     pub(crate) fn on_message(self, kind: u8, participant: u8) -> CoordinatorAnswer
         requires { kind < 16 }
-        ensures { (t : ℕ) → coordinatorAnswerIn t result ≡ coordinatorAnswer t (cohortIn self) kind participant (coordinatorStateIn self) }
+        ensures { (t : ℕ) → coordinator_answer_in t result ≡ coordinator_answer t (cohort_in self) kind participant (coordinator_state_in self) }
     {
         if !member(participant, self.members) {
             return CoordinatorAnswer::Refused;
@@ -365,7 +365,7 @@ impl Coordinator {
     // Begin and the timer, which are no message.
     pub(crate) fn on_own(self, kind: u8) -> CoordinatorAnswer
         requires { 16 ≤ kind }
-        ensures { (t p : ℕ) → coordinatorAnswerIn t result ≡ coordinatorAnswer t (cohortIn self) kind p (coordinatorStateIn self) }
+        ensures { (t p : ℕ) → coordinator_answer_in t result ≡ coordinator_answer t (cohort_in self) kind p (coordinator_state_in self) }
     {
         match kind {
             BEGIN => self.on_begin(),
@@ -376,7 +376,7 @@ impl Coordinator {
 
     // The step by the kind's number: a kind that the coordinator never receives, and a message of what is no member, is refused.
     pub fn step(self, kind: u8, participant: u8) -> CoordinatorAnswer
-        ensures { (t : ℕ) → coordinatorAnswerIn t result ≡ coordinatorAnswer t (cohortIn self) kind participant (coordinatorStateIn self) }
+        ensures { (t : ℕ) → coordinator_answer_in t result ≡ coordinator_answer t (cohort_in self) kind participant (coordinator_state_in self) }
     {
         if kind < BEGIN {
             return self.on_message(kind, participant);
@@ -386,7 +386,7 @@ impl Coordinator {
 
     // At restart: an outcome entered again; whether it is told to all.
     fn resuming(self, outcome: Outcome, tells: bool) -> CoordinatorRow
-        ensures { (t : ℕ) → coordinatorRowIn t result ≡ coordinator.leaving 0 (coordinator.resuming t (cohortIn self) (outcomeIn outcome) tells) }
+        ensures { (t : ℕ) → coordinator_row_in t result ≡ coordinator.leaving 0 (coordinator.resuming t (cohort_in self) (outcome_in outcome) tells) }
     {
         let owing = self.owing(outcome);
         let mut effects = Effects::NONE;
@@ -404,7 +404,7 @@ impl Coordinator {
     // From the kinds of record that the stable log has of the transaction, bit k for kind k. The masks are those of the record from which
     // it resumes: of Commit where there is one, else of Init. Phase and set taken out are not looked at.
     pub fn restart(self, records: u16) -> CoordinatorRow
-        ensures { (t : ℕ) → coordinatorRowIn t result ≡ coordinator.coordinatorRestart t (hasKind records) (λ k. cohortIn self) }
+        ensures { (t : ℕ) → coordinator_row_in t result ≡ coordinator.coordinator_restart t (has_kind records) (λ k. cohort_in self) }
     {
         let init = has(records, Record::INIT);
         let commit = has(records, Record::COMMIT);

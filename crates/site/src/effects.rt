@@ -3,7 +3,7 @@ ghost use Rattle.std.specs.Prelude.{◌≡◌, cond, ℕ, ◌-◌, ◌≤◌, le
 ghost use Rattle.codec.specs.Sets as sets;
 ghost use Rattle.site.specs.Coordinator.{in_turn, ordered};
 ghost use Rattle.site.specs.Numbers.{summary, entry_of};
-ghost use Rattle.site.specs.Answers.{effectsIn, sending, summaryIn};
+ghost use Rattle.site.specs.Answers.{effects_in, sending, summary_in};
 ghost use Rattle.site.specs.Inside.{up_to};
 
 use codec::message::Parts;
@@ -79,7 +79,7 @@ impl Effects {
 
     // How many effects it has.
     pub fn count(self) -> u8
-        ensures { (t : ℕ) → result ≡ length (effectsIn t self) }
+        ensures { (t : ℕ) → result ≡ length (effects_in t self) }
     {
         let appends = one_if(self.appended != 0);
         let forces = one_if(self.forced);
@@ -90,7 +90,7 @@ impl Effects {
 
     // The first `most` effects of it, in a transaction.
     pub fn cut(self, transaction: u8, most: u8) -> Effects
-        ensures { effectsIn transaction result ≡ take most (effectsIn transaction self) }
+        ensures { effects_in transaction result ≡ take most (effects_in transaction self) }
     {
         if self.count() <= most {
             return self;
@@ -113,7 +113,7 @@ impl Effects {
     }
 
     pub fn summary(self) -> Summary
-        ensures { (t : ℕ) → summaryIn result ≡ summary (effectsIn t self) }
+        ensures { (t : ℕ) → summary_in result ≡ summary (effects_in t self) }
     {
         let to = self.to;
         let enters = self.entered <= Effects::ABORT_ENTERED;

@@ -1,8 +1,8 @@
 // One site's step on numbers, for C (include/dpr.h).
 ghost use Rattle.std.specs.Prelude.{◌≡◌, [], ◌∷◌, ℕ, ◌+◌, ◌*◌, ◌≤◌};
 ghost use Rattle.site.specs.Numbers as numbers;
-ghost use Rattle.site.specs.Answers.{cohortIn, coordinatorAnswerIn, participantAnswerIn, argumentsIn};
-ghost use Rattle.site.specs.Inside.{coordinatorNumbers, participantNumbers};
+ghost use Rattle.site.specs.Answers.{cohort_in, coordinator_answer_in, participant_answer_in, arguments_in};
+ghost use Rattle.site.specs.Inside.{coordinator_numbers, participant_numbers};
 
 use crate::coordinator::{Coordinator, CoordinatorAnswer};
 use crate::effects::Summary;
@@ -33,7 +33,7 @@ fn packed(phase: u8, waiting: u8, taken_out: u8, row: Summary) -> u64
 
 // The numbers of a step's answer; where there is no row, with the phase, the waiting set and the set taken out that are given.
 pub fn coordinator_result(answer: CoordinatorAnswer, phase: u8, waiting: u8, taken_out: u8) -> u64
-    ensures { (t : ℕ) → result ≡ numbers.packed (numbers.coordinatorResult phase waiting taken_out (coordinatorAnswerIn t answer)) }
+    ensures { (t : ℕ) → result ≡ numbers.packed (numbers.coordinator_result phase waiting taken_out (coordinator_answer_in t answer)) }
 {
     match answer {
         CoordinatorAnswer::Refused => REFUSED,
@@ -52,7 +52,7 @@ pub fn coordinator_result(answer: CoordinatorAnswer, phase: u8, waiting: u8, tak
 }
 
 pub fn participant_result(answer: ParticipantAnswer, phase: u8) -> u64
-    ensures { (t : ℕ) → result ≡ numbers.packed (numbers.participantResult phase (participantAnswerIn t answer)) }
+    ensures { (t : ℕ) → result ≡ numbers.packed (numbers.participant_result phase (participant_answer_in t answer)) }
 {
     match answer {
         ParticipantAnswer::Refused => REFUSED,
@@ -68,7 +68,7 @@ pub fn participant_result(answer: ParticipantAnswer, phase: u8) -> u64
 impl Coordinator {
     // Whether a waiting set is one of a phase, by their numbers; the coordinator's own phase is not looked at.
     fn waiting_in_range(self, phase: u8, waiting: u8) -> bool
-        ensures { result ≡ numbers.waitingInRange (cohortIn self) phase waiting }
+        ensures { result ≡ numbers.waiting_in_range (cohort_in self) phase waiting }
     {
         let awaits = waiting != 0;
         match phase {
@@ -82,7 +82,7 @@ impl Coordinator {
 
     // Whether the set taken out is one of a phase and a waiting set, by their numbers.
     fn taken_out_in_range(self, phase: u8, waiting: u8) -> bool
-        ensures { result ≡ numbers.takenOutInRange (cohortIn self) phase waiting self.taken_out }
+        ensures { result ≡ numbers.taken_out_in_range (cohort_in self) phase waiting self.taken_out }
     {
         let taken_out = self.taken_out;
         let awaited = both(taken_out, waiting);
@@ -102,7 +102,7 @@ fn coordinator_step(
     mark: u8,
     taken_out: u8,
 ) -> u64
-    ensures { (t : ℕ) → result ≡ numbers.packed (coordinatorNumbers (argumentsIn 0 kind t participant presumption phase waiting members presume_commit mark taken_out)) }
+    ensures { (t : ℕ) → result ≡ numbers.packed (coordinator_numbers (arguments_in 0 kind t participant presumption phase waiting members presume_commit mark taken_out)) }
 {
     let coordinator = Coordinator {
         phase: CoordinatorPhase::from_numbers(phase, waiting),
@@ -145,7 +145,7 @@ fn participant_step(
     presume_commit: u8,
     mark: u8,
 ) -> u64
-    ensures { result ≡ numbers.packed (participantNumbers (argumentsIn participant kind 0 participant presumption phase 0 members presume_commit mark 0)) }
+    ensures { result ≡ numbers.packed (participant_numbers (arguments_in participant kind 0 participant presumption phase 0 members presume_commit mark 0)) }
 {
     let coordinator = Coordinator {
         phase: CoordinatorPhase::Unknown,
@@ -181,7 +181,7 @@ pub extern "C" fn dpr_site_step(
     mark: u8,
     taken_out: u8,
 ) -> u64
-    ensures { result ≡ numbers.packed (numbers.siteStep (argumentsIn site kind transaction participant presumption phase waiting members presume_commit mark taken_out)) }
+    ensures { result ≡ numbers.packed (numbers.site_step (arguments_in site kind transaction participant presumption phase waiting members presume_commit mark taken_out)) }
 {
     let wrong = (Parts::LAST_TRANSACTION < transaction)
         | (CoordinatorPhase::LAST < phase)

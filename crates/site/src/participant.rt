@@ -4,9 +4,9 @@ ghost use Rattle.codec.specs.Sets.{only};
 ghost use Rattle.site.specs.Presumption.{acks};
 ghost use Rattle.site.specs.Participant as participant;
 ghost use Rattle.site.specs.Step.{prepare, messages, answered};
-ghost use Rattle.site.specs.Numbers.{participantAnswer, participantRestarted};
-ghost use Rattle.site.specs.Answers.{outcomeIn, presumptionIn, participantIn, hasKind, participantRowIn, participantAnswerIn};
-ghost use Rattle.site.specs.laws.Sets.{Numbered};
+ghost use Rattle.site.specs.Numbers.{participant_answer, participant_restarted};
+ghost use Rattle.site.specs.Answers.{outcome_in, presumption_in, participant_in, has_kind, participant_row_in, participant_answer_in};
+ghost use Rattle.site.specs.Laws.Sets.{Numbered};
 
 use crate::effects::Effects;
 use crate::inputs::TIMER;
@@ -54,7 +54,7 @@ impl Participant {
     // A vote sent, and nothing else.
     fn voting(self, phase: ParticipantPhase, vote: u8) -> ParticipantRow
         requires { Numbered self.number × (vote ≤ 7) }
-        ensures { (t : ℕ) → participantRowIn t result ≡ participant.voting (presumptionIn self.presumption) self.number (participantIn phase) (get_or messages vote prepare) }
+        ensures { (t : ℕ) → participant_row_in t result ≡ participant.voting (presumption_in self.presumption) self.number (participant_in phase) (get_or messages vote prepare) }
     {
         let mut effects = Effects::NONE;
         effects.message = vote;
@@ -68,7 +68,7 @@ impl Participant {
     // Prepared: from now on only the coordinator can tell the outcome.
     fn promising(self) -> ParticipantRow
         requires { Numbered self.number }
-        ensures { (t : ℕ) → participantRowIn t result ≡ participant.promising (presumptionIn self.presumption) self.number }
+        ensures { (t : ℕ) → participant_row_in t result ≡ participant.promising (presumption_in self.presumption) self.number }
     {
         let presumption = self.presumption;
         ParticipantRow {
@@ -90,7 +90,7 @@ impl Participant {
     // One that only looked sends a read-only vote, writes nothing and is Unknown.
     fn first_vote(self) -> ParticipantRow
         requires { Numbered self.number }
-        ensures { (t : ℕ) → participantRowIn t result ≡ participant.firstVote (presumptionIn self.presumption) self.number self.marked }
+        ensures { (t : ℕ) → participant_row_in t result ≡ participant.first_vote (presumption_in self.presumption) self.number self.marked }
     {
         if self.marked {
             return self.voting(ParticipantPhase::Unknown, Parts::READ_ONLY);
@@ -101,7 +101,7 @@ impl Participant {
     // An outcome that is not new: the phase stays.
     fn acknowledging(self, outcome: Outcome) -> ParticipantRow
         requires { Numbered self.number }
-        ensures { (t : ℕ) → participantRowIn t result ≡ participant.acknowledging (presumptionIn self.presumption) self.number (outcomeIn outcome) (participantIn self.phase) }
+        ensures { (t : ℕ) → participant_row_in t result ≡ participant.acknowledging (presumption_in self.presumption) self.number (outcome_in outcome) (participant_in self.phase) }
     {
         let presumption = self.presumption;
         let mut effects = Effects::NONE;
@@ -117,7 +117,7 @@ impl Participant {
     // The outcome is new.
     fn finish(self, outcome: Outcome) -> ParticipantRow
         requires { Numbered self.number }
-        ensures { (t : ℕ) → participantRowIn t result ≡ participant.finish (presumptionIn self.presumption) self.number (acks (presumptionIn self.presumption) (outcomeIn outcome)) (outcomeIn outcome) }
+        ensures { (t : ℕ) → participant_row_in t result ≡ participant.finish (presumption_in self.presumption) self.number (acks (presumption_in self.presumption) (outcome_in outcome)) (outcome_in outcome) }
     {
         let presumption = self.presumption;
         let acks = presumption.acks(outcome);
@@ -139,7 +139,7 @@ impl Participant {
 
     fn on_prepare(self) -> ParticipantAnswer
         requires { Numbered self.number }
-        ensures { (t : ℕ) → participantAnswerIn t result ≡ answered (participant.onPrepare (presumptionIn self.presumption) self.number self.marked (participantIn self.phase)) }
+        ensures { (t : ℕ) → participant_answer_in t result ≡ answered (participant.on_prepare (presumption_in self.presumption) self.number self.marked (participant_in self.phase)) }
     {
         let phase = self.phase;
         match phase {
@@ -153,7 +153,7 @@ impl Participant {
 
     fn on_tell(self, outcome: Outcome) -> ParticipantAnswer
         requires { Numbered self.number }
-        ensures { (t : ℕ) → participantAnswerIn t result ≡ answered (participant.onTell (presumptionIn self.presumption) self.number (outcomeIn outcome) (participantIn self.phase)) }
+        ensures { (t : ℕ) → participant_answer_in t result ≡ answered (participant.on_tell (presumption_in self.presumption) self.number (outcome_in outcome) (participant_in self.phase)) }
     {
         let phase = self.phase;
         match phase {
@@ -176,7 +176,7 @@ impl Participant {
 
     fn on_timer(self) -> ParticipantAnswer
         requires { Numbered self.number }
-        ensures { (t : ℕ) → participantAnswerIn t result ≡ answered (participant.participantTimer (presumptionIn self.presumption) self.number (participantIn self.phase)) }
+        ensures { (t : ℕ) → participant_answer_in t result ≡ answered (participant.participant_timer (presumption_in self.presumption) self.number (participant_in self.phase)) }
     {
         let phase = self.phase;
         match phase {
@@ -195,7 +195,7 @@ impl Participant {
 
     // The step by the kind's number: a kind that a participant never receives, and what is no participant, is refused.
     pub fn step(self, kind: u8) -> ParticipantAnswer
-        ensures { (t : ℕ) → participantAnswerIn t result ≡ participantAnswer (presumptionIn self.presumption) self.number self.marked kind (participantIn self.phase) }
+        ensures { (t : ℕ) → participant_answer_in t result ≡ participant_answer (presumption_in self.presumption) self.number self.marked kind (participant_in self.phase) }
     {
         let number = self.number;
         if (number < 1) | (Parts::LAST_PARTICIPANT < number) {
@@ -212,7 +212,7 @@ impl Participant {
 
     // From the kinds of record that the stable log has of the transaction, bit k for kind k; what is no participant is refused.
     pub fn restart(self, records: u16) -> ParticipantAnswer
-        ensures { (t : ℕ) → participantAnswerIn t result ≡ participantRestarted (presumptionIn self.presumption) self.number (hasKind records) }
+        ensures { (t : ℕ) → participant_answer_in t result ≡ participant_restarted (presumption_in self.presumption) self.number (has_kind records) }
     {
         let number = self.number;
         if (number < 1) | (Parts::LAST_PARTICIPANT < number) {

@@ -2,8 +2,8 @@
 ghost use Rattle.std.specs.Prelude.{◌≡◌};
 ghost use Rattle.site.specs.Coordinator as coordinator;
 ghost use Rattle.site.specs.Participant as participant;
-ghost use Rattle.site.specs.Numbers.{coordinatorPhase, waitingSet, coordinatorFrom, participantPhase, participantFrom};
-ghost use Rattle.site.specs.Answers.{outcomeIn, coordinatorIn, participantIn};
+ghost use Rattle.site.specs.Numbers.{coordinator_phase, waiting_set, coordinator_from, participant_phase, participant_from};
+ghost use Rattle.site.specs.Answers.{outcome_in, coordinator_in, participant_in};
 
 use crate::presumption::Outcome;
 
@@ -23,7 +23,7 @@ impl CoordinatorPhase {
 
     // What is no phase is Unknown.
     pub fn from_numbers(phase: u8, waiting: u8) -> CoordinatorPhase
-        ensures { coordinatorIn result ≡ coordinatorFrom phase waiting }
+        ensures { coordinator_in result ≡ coordinator_from phase waiting }
     {
         match phase {
             0 => CoordinatorPhase::Open,
@@ -35,7 +35,7 @@ impl CoordinatorPhase {
     }
 
     pub fn number(self) -> u8
-        ensures { result ≡ coordinatorPhase (coordinatorIn self) }
+        ensures { result ≡ coordinator_phase (coordinator_in self) }
     {
         match self {
             CoordinatorPhase::Open => 0,
@@ -47,7 +47,7 @@ impl CoordinatorPhase {
     }
 
     pub fn waiting(self) -> u8
-        ensures { result ≡ waitingSet (coordinatorIn self) }
+        ensures { result ≡ waiting_set (coordinator_in self) }
     {
         match self {
             CoordinatorPhase::Collecting(w) => w,
@@ -58,7 +58,7 @@ impl CoordinatorPhase {
     }
 
     pub fn awaiting(outcome: Outcome, waiting: u8) -> CoordinatorPhase
-        ensures { coordinatorIn result ≡ coordinator.awaitingAcks (outcomeIn outcome) waiting }
+        ensures { coordinator_in result ≡ coordinator.awaiting_acks (outcome_in outcome) waiting }
     {
         match outcome {
             Outcome::Commit => CoordinatorPhase::Committing(waiting),
@@ -68,7 +68,7 @@ impl CoordinatorPhase {
 
     // Acks of `waiting` are missing; if none is, Unknown.
     pub fn until_acked(outcome: Outcome, waiting: u8) -> CoordinatorPhase
-        ensures { coordinatorIn result ≡ coordinator.untilAcked (outcomeIn outcome) waiting }
+        ensures { coordinator_in result ≡ coordinator.until_acked (outcome_in outcome) waiting }
     {
         if waiting == 0 {
             return CoordinatorPhase::Unknown;
@@ -89,7 +89,7 @@ pub enum ParticipantPhase {
 impl ParticipantPhase {
     // What is no phase is Unknown.
     pub fn from_number(phase: u8) -> ParticipantPhase
-        ensures { participantIn result ≡ participantFrom phase }
+        ensures { participant_in result ≡ participant_from phase }
     {
         match phase {
             0 => ParticipantPhase::Working,
@@ -101,7 +101,7 @@ impl ParticipantPhase {
     }
 
     pub fn number(self) -> u8
-        ensures { result ≡ participantPhase (participantIn self) }
+        ensures { result ≡ participant_phase (participant_in self) }
     {
         match self {
             ParticipantPhase::Working => 0,
@@ -113,7 +113,7 @@ impl ParticipantPhase {
     }
 
     pub fn decided(outcome: Outcome) -> ParticipantPhase
-        ensures { participantIn result ≡ participant.decided (outcomeIn outcome) }
+        ensures { participant_in result ≡ participant.decided (outcome_in outcome) }
     {
         match outcome {
             Outcome::Commit => ParticipantPhase::Committed,

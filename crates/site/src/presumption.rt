@@ -1,11 +1,11 @@
 // Outcomes, and what a participant states beforehand about silence.
 ghost use Rattle.std.specs.Prelude.{◌≡◌};
-ghost use Rattle.site.specs.Presumption.{acks, silence, presumptionNumber};
-ghost use Rattle.site.specs.Step.{tell, ack, messageKind};
-ghost use Rattle.site.specs.Coordinator.{endRecord};
-ghost use Rattle.site.specs.Participant.{outcomeRecord};
-ghost use Rattle.site.specs.Numbers.{outcomeNumber};
-ghost use Rattle.site.specs.Answers.{outcomeIn, presumptionIn};
+ghost use Rattle.site.specs.Presumption.{acks, silence, presumption_number};
+ghost use Rattle.site.specs.Step.{tell, ack, message_kind};
+ghost use Rattle.site.specs.Coordinator.{end_record};
+ghost use Rattle.site.specs.Participant.{outcome_record};
+ghost use Rattle.site.specs.Numbers.{outcome_number};
+ghost use Rattle.site.specs.Answers.{outcome_in, presumption_in};
 
 use crate::effects::Effects;
 use codec::message::Parts;
@@ -20,7 +20,7 @@ pub enum Outcome {
 impl Outcome {
     // As it is entered.
     pub fn number(self) -> u8
-        ensures { result ≡ outcomeNumber (outcomeIn self) }
+        ensures { result ≡ outcome_number (outcome_in self) }
     {
         match self {
             Outcome::Commit => Effects::COMMIT_ENTERED,
@@ -30,7 +30,7 @@ impl Outcome {
 
     // The kind of the message that tells it.
     pub fn message(self) -> u8
-        ensures { result ≡ messageKind (tell (outcomeIn self)) }
+        ensures { result ≡ message_kind (tell (outcome_in self)) }
     {
         match self {
             Outcome::Commit => Parts::COMMIT,
@@ -40,7 +40,7 @@ impl Outcome {
 
     // The kind of the message that acknowledges it.
     pub fn ack(self) -> u8
-        ensures { result ≡ messageKind (ack (outcomeIn self)) }
+        ensures { result ≡ message_kind (ack (outcome_in self)) }
     {
         match self {
             Outcome::Commit => Parts::COMMIT_ACK,
@@ -50,7 +50,7 @@ impl Outcome {
 
     // The coordinator's record that ends it.
     pub fn end_record(self) -> u8
-        ensures { result ≡ endRecord (outcomeIn self) }
+        ensures { result ≡ end_record (outcome_in self) }
     {
         match self {
             Outcome::Commit => Record::COMMIT_END,
@@ -60,7 +60,7 @@ impl Outcome {
 
     // A participant's record of it.
     pub fn outcome_record(self) -> u8
-        ensures { result ≡ outcomeRecord (outcomeIn self) }
+        ensures { result ≡ outcome_record (outcome_in self) }
     {
         match self {
             Outcome::Commit => Record::COMMITTED,
@@ -79,7 +79,7 @@ pub enum Presumption {
 impl Presumption {
     // Whether the participant acknowledges an outcome, and forces its record of it.
     pub fn acks(self, outcome: Outcome) -> bool
-        ensures { result ≡ acks (presumptionIn self) (outcomeIn outcome) }
+        ensures { result ≡ acks (presumption_in self) (outcome_in outcome) }
     {
         match self {
             Presumption::Abort => match outcome {
@@ -95,7 +95,7 @@ impl Presumption {
 
     // The outcome with which a coordinator in Unknown answers its Yes.
     pub fn silence(self) -> Outcome
-        ensures { outcomeIn result ≡ silence (presumptionIn self) }
+        ensures { outcome_in result ≡ silence (presumption_in self) }
     {
         match self {
             Presumption::Abort => Outcome::Abort,
@@ -104,7 +104,7 @@ impl Presumption {
     }
 
     pub fn number(self) -> u8
-        ensures { result ≡ presumptionNumber (presumptionIn self) }
+        ensures { result ≡ presumption_number (presumption_in self) }
     {
         match self {
             Presumption::Abort => 0,

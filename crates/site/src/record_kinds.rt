@@ -1,12 +1,12 @@
 // Sets of record kinds: bit k is kind k.
 ghost use Rattle.std.specs.Prelude.{◌≡◌};
-ghost use Rattle.site.specs.Answers.{hasKind};
+ghost use Rattle.site.specs.Answers.{has_kind};
 
 // The last kind that a set has room for.
 const LAST: u8 = 15;
 
 pub fn has(records: u16, kind: u8) -> bool
-    ensures { result ≡ hasKind records kind }
+    ensures { result ≡ has_kind records kind }
 {
     if LAST < kind {
         return false;

@@ -2,9 +2,9 @@
 // and 16 times the last), forced and twice the outcome entered, message sent, and the set of its participants.
 ghost use Rattle.std.specs.Prelude.{◌≡◌, false};
 ghost use Rattle.site.specs.Step.{row};
-ghost use Rattle.site.specs.Coordinator.{coordinatorRestart};
+ghost use Rattle.site.specs.Coordinator.{coordinator_restart};
 ghost use Rattle.site.specs.Numbers as numbers;
-ghost use Rattle.site.specs.Answers.{presumptionIn, coordinatorIn, participantIn, hasKind};
+ghost use Rattle.site.specs.Answers.{presumption_in, coordinator_in, participant_in, has_kind};
 
 use site::coordinator::{Coordinator, CoordinatorAnswer};
 use site::numbers::{coordinator_result, participant_result};
@@ -24,7 +24,7 @@ pub const UNKNOWN: u64 = 0x0400;
 
 // The coordinator restarts transaction 0 from kinds of record, bit k for kind k, by the masks of a record.
 pub fn coordinator_restart(members: u8, presume_commit: u8, kinds: u16) -> u64
-    ensures { result ≡ numbers.packed (numbers.coordinatorResult 255 0 0 (row (coordinatorRestart 0 (hasKind kinds) (λ k. record { members = members; presumeCommit = presume_commit })))) }
+    ensures { result ≡ numbers.packed (numbers.coordinator_result 255 0 0 (row (coordinator_restart 0 (has_kind kinds) (λ k. record { members = members; presume_commit = presume_commit })))) }
 {
     let coordinator = Coordinator {
         phase: CoordinatorPhase::Unknown,
@@ -41,7 +41,7 @@ pub fn coordinator_restart(members: u8, presume_commit: u8, kinds: u16) -> u64
 }
 
 pub fn participant_restart(number: u8, presumption: Presumption, kinds: u16) -> u64
-    ensures { result ≡ numbers.packed (numbers.participantResult 255 (numbers.participantRestarted (presumptionIn presumption) number (hasKind kinds))) }
+    ensures { result ≡ numbers.packed (numbers.participant_result 255 (numbers.participant_restarted (presumption_in presumption) number (has_kind kinds))) }
 {
     let participant = Participant {
         phase: ParticipantPhase::Unknown,
@@ -54,7 +54,7 @@ pub fn participant_restart(number: u8, presumption: Presumption, kinds: u16) -> 
 
 // A step of the coordinator of members 1, 2 and 3, of which 2 presumes commit and some are taken out.
 pub fn coordinator_step(phase: CoordinatorPhase, taken_out: u8, kind: u8, participant: u8) -> u64
-    ensures { result ≡ numbers.packed (numbers.coordinatorResult 255 0 0 (numbers.coordinatorAnswer 0 (record { members = 7; presumeCommit = 2 }) kind participant (record { phase = coordinatorIn phase; takenOut = taken_out }))) }
+    ensures { result ≡ numbers.packed (numbers.coordinator_result 255 0 0 (numbers.coordinator_answer 0 (record { members = 7; presume_commit = 2 }) kind participant (record { phase = coordinator_in phase; taken_out = taken_out }))) }
 {
     let coordinator = Coordinator {
         phase: phase,
@@ -67,7 +67,7 @@ pub fn coordinator_step(phase: CoordinatorPhase, taken_out: u8, kind: u8, partic
 
 // A step of participant 2.
 pub fn participant_step(phase: ParticipantPhase, presumption: Presumption, kind: u8) -> u64
-    ensures { result ≡ numbers.packed (numbers.participantResult 255 (numbers.participantAnswer (presumptionIn presumption) 2 false kind (participantIn phase))) }
+    ensures { result ≡ numbers.packed (numbers.participant_result 255 (numbers.participant_answer (presumption_in presumption) 2 false kind (participant_in phase))) }
 {
     let participant = Participant {
         phase: phase,

@@ -5,14 +5,14 @@ use Prim.Native.Nat.{ℕ}
 use borrow.Author.Tests.{eq-eqb}
 use lib.ListN.{length, replicate, length-set}
 use Rattle.codec.specs.Image.{Written}
-use Rattle.codec.specs.Messages.{Parts, messageParts, partsWritten}
+use Rattle.codec.specs.Messages.{Parts, message_parts, parts_written}
 use borrow.Author.Rules.{rules}
 use Rattle.codec_cases.proofs.message.Statement.{statement}
 use Rattle.codec_cases.proofs.message.Tie as tie
 
 -- three bytes stay three
-same_length : (o : Option Parts) (parts : List ℕ) → length (partsWritten o parts).buffer ≡ length parts
-unfolding partsWritten
+same_length : (o : Option Parts) (parts : List ℕ) → length (parts_written o parts).buffer ≡ length parts
+unfolding parts_written
 same_length none parts = refl
 same_length (some m) parts = simp length-set
 
@@ -21,7 +21,7 @@ expect-requires c κs = eq-eqb _ _ (ap (λ (w : Written). w.answer) (c.dpr-messa
 
 slice-aggregate-same : tie.Need-slice-aggregate-same
 slice-aggregate-same c = let called = c.before.before in
-    sym (ap (λ (w : Written). length w.buffer) called.dpr-message-parts.ensures ∙ same_length (messageParts called.before.before.before.args.number) (replicate 3 0xEE))
+    sym (ap (λ (w : Written). length w.buffer) called.dpr-message-parts.ensures ∙ same_length (message_parts called.before.before.before.args.number) (replicate 3 0xEE))
 
 expect-requires-2 : tie.Need-expect-requires-2
 expect-requires-2 c κs = let called = c.before.before.before in

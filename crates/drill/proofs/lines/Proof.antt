@@ -12,13 +12,13 @@ use borrow.Author.Tests.{le-leb}
 use Rattle.io.specs.Counts.{IsPrefixLen}
 use Rattle.codec.specs.Image.{stored, Written}
 use Rattle.codec.specs.Answers.{written}
-use Rattle.joint.specs.Drill.{drill, textInto, drillInto}
+use Rattle.joint.specs.Drill.{drill, text_into, drill_into}
 use Rattle.drill.proofs.lines.Statement.{statement}
 use Rattle.drill.proofs.lines.Tie as tie
 
-whole : (input buffer text : List ℕ) (r : ℕ) → 220924 ≤ length buffer → length (drill input) ≤ 220924 → written r text ≡ drillInto input buffer
+whole : (input buffer text : List ℕ) (r : ℕ) → 220924 ≤ length buffer → length (drill input) ≤ 220924 → written r text ≡ drill_into input buffer
     → IsPrefixLen r text × (take r text ≡ drill input)
-unfolding drillInto textInto stored
+unfolding drill_into text_into stored
 whole input buffer text r h k e =
     let d = drill input in
     let fits : leb (length d) (length buffer) ≡ true = le-leb (length d) (length buffer) (omega arith) in

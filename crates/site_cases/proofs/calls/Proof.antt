@@ -1,12 +1,12 @@
 use borrow.Author.Tests.{eq-eqb}
-use Rattle.codec.specs.Open.{codec-opens}
+use Rattle.codec.specs.Open.{codec_opens}
 use Rattle.site.specs.Open.{site-opens}
 use borrow.Author.Rules.{rules}
 use Rattle.site_cases.proofs.calls.Statement.{statement}
 use Rattle.site_cases.proofs.calls.Tie as tie
 
 pub calls_spec : {M : Type 1} → statement M
-unfolding codec-opens site-opens
+unfolding codec_opens site-opens
 calls_spec =
     tie.close
     (tie.spec

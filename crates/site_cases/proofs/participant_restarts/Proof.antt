@@ -1,12 +1,12 @@
 use borrow.Author.Tests.{eq-eqb}
-use Rattle.codec.specs.Open.{codec-opens}
+use Rattle.codec.specs.Open.{codec_opens}
 use Rattle.site.specs.Open.{site-opens}
 use borrow.Author.Rules.{rules}
 use Rattle.site_cases.proofs.participant_restarts.Statement.{statement}
 use Rattle.site_cases.proofs.participant_restarts.Tie as tie
 
 pub participant-restarts-spec : {M : Type 1} → statement M
-unfolding codec-opens site-opens
+unfolding codec_opens site-opens
 participant-restarts-spec =
     tie.close
     (tie.spec

@@ -2,7 +2,7 @@ use mathlib.Core.Path.{sym, ◌∙◌}
 use Prim.Native.Nat.{◌-◌}
 use native.Mathlib.Omega.{arith}
 use Rattle.codec.specs.Image.{magic}
-use Rattle.codec.proofs.Opened.{Opening, opening-start, opening-next, opening-differs, opening-end, too_short, opens_by}
+use Rattle.codec.proofs.Opened.{Opening, opening-start, opening_next, opening_differs, opening_end, too_short, opens_by}
 use Rattle.codec.proofs.reader.opens.Statement.{statement}
 use Rattle.codec.proofs.reader.opens.Tie as tie
 
@@ -28,16 +28,16 @@ returns-2 : tie.Need-returns-2 invariant-loop decreases-loop
 unfolding magic
 returns-2 c = let w = c.before.before.before in
     let bytes = w.before.before.args.bytes.now in
-    sym (opens_by bytes w.loop.invariant.long ∙ opening-differs bytes _ w.loop.invariant c.before.before.loop-test.true c.if2.true)
+    sym (opens_by bytes w.loop.invariant.long ∙ opening_differs bytes _ w.loop.invariant c.before.before.loop-test.true c.if2.true)
 
 loop-again : tie.Need-loop-preserved invariant-loop decreases-loop
 unfolding magic
-loop-again c = opening-next _ _ c.before.before.before.loop.invariant c.before.before.loop-test.true c.if2.false
+loop-again c = opening_next _ _ c.before.before.before.loop.invariant c.before.before.loop-test.true c.if2.false
 
 returns-3 : tie.Need-returns-3 invariant-loop decreases-loop
 returns-3 c = let w = c.before in
     let bytes = w.before.before.args.bytes.now in
-    sym (opens_by bytes w.loop.invariant.long ∙ opening-end bytes _ w.loop.invariant c.loop-test.false)
+    sym (opens_by bytes w.loop.invariant.long ∙ opening_end bytes _ w.loop.invariant c.loop-test.false)
 
 pub opens-spec : {M : Type 1} → statement M
 opens-spec =

@@ -6,9 +6,9 @@ use borrow.Author.Tests.{not-true, not-false}
 use lib.Dec.{ltb}
 use lib.ListN.{length, take}
 use Rattle.codec.specs.Lists.{same}
-use Rattle.codec.specs.Image.{magic, siteIn, countIn, overLimit}
+use Rattle.codec.specs.Image.{magic, site_in, count_in, over_limit}
 use Rattle.codec.specs.Answers.{values}
-use Rattle.codec.proofs.Opened.{few-records, opens-long, not_opened, over, not-exact, by-records}
+use Rattle.codec.proofs.Opened.{few-records, opens_long, not_opened, over, not-exact, by_records}
 use Rattle.codec.proofs.reader.read_image.Statement.{statement}
 use Rattle.codec.proofs.reader.read_image.Tie as tie
 
@@ -16,10 +16,10 @@ opened : (c : tie.Else1) → not (ltb (length c.before.before.before.args.bytes.
 opened c = sym c.before.opens.ensures ∙ not-false _ c.if1.false
 
 long : (c : tie.Else1) → 6 ≤ length c.before.before.before.args.bytes.now
-long c = opens-long c.before.before.before.args.bytes.now (opened c)
+long c = opens_long c.before.before.before.args.bytes.now (opened c)
 
-within : (c : tie.Else2) → overLimit (siteIn c.before.before.before.before.before.before.before.args.bytes.now) (countIn c.before.before.before.before.before.before.before.args.bytes.now) ≡ false
-unfolding siteIn countIn
+within : (c : tie.Else2) → over_limit (site_in c.before.before.before.before.before.before.before.args.bytes.now) (count_in c.before.before.before.before.before.before.before.args.bytes.now) ≡ false
+unfolding site_in count_in
 within c = sym c.before.over-limit.ensures ∙ c.if2.false
 
 returns : tie.Need-returns
@@ -35,7 +35,7 @@ cast-count : tie.Need-overflow-cast-count
 cast-count c = omega (arith, c.shared-slice-known3.given 5)
 
 returns-2 : tie.Need-returns-2
-unfolding siteIn countIn
+unfolding site_in count_in
 returns-2 c = c.refused2.ensures
     ∙ ap values (sym (over c.before.before.before.before.before.before.before.before.args.bytes.now (opened c.before.before.before.before.before) (sym c.before.before.over-limit.ensures ∙ c.before.if2.true)))
 
@@ -54,7 +54,7 @@ read-records-requires c κs = let w = c.before.before in
 returns-4 : tie.Need-returns-4
 returns-4 c = let w = c.before.before.before in
     c.read-records.ensures
-    ∙ ap values (sym (by-records c.before.before.before.before.before.before.before.before.before.before.args.bytes.now (opened w.before.before.before.before) (within w) (sym c.before.before.table-exact.ensures ∙ not-false _ c.before.if3.false)))
+    ∙ ap values (sym (by_records c.before.before.before.before.before.before.before.before.before.before.args.bytes.now (opened w.before.before.before.before) (within w) (sym c.before.before.table-exact.ensures ∙ not-false _ c.before.if3.false)))
 
 pub read-image-spec : {M : Type 1} → statement M
 read-image-spec =

@@ -2,24 +2,24 @@ use mathlib.Core.Path.{◌≡◌, refl, ap, sym, ◌∙◌}
 use Prim.Native.Nat.{◌+◌, ◌-◌, ◌*◌, ◌<◌}
 use native.Mathlib.Omega.{arith}
 use borrow.Author.Rules.{rules}
-use Rattle.codec.specs.Image.{headLength, siteIn, countIn}
-use Rattle.codec.specs.Answers.{recordNumber, values, imageValues}
+use Rattle.codec.specs.Image.{head_length, site_in, count_in}
+use Rattle.codec.specs.Answers.{record_number, values, image_values}
 use Rattle.codec.specs.Inside.{Readable, Within, word_at}
 use Rattle.codec.specs.declared.log.Log.{Log}
 use Rattle.codec.proofs.Held.{held}
 use Rattle.codec.proofs.Passed.{not-accepted}
-use Rattle.codec.proofs.Filled.{Filled, filled_none, filled_next, filled-all, within, image-stopped, records-refused, answerAt}
+use Rattle.codec.proofs.Filled.{Filled, filled_none, filled_next, filled_all, within, image-stopped, records-refused, answer_at}
 use Rattle.codec.proofs.reader.read_records.Statement.{statement}
 use Rattle.codec.proofs.reader.read_records.Tie as tie
 
 abbrev invariant-loop : tie.invariant-loop
-invariant-loop bytes site count records₀ newest₀ at₀ i₀ records newest at i = Readable bytes × ((site ≡ siteIn bytes) × ((count ≡ countIn bytes) × Filled bytes records newest.of at i))
+invariant-loop bytes site count records₀ newest₀ at₀ i₀ records newest at i = Readable bytes × ((site ≡ site_in bytes) × ((count ≡ count_in bytes) × Filled bytes records newest.of at i))
 
 abbrev decreases-loop : tie.decreases-loop
 decreases-loop bytes site count records₀ newest₀ at₀ i₀ records newest at i = count - i
 
-more : (c : tie.In-loop invariant-loop decreases-loop) → c.before.loop.i < countIn c.before.before.before.before.before.before.args.bytes.now
-unfolding countIn
+more : (c : tie.In-loop invariant-loop decreases-loop) → c.before.loop.i < count_in c.before.before.before.before.before.before.args.bytes.now
+unfolding count_in
 more c = c.loop-test.true
 
 few : (c : tie.In-loop invariant-loop decreases-loop) → c.before.loop.i < 24
@@ -38,12 +38,12 @@ size c = omega (arith, c.end_of_lem.ensures)
 
 answered : (c : tie.After-read invariant-loop decreases-loop)
     → c.read.result
-    ≡ answerAt c.before.before.before.before.before.before.before.before.before.args.bytes.now c.before.before.before.before.loop.newest.of c.before.before.before.before.loop.at
+    ≡ answer_at c.before.before.before.before.before.before.before.before.before.args.bytes.now c.before.before.before.before.loop.newest.of c.before.before.before.before.loop.at
     (word_at c.before.before.before.before.before.before.before.before.before.args.bytes.now (6 + 4 * c.before.before.before.before.loop.i + 2))
-unfolding siteIn
+unfolding site_in
 answered c =
     let w = c.before.before.before.before in
-    c.read.ensures ∙ ap (answerAt w.before.before.before.before.before.args.bytes.now w.loop.newest.of w.loop.at) (size c.before.before)
+    c.read.ensures ∙ ap (answer_at w.before.before.before.before.before.args.bytes.now w.loop.newest.of w.loop.at) (size c.before.before)
 
 shared-slice-read-site : tie.Need-shared-slice-read-site invariant-loop decreases-loop
 shared-slice-read-site c = omega (arith, c.before.before.requires.whole)
@@ -61,7 +61,7 @@ add_at : tie.Need-overflow-add-at invariant-loop decreases-loop
 add_at c = omega (arith, c.before.shared-slice-known3.given 5)
 
 loop-holds : tie.Need-loop-init invariant-loop decreases-loop
-unfolding siteIn countIn headLength
+unfolding site_in count_in head_length
 loop-holds c = let pre = c.before.before.before.before.requires in
     (pre, (refl, (refl, rw c.none.ensures (filled_none _ pre))))
 
@@ -84,8 +84,8 @@ returns : tie.Need-returns invariant-loop decreases-loop
 returns c = let read = c.before.before.before in
     let w = read.before.before.before.before in
     let bytes = w.before.before.before.before.before.args.bytes.now in
-    let named : recordNumber read.read.result ≡ 0 → ⊥ = not-accepted read.read.result c.before.before.match.keys2 in
-    let here = ap recordNumber (answered read) in
+    let named : record_number read.read.result ≡ 0 → ⊥ = not-accepted read.read.result c.before.before.match.keys2 in
+    let here = ap record_number (answered read) in
     let struck = image-stopped bytes w.loop.invariant.0 w.loop.records w.loop.newest.of w.loop.at w.loop.i w.loop.invariant.1.1.1 (more read.before.before.before) (λ e. named (here ∙ e)) in
     c.refused.ensures
     ∙ ap values (records-refused bytes _ _ (λ e. named (sym c.before.number.ensures ∙ e)) (c.before.number.ensures ∙ here ∙ struck.0) struck.1)
@@ -107,17 +107,17 @@ loop-again c = let w = c.before.before.before.before.before.before.before.before
     (inv.0, (inv.1.0, (inv.1.1.0, rw (c.with.ensures, c.before.before.before.before.before.before.end_of_lem.ensures) next.1)))
 
 cast-index : tie.Need-overflow-cast-index invariant-loop decreases-loop
-unfolding countIn
+unfolding count_in
 cast-index c = omega (arith, c.before.loop.invariant.0.few)
 
 returns-2 : tie.Need-returns-2 invariant-loop decreases-loop
-unfolding imageValues siteIn countIn
+unfolding image_values site_in count_in
 returns-2 c =
     let w = c.before in
     let bytes = w.before.before.before.before.before.args.bytes.now in
-    let log : Log = record { site = siteIn bytes; count = countIn bytes; records = w.loop.records } in
+    let log : Log = record { site = site_in bytes; count = count_in bytes; records = w.loop.records } in
     rw (held log w.loop.invariant.0.few)
-    (filled-all w.before.before.before.before.before.args.bytes.now w.loop.invariant.0 w.loop.records w.loop.newest.of w.loop.at w.loop.i w.loop.invariant.1.1.1 c.loop-test.false)
+    (filled_all w.before.before.before.before.before.args.bytes.now w.loop.invariant.0 w.loop.records w.loop.newest.of w.loop.at w.loop.i w.loop.invariant.1.1.1 c.loop-test.false)
 
 pub read-records-spec : {M : Type 1} → statement M
 read-records-spec =

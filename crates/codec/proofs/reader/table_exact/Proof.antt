@@ -3,8 +3,8 @@ use Prim.Native.Nat.{◌-◌}
 use native.Mathlib.Omega.{arith}
 use borrow.Author.Rules.{rules}
 use borrow.Author.Tests.{lt-leb}
-use Rattle.codec.specs.Image.{headLength, countIn, tableExact}
-use Rattle.codec.specs.laws.Pairs.{Exact, exact-start, exact-next, not-exact, exact-end}
+use Rattle.codec.specs.Image.{head_length, count_in, table_exact}
+use Rattle.codec.specs.Laws.Pairs.{Exact, exact-start, exact_next, not-exact, exact_end}
 use Rattle.codec.proofs.reader.table_exact.Statement.{statement}
 use Rattle.codec.proofs.reader.table_exact.Tie as tie
 
@@ -27,11 +27,11 @@ add_at : tie.Need-overflow-add-at invariant-loop decreases-loop
 add_at c = omega (arith, c.shared-slice-known2.given 5)
 
 returns : tie.Need-returns invariant-loop decreases-loop
-unfolding tableExact headLength countIn
+unfolding table_exact head_length count_in
 returns c = rw (lt-leb _ _ c.if1.true)
 
 loop-holds : tie.Need-loop-init invariant-loop decreases-loop
-unfolding countIn
+unfolding count_in
 loop-holds c = exact-start _ _ refl (omega (arith, c.before.shared-slice-known2.given 5)) c.if1.false
 
 returns-2 : tie.Need-returns-2 invariant-loop decreases-loop
@@ -43,10 +43,10 @@ add-at-2 c = omega (arith, c.word2.ensures.1)
 loop-again : tie.Need-loop-preserved invariant-loop decreases-loop
 loop-again c = let w = c.before.before in
     let e = c.word2.ensures.0 in
-    rw e (exact-next _ _ _ _ w.before.before.loop.invariant w.before.loop-test.true (sym w.word.ensures.0 ∙ c.before.if2.false) (rw e at c.word2.ensures.1))
+    rw e (exact_next _ _ _ _ w.before.before.loop.invariant w.before.loop-test.true (sym w.word.ensures.0 ∙ c.before.if2.false) (rw e at c.word2.ensures.1))
 
 returns-3 : tie.Need-returns-3 invariant-loop decreases-loop
-returns-3 c = sym (exact-end _ _ _ _ c.before.loop.invariant c.loop-test.false)
+returns-3 c = sym (exact_end _ _ _ _ c.before.loop.invariant c.loop-test.false)
 
 pub table-exact-spec : {M : Type 1} → statement M
 table-exact-spec =

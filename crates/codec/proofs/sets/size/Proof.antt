@@ -1,5 +1,5 @@
 use native.Mathlib.Omega.{arith}
-use Rattle.codec.specs.laws.Listed.{size-ones, size-most}
+use Rattle.codec.specs.Laws.Listed.{size-ones, size-most}
 use Rattle.codec.proofs.sets.size.Statement.{statement}
 use Rattle.codec.proofs.sets.size.Tie as tie
 

@@ -1,5 +1,5 @@
 use native.Mathlib.Omega.{arith}
-use Rattle.codec.specs.laws.Members.{minus-only}
+use Rattle.codec.specs.Laws.Members.{minus-only}
 use Rattle.codec.proofs.sets.without.Statement.{statement}
 use Rattle.codec.proofs.sets.without.Tie as tie
 

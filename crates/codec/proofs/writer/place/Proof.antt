@@ -3,10 +3,10 @@ use Prim.Native.Nat.{◌≤◌}
 use native.Mathlib.Omega.{arith}
 use lib.ListN.{length, length-map, length-take, length-drop}
 use Rattle.codec.specs.Image.{image}
-use Rattle.codec.specs.Answers.{logIn, written}
-use Rattle.codec.specs.laws.Stored.{stored-part}
-use Rattle.codec.specs.laws.Refusals.{write-short, write-whole}
-use Rattle.codec.proofs.Held.{held-count, passed-few, image-size}
+use Rattle.codec.specs.Answers.{log_in, written}
+use Rattle.codec.specs.Laws.Stored.{stored-part}
+use Rattle.codec.specs.Laws.Refusals.{write_short, write_whole}
+use Rattle.codec.proofs.Held.{held-count, passed_few, image-size}
 use borrow.Author.Rules.{rules}
 use Rattle.codec.proofs.writer.place.Statement.{statement}
 use Rattle.codec.proofs.writer.place.Tie as tie
@@ -15,9 +15,9 @@ fit : (c : tie.Start) → length c.args.log.records ≡ 24
 fit c = simp length-map at c.well-formed.0.1.1.1.1.0.1.0.1
 
 few : (c : tie.Start) → c.args.log.count ≤ 24
-few c = omega (arith, passed-few c.args.log.site (logIn c.args.log) c.requires, held-count c.args.log (fit c))
+few c = omega (arith, passed_few c.args.log.site (log_in c.args.log) c.requires, held-count c.args.log (fit c))
 
-size : (c : tie.After-size-of) → let l = c.before.before.before.args.log in c.type_size.result ≡ length (image l.site (logIn l))
+size : (c : tie.After-size-of) → let l = c.before.before.before.args.log in c.type_size.result ≡ length (image l.site (log_in l))
 size c =
     let s = c.before.before.before in
     c.type_size.ensures ∙ image-size s.args.log (few s) (fit s)
@@ -27,11 +27,11 @@ size-of-requires c κs = few c.before.before
 
 returns : tie.Need-returns
 returns c = let a = c.before.before.before.before in
-    write-short a.args.log.site _ a.args.at a.args.buffer.now a.requires (omega arith)
+    write_short a.args.log.site _ a.args.at a.args.buffer.now a.requires (omega arith)
 
 returns-2 : tie.Need-returns-2
 returns-2 c = let a = c.before.before.before.before.before in
-    write-short a.args.log.site _ a.args.at a.args.buffer.now a.requires (omega (arith, size c.before.before))
+    write_short a.args.log.site _ a.args.at a.args.buffer.now a.requires (omega (arith, size c.before.before))
 
 write-front-requires : tie.Need-write-front-requires
 write-front-requires c κs = (few c.before.before.before.before.before.before, simp (length-take, length-drop) (omega (arith, size c.before.before.before)))
@@ -39,7 +39,7 @@ write-front-requires c κs = (few c.before.before.before.before.before.before, s
 returns-3 : tie.Need-returns-3
 returns-3 c = let a = c.before.before.before.before.before.before.before.before.before in
     ap (written 0) (stored-part a.args.at _ a.args.buffer.now _ c.before.before.write-front.ensures)
-    ∙ write-whole a.args.log.site _ a.args.at a.args.buffer.now a.requires (omega (arith, size c.before.before.before.before.before.before))
+    ∙ write_whole a.args.log.site _ a.args.at a.args.buffer.now a.requires (omega (arith, size c.before.before.before.before.before.before))
 
 pub place-spec : {M : Type 1} → statement M
 place-spec =

@@ -5,7 +5,7 @@ use Prim.Native.Nat.{◌-◌, ◌≤◌, ◌<◌}
 use native.Mathlib.Omega.{arith}
 use lib.ListN.{length, drop}
 use Rattle.codec.specs.Image.{magic}
-use Rattle.codec.specs.laws.Stored.{Left, left-front, left-next, left_end, set-stored, two-stored, next_last}
+use Rattle.codec.specs.Laws.Stored.{Left, left_front, left_next, left_end, set-stored, two-stored, next_last}
 use Rattle.codec.proofs.Stored.{byte_next}
 use Rattle.codec.proofs.writer.write_head.Statement.{statement}
 use Rattle.codec.proofs.writer.write_head.Tie as tie
@@ -27,7 +27,7 @@ room c = omega (arith, long c)
 
 loop-holds : tie.Need-loop-init invariant-loop decreases-loop
 unfolding magic
-loop-holds c = (omega arith, left-front c.requires)
+loop-holds c = (omega arith, left_front c.requires)
 
 array-read-out : tie.Need-array-read-out invariant-loop decreases-loop
 array-read-out c = c.loop-test.true
@@ -39,7 +39,7 @@ loop-again : tie.Need-loop-preserved invariant-loop decreases-loop
 unfolding magic
 loop-again c = let w = c.before in
     let more = c.loop-test.true in
-    (omega arith, left-next w.loop.invariant.1 (byte_next magic _ w.loop.i more) _ refl _ (set-stored w.loop.out w.loop.i _ (slice-write-out c)))
+    (omega arith, left_next w.loop.invariant.1 (byte_next magic _ w.loop.i more) _ refl _ (set-stored w.loop.out w.loop.i _ (slice-write-out c)))
 
 slice-write-out-2 : tie.Need-slice-write-out-2 invariant-loop decreases-loop
 slice-write-out-2 c = room c
@@ -53,7 +53,7 @@ same_length c = simp length-set c.before.loop.invariant.1.same
 returns : tie.Need-returns invariant-loop decreases-loop
 unfolding magic
 returns c = let w = c.before in
-    left_end (left-next (rw (ended c) at w.loop.invariant.1) next_last _ refl _ (two-stored w.loop.out 4 w.before.args.site w.before.args.count (long c))) refl
+    left_end (left_next (rw (ended c) at w.loop.invariant.1) next_last _ refl _ (two-stored w.loop.out 4 w.before.args.site w.before.args.count (long c))) refl
 
 pub write-head-spec : {M : Type 1} → statement M
 write-head-spec =

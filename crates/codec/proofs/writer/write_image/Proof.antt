@@ -1,11 +1,11 @@
-use Rattle.codec.specs.laws.Refusals.{write-refused}
+use Rattle.codec.specs.Laws.Refusals.{write_refused}
 use borrow.Author.Rules.{rules}
 use Rattle.codec.proofs.writer.write_image.Statement.{statement}
 use Rattle.codec.proofs.writer.write_image.Tie as tie
 
 returns : tie.Need-returns
 returns c = let a = c.before.before.before.args in
-    write-refused a.log.site _ a.at a.buffer.now _ c.before.refusal.ensures c.if1.true
+    write_refused a.log.site _ a.at a.buffer.now _ c.before.refusal.ensures c.if1.true
 
 pub write-image-spec : {M : Type 1} → statement M
 write-image-spec =

@@ -4,8 +4,8 @@ use Prim.Native.Nat.{ℕ}
 use mathlib.Core.Logic.{⊎_elim}
 use native.Mathlib.Omega.{arith}
 use lib.ListN.{length, set, length-set}
-use Rattle.codec.specs.laws.Fields.{bytes-length, length_most}
-use Rattle.codec.proofs.Stored.{stored-record}
+use Rattle.codec.specs.Laws.Fields.{bytes_length, length_most}
+use Rattle.codec.proofs.Stored.{stored_record}
 use Rattle.codec.proofs.writer.write_record.Statement.{statement}
 use Rattle.codec.proofs.writer.write_record.Tie as tie
 
@@ -14,10 +14,10 @@ kept : (c : tie.Joined1) → length c.if1.out ≡ length c.before.before.before.
 kept c = ⊎_elim (λ w. ap length w.1 ∙ simp length-set) (λ w. ap length w.1 ∙ simp length-set) c.if1.branch
 
 slice-write-out : tie.Need-slice-write-out
-slice-write-out c = omega (arith, bytes-length c.before.before.args.x)
+slice-write-out c = omega (arith, bytes_length c.before.before.args.x)
 
 slice-write-out-2 : tie.Need-slice-write-out-2
-slice-write-out-2 c = simp length-set (omega (arith, bytes-length c.before.before.args.x))
+slice-write-out-2 c = simp length-set (omega (arith, bytes_length c.before.before.args.x))
 
 slice-write-out-3 : tie.Need-slice-write-out-3
 slice-write-out-3 c = simp length-set (omega (arith, c.before.length.ensures))
@@ -31,7 +31,7 @@ same_length c = simp length-set (kept c.before)
 returns : tie.Need-returns
 returns c =
     let a = c.before.before.before.before.args in
-    ⊎_elim (λ w. ap (λ (l : List ℕ). set l 3 a.x.second) w.1 ∙ stored-record a.x 2 a.out.now c.before.before.before.before.requires (omega (arith, bytes-length a.x, length_most a.x.kind)))
+    ⊎_elim (λ w. ap (λ (l : List ℕ). set l 3 a.x.second) w.1 ∙ stored_record a.x 2 a.out.now c.before.before.before.before.requires (omega (arith, bytes_length a.x, length_most a.x.kind)))
     (λ w. absurd (omega arith))
     c.before.if1.branch
 
@@ -41,8 +41,8 @@ same-length-2 c = kept c.before
 returns-2 : tie.Need-returns-2
 returns-2 c =
     let a = c.before.before.before.before.args in
-    ⊎_elim (λ w. w.1 ∙ stored-record a.x 1 a.out.now c.before.before.before.before.requires (omega arith))
-    (λ w. w.1 ∙ stored-record a.x 0 a.out.now c.before.before.before.before.requires (omega (arith, bytes-length a.x)))
+    ⊎_elim (λ w. w.1 ∙ stored_record a.x 1 a.out.now c.before.before.before.before.requires (omega arith))
+    (λ w. w.1 ∙ stored_record a.x 0 a.out.now c.before.before.before.before.requires (omega (arith, bytes_length a.x)))
     c.before.if1.branch
 
 pub write-record-spec : {M : Type 1} → statement M

@@ -4,8 +4,8 @@ use mathlib.Core.Logic.{⊎_elim}
 use native.Mathlib.Omega.{arith}
 use lib.ListN.{length, length-take}
 use borrow.Author.Rules.{rules}
-use Rattle.joint.specs.Drill.{drillInto}
-use Rattle.joint.specs.Answers.{runIn, totalsIn}
+use Rattle.joint.specs.Drill.{drill_into}
+use Rattle.joint.specs.Answers.{run_in, totals_in}
 use Rattle.drill_text.proofs.Drilled.{Answered, answered}
 use Rattle.drill_text.proofs.drill.drill.Statement.{statement}
 use Rattle.drill_text.proofs.drill.drill.Tie as tie
@@ -21,14 +21,14 @@ slice-aggregate-replay-2 : tie.Need-slice-aggregate-replay-2
 slice-aggregate-replay-2 c = search rules
 
 -- what the replay leaves
-left : (c : tie.After-replay) → Answered c.before.before.before.before.before.before.args.input.now c.replay.result.count (runIn c.replay.result.run) (totalsIn c.replay.result.run) c.replay.new.1.0
+left : (c : tie.After-replay) → Answered c.before.before.before.before.before.before.args.input.now c.replay.result.count (run_in c.replay.result.run) (totals_in c.replay.result.run) c.replay.new.1.0
 left c = answered _ _ _ _ c.replay.result (most c.before.before.before) (sym (slice-aggregate-replay-2 c.before)) c.replay.ensures
 
 write-text-requires : tie.Need-write-text-requires
 write-text-requires c κs = let a = left c.before.before.before.before in (a.few, a.room)
 
 returns : tie.Need-returns
-unfolding drillInto
+unfolding drill_into
 returns c =
     let w = c.before.before in
     let a = left w.before.before.before.before.before in

@@ -6,7 +6,7 @@ use lib.ListN.{get_or}
 use borrow.Author.Rules.{rules}
 use Rattle.joint.specs.Drill.{line}
 use Rattle.drill_text.specs.Inside.{line_at}
-use Rattle.codec.specs.laws.Stored.{Left, next_last, left-start, left_end, left-room, left-next}
+use Rattle.codec.specs.Laws.Stored.{Left, next_last, left-start, left_end, left_room, left_next}
 use Rattle.drill_text.proofs.Texts.{field_next}
 use Rattle.drill_text.proofs.text.write_line.Statement.{statement}
 use Rattle.drill_text.proofs.text.write_line.Tie as tie
@@ -20,11 +20,11 @@ answer : (c : tie.After-write-counted)
     c.write-counted.new.1.1.0
 answer c =
     let e = c.write-counted.ensures in
-    left-next (left-start c.before.before.before.before.requires.1) (field_next 5 _ _ _) _ e.0 _ e.1
+    left_next (left-start c.before.before.before.before.requires.1) (field_next 5 _ _ _) _ e.0 _ e.1
 
 write-counted-requires : tie.Need-write-counted-requires
 write-counted-requires c κs =
-    let s = c.before.before.before in (s.requires.0.0, left-room {start = s.args.out.now} (left-start s.requires.1) (field_next 5 _ _ _))
+    let s = c.before.before.before in (s.requires.0.0, left_room {start = s.args.out.now} (left-start s.requires.1) (field_next 5 _ _ _))
 
 write-answer-requires : tie.Need-write-answer-requires
 write-answer-requires c κs = (answer c.before.before.before.before.before.before.before).room
@@ -33,7 +33,7 @@ returns : tie.Need-returns
 returns c =
     let w = c.before.before in
     let e = w.write-answer.ensures in
-    let all = left-next (answer w.before.before.before.before.before.before.before.before) next_last _ e.0 _ e.1 in
+    let all = left_next (answer w.before.before.before.before.before.before.before.before) next_last _ e.0 _ e.1 in
     (omega (arith, all.size), left_end all refl)
 
 pub write-line-spec : {M : Type 1} → statement M

@@ -4,7 +4,7 @@ use native.Mathlib.Omega.{arith}
 use lib.ListN.{length}
 use borrow.Author.Rules.{rules}
 use Rattle.drill_text.specs.Inside.{lines_of, Shows}
-use Rattle.codec.specs.laws.Stored.{Left, left-start, left_end, left-room, left-next}
+use Rattle.codec.specs.Laws.Stored.{Left, left-start, left_end, left_room, left_next}
 use Rattle.drill_text.proofs.Texts.{lines_from, lines_start, lines_next, lines_end}
 use Rattle.drill_text.proofs.text.write_lines.Statement.{statement}
 use Rattle.drill_text.proofs.text.write_lines.Tie as tie
@@ -23,7 +23,7 @@ write-line-requires : tie.Need-write-line-requires invariant-loop decreases-loop
 write-line-requires c κs =
     let w = c.before.before.before.loop in (
       ((omega arith, c.before.next.ensures w.i w.invariant.0.1), omega arith),
-      left-room w.invariant.1 (lines_next w.i _ _ c.before.before.loop-test.true),
+      left_room w.invariant.1 (lines_next w.i _ _ c.before.before.loop-test.true),
     )
 
 loop-again : tie.Need-loop-preserved invariant-loop decreases-loop
@@ -32,7 +32,7 @@ loop-again c =
     let w = n.before.before.loop in
     let e = c.before.before.write-line.ensures in (
       (omega arith, n.next.ensures w.i w.invariant.0.1),
-      left-next w.invariant.1 (lines_next w.i _ _ n.before.loop-test.true) _ e.0 _ e.1,
+      left_next w.invariant.1 (lines_next w.i _ _ n.before.loop-test.true) _ e.0 _ e.1,
     )
 
 same_length : tie.Need-same-length invariant-loop decreases-loop

@@ -2,10 +2,10 @@ use Prim.Native.Nat.{◌/◌, ◌+◌}
 use mathlib.Core.Path.{◌∙◌}
 use native.Mathlib.Omega.{arith}
 use borrow.Author.Rules.{rules}
-use Rattle.codec.specs.laws.Stored.{Left}
+use Rattle.codec.specs.Laws.Stored.{Left}
 use Rattle.joint.specs.Drill.{decimal}
 use Rattle.drill_text.specs.Inside.{two}
-use Rattle.drill_text.proofs.Texts.{hundreds-room, ones-left}
+use Rattle.drill_text.proofs.Texts.{hundreds_room, ones-left}
 use Rattle.drill_text.proofs.text.write_number.Statement.{statement}
 use Rattle.drill_text.proofs.text.write_number.Tie as tie
 
@@ -26,7 +26,7 @@ thousands c =
     let s = c.before.before.before.before.before in
     let e = c.write-short3.ensures in
     ones-left (s.args.n / 100) s.args.out.now s.args.at (omega arith) (omega (arith, s.requires.0))
-    (hundreds-room s.args.n s.args.out.now s.args.at (omega arith) s.requires.0 s.requires.1) _ e.0 _ e.1
+    (hundreds_room s.args.n s.args.out.now s.args.at (omega arith) s.requires.0 s.requires.1) _ e.0 _ e.1
 
 last : (c : tie.After-write-two2)
     → let w = c.before.before.before.before in
@@ -41,7 +41,7 @@ last c =
 write-short-requires-2 : tie.Need-write-short-requires-2
 write-short-requires-2 c κs =
     let s = c.before.before.before.before in
-    (omega arith, hundreds-room s.args.n s.args.out.now s.args.at (omega arith) s.requires.0 s.requires.1)
+    (omega arith, hundreds_room s.args.n s.args.out.now s.args.at (omega arith) s.requires.0 s.requires.1)
 
 write-two-requires : tie.Need-write-two-requires
 write-two-requires c κs = (ones c.before.before.before).room
@@ -57,8 +57,8 @@ returns-2 c =
 write-short-requires-3 : tie.Need-write-short-requires-3
 write-short-requires-3 c κs =
     let s = c.before.before.before.before in
-    let h = hundreds-room s.args.n s.args.out.now s.args.at (omega arith) s.requires.0 s.requires.1 in
-    (omega (arith, s.requires.0), hundreds-room (s.args.n / 100) s.args.out.now s.args.at (omega arith) (omega (arith, s.requires.0)) h)
+    let h = hundreds_room s.args.n s.args.out.now s.args.at (omega arith) s.requires.0 s.requires.1 in
+    (omega (arith, s.requires.0), hundreds_room (s.args.n / 100) s.args.out.now s.args.at (omega arith) (omega (arith, s.requires.0)) h)
 
 write-two-requires-2 : tie.Need-write-two-requires-2
 write-two-requires-2 c κs = (thousands c.before.before.before).room

@@ -3,22 +3,22 @@ use mathlib.Core.Path.{◌≡◌, refl, ap}
 use native.Mathlib.Omega.{arith}
 use lib.ListN.{length}
 use borrow.Author.Rules.{rules}
-use Rattle.codec.specs.laws.Stored.{set-stored}
+use Rattle.codec.specs.Laws.Stored.{set-stored}
 use Rattle.joint.specs.Drill.{decimal}
 use Rattle.drill_text.specs.Inside.{two}
-use Rattle.drill_text.proofs.Texts.{decimal-one, decimal-two}
+use Rattle.drill_text.proofs.Texts.{decimal_one, decimal-two}
 use Rattle.drill_text.proofs.text.write_short.Statement.{statement}
 use Rattle.drill_text.proofs.text.write_short.Tie as tie
 
 slice-write-out : tie.Need-slice-write-out
 slice-write-out c =
     let s = c.before.before in
-    omega (arith, s.requires.1, ap length (decimal-one 5 s.args.n c.if1.true))
+    omega (arith, s.requires.1, ap length (decimal_one 5 s.args.n c.if1.true))
 
 returns : tie.Need-returns
 returns c =
     let s = c.before.before in
-    rw (decimal-one 5 s.args.n c.if1.true) (refl, set-stored s.args.out.now s.args.at (48 + s.args.n) (slice-write-out c))
+    rw (decimal_one 5 s.args.n c.if1.true) (refl, set-stored s.args.out.now s.args.at (48 + s.args.n) (slice-write-out c))
 
 -- two digits
 digits : (c : tie.Else1) → let s = c.before.before in decimal 5 s.args.n ≡ two s.args.n

@@ -3,28 +3,28 @@ use mathlib.Core.Path.{refl}
 use mathlib.Core.List.{List, [], ◌∷◌, ◌++◌}
 use native.Mathlib.Omega.{arith}
 use borrow.Author.Rules.{rules}
-use Rattle.joint.specs.Drill.{transactionLine}
+use Rattle.joint.specs.Drill.{transaction_line}
 use Rattle.drill_text.specs.Inside.{letters}
-use Rattle.joint.specs.Answers.{runIn}
-use Rattle.codec.specs.laws.Stored.{Left, left-start, left_end, left-next}
+use Rattle.joint.specs.Answers.{run_in}
+use Rattle.codec.specs.Laws.Stored.{Left, left-start, left_end, left_next}
 use Rattle.drill_text.proofs.Stored.{byte_next}
-use Rattle.drill_text.proofs.Texts.{head-next, letters-length, transaction-length}
+use Rattle.drill_text.proofs.Texts.{head_next, letters-length, transaction-length}
 use Rattle.drill_text.proofs.text.write_transaction.Statement.{statement}
 use Rattle.drill_text.proofs.text.write_transaction.Tie as tie
 
 -- ---- what is left to be written, from a moment on
 
 abbrev LeftOf : tie.Start → ℕ → List ℕ → List ℕ → Type 0
-LeftOf s k rest out = Left s.args.at (transactionLine (runIn s.args.run) s.args.transaction) s.args.out.now (s.args.at + k) rest out
+LeftOf s k rest out = Left s.args.at (transaction_line (run_in s.args.run) s.args.transaction) s.args.out.now (s.args.at + k) rest out
 
 head : (c : tie.After-write-bytes)
     → let s = c.before.before.before.before.before.before in
-    LeftOf s 11 (letters (runIn s.args.run) s.args.transaction ++ (10 ∷ [])) c.write_bytes.new.1.0
+    LeftOf s 11 (letters (run_in s.args.run) s.args.transaction ++ (10 ∷ [])) c.write_bytes.new.1.0
 head c =
     let s = c.before.before.before.before.before.before in
-    let r = runIn s.args.run in
+    let r = run_in s.args.run in
     let long = transaction-length r s.args.transaction in
-    left-next (left-start (omega (arith, s.requires.1, long))) (head-next r s.args.transaction s.requires.0) _ refl _ c.write_bytes.ensures
+    left_next (left-start (omega (arith, s.requires.1, long))) (head_next r s.args.transaction s.requires.0) _ refl _ c.write_bytes.ensures
 
 sites : (c : tie.After-write-letters)
     → let s = c.before.before.before.before.before.before.before.before.before.before in
@@ -32,8 +32,8 @@ sites : (c : tie.After-write-letters)
 sites c =
     let w = c.before.before.before.before in
     let s = w.before.before.before.before.before.before in
-    let long = letters-length (runIn s.args.run) s.args.transaction in
-    left-next (head w) (record { split = refl }) _ (omega (arith, long)) _ c.write-letters.ensures
+    let long = letters-length (run_in s.args.run) s.args.transaction in
+    left_next (head w) (record { split = refl }) _ (omega (arith, long)) _ c.write-letters.ensures
 
 -- ---- needs
 

@@ -7,7 +7,7 @@ use lib.Seq.{take_all}
 use borrow.Author.Rules.{rules}
 use Rattle.codec.specs.Image.{stored}
 use Rattle.joint.specs.Drill.{decimal}
-use Rattle.drill_text.proofs.Stored.{behind-room, behind-same, behind-stored}
+use Rattle.drill_text.proofs.Stored.{behind_room, behind_same, behind_stored}
 use Rattle.drill_text.proofs.totals.write_total.Statement.{statement}
 use Rattle.drill_text.proofs.totals.write_total.Tie as tie
 
@@ -53,19 +53,19 @@ module _ (c : tie.After-slice-known2) where
   last = ap (start.args.at +◌) (sym (size digits))
 
 slice-write-out : tie.Need-slice-write-out
-slice-write-out c = let s = start c in behind-room (decimal 19 s.args.n) s.args.out.now s.args.end s.args.at s.pre _ (last c) _ (written c)
+slice-write-out c = let s = start c in behind_room (decimal 19 s.args.n) s.args.out.now s.args.end s.args.at s.pre _ (last c) _ (written c)
 
 add-result : tie.Need-overflow-add-result
 add-result c = omega (arith, slice-write-out c)
 
 same_length : tie.Need-same-length
-same_length c = let s = start c in behind-same (decimal 19 s.args.n) s.args.out.now s.args.end s.args.at s.pre _ (last c) _ (written c)
+same_length c = let s = start c in behind_same (decimal 19 s.args.n) s.args.out.now s.args.end s.args.at s.pre _ (last c) _ (written c)
 
 returns : tie.Need-returns
 returns c =
     let s = start c in (
       rw length-append (omega (arith, size (digits c))),
-      behind-stored (decimal 19 s.args.n) s.args.out.now s.args.end s.args.at s.pre _ (last c) _ (written c),
+      behind_stored (decimal 19 s.args.n) s.args.out.now s.args.end s.args.at s.pre _ (last c) _ (written c),
     )
 
 pub write-total-spec : {M : Type 1} → statement M

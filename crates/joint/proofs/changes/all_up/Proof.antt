@@ -8,9 +8,9 @@ use native.Mathlib.Omega.{arith}
 use borrow.Author.Rules.{rules}
 use Rattle.joint.specs.Answers.{no_site}
 use Rattle.joint.specs.declared.sites.Site.{Site}
-use Rattle.joint.proofs.engine.Arrays.{length-shown}
-use Rattle.joint.proofs.engine.Reads.{getD-within}
-use Rattle.joint.proofs.engine.Ups.{Reached, first-down, reach-starts, one_down, reach-next, reach-ends}
+use Rattle.joint.proofs.Engine.Arrays.{length-shown}
+use Rattle.joint.proofs.Engine.Reads.{getD-within}
+use Rattle.joint.proofs.Engine.Ups.{Reached, first-down, reach_starts, one_down, reach_next, reach_ends}
 use Rattle.joint.proofs.changes.all_up.Statement.{statement}
 use Rattle.joint.proofs.changes.all_up.Tie as tie
 
@@ -33,7 +33,7 @@ loop-holds : tie.Need-loop-init invariant-loop decreases-loop
 loop-holds c =
     let a = c.before.before.before.args in
     let n : length a.t1 ≡ 9 = search length-shown in
-    reach-starts _ _ (read a.t1 0 _ n (omega arith) ∙ c.if1.false)
+    reach_starts _ _ (read a.t1 0 _ n (omega arith) ∙ c.if1.false)
 
 returns-2 : tie.Need-returns-2 invariant-loop decreases-loop
 returns-2 c =
@@ -50,11 +50,11 @@ loop-again c =
     let l = m.before.before.before.loop in
     let a = m.before.before.before.before.before.before.before.args in
     let n : length a.t1 ≡ 9 = search length-shown in
-    reach-next _ _ l.i l.invariant (search rules)
+    reach_next _ _ l.i l.invariant (search rules)
     (ap₂ (λ (p q : Bool). p && q) (sym m.member.ensures) (read a.t1 l.i _ n (search rules)) ∙ c.if2.false)
 
 returns-3 : tie.Need-returns-3 invariant-loop decreases-loop
-returns-3 c = reach-ends _ _ _ c.before.loop.invariant (search rules)
+returns-3 c = reach_ends _ _ _ c.before.loop.invariant (search rules)
 
 pub all-up-spec : {M : Type 1} → statement M
 all-up-spec =

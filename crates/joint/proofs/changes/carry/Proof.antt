@@ -2,43 +2,43 @@ use mathlib.Core.Path.{sym, ◌∙◌}
 use native.Mathlib.Omega.{arith}
 use borrow.Author.Tests.{not-true, not-false}
 use Rattle.joint.specs.Answers.{answer_in}
-use Rattle.joint.specs.Inside.{changeIn}
-use Rattle.joint.proofs.engine.Changes.{carried-whole, cut-beyond, keep-beyond, carried-cut, may-keep-after}
+use Rattle.joint.specs.Inside.{change_in}
+use Rattle.joint.proofs.Engine.Changes.{carried_whole, cut_beyond, keep_beyond, carried_cut, may_keep_after}
 use borrow.Author.Rules.{rules}
 use Rattle.joint.proofs.changes.carry.Statement.{statement}
 use Rattle.joint.proofs.changes.carry.Tie as tie
 
 returns : tie.Need-returns
-unfolding changeIn
+unfolding change_in
 returns c = λ w s here fits.
     let a = c.before.args in
-    carried-whole w s a.transaction a.row a.cut a.keep c.if1.true
+    carried_whole w s a.transaction a.row a.cut a.keep c.if1.true
 
 returns-2 : tie.Need-returns-2
-unfolding changeIn answer_in
+unfolding change_in answer_in
 returns-2 c = λ w s here fits.
     let a = c.before.before.before.before.args in
-    cut-beyond w s a.transaction a.row a.cut a.keep c.before.before.before.if1.false (omega (arith, c.before.count.ensures a.transaction))
+    cut_beyond w s a.transaction a.row a.cut a.keep c.before.before.before.if1.false (omega (arith, c.before.count.ensures a.transaction))
 
 returns-3 : tie.Need-returns-3
-unfolding changeIn answer_in
+unfolding change_in answer_in
 returns-3 c = λ w s here fits.
     let f = c.before in
     let k = f.before.before in
     let n = k.before.before in
     let a = n.before.before.before.args in
-    keep-beyond w s a.transaction a.row a.cut a.keep n.before.before.if1.false k.cut.result k.cut.ensures (omega (arith, n.count.ensures a.transaction))
-    (sym (may-keep-after a.site f.before.after.result w s a.transaction a.row.effects k.cut.result a.cut a.keep _ here fits k.cut.ensures f.before.after.ensures f.may-keep.ensures) ∙ not-true _ c.if3.true)
+    keep_beyond w s a.transaction a.row a.cut a.keep n.before.before.if1.false k.cut.result k.cut.ensures (omega (arith, n.count.ensures a.transaction))
+    (sym (may_keep_after a.site f.before.after.result w s a.transaction a.row.effects k.cut.result a.cut a.keep _ here fits k.cut.ensures f.before.after.ensures f.may-keep.ensures) ∙ not-true _ c.if3.true)
 
 returns-4 : tie.Need-returns-4
-unfolding changeIn
+unfolding change_in
 returns-4 c = λ w s here fits.
     let f = c.before in
     let k = f.before.before in
     let n = k.before.before in
     let a = n.before.before.before.args in
-    carried-cut w s a.transaction a.row a.cut a.keep n.before.before.if1.false k.cut.result k.cut.ensures (omega (arith, n.count.ensures a.transaction))
-    (sym (may-keep-after a.site f.before.after.result w s a.transaction a.row.effects k.cut.result a.cut a.keep _ here fits k.cut.ensures f.before.after.ensures f.may-keep.ensures) ∙ not-false _ c.if3.false)
+    carried_cut w s a.transaction a.row a.cut a.keep n.before.before.if1.false k.cut.result k.cut.ensures (omega (arith, n.count.ensures a.transaction))
+    (sym (may_keep_after a.site f.before.after.result w s a.transaction a.row.effects k.cut.result a.cut a.keep _ here fits k.cut.ensures f.before.after.ensures f.may-keep.ensures) ∙ not-false _ c.if3.false)
 
 pub carry-spec : {M : Type 1} → statement M
 carry-spec =

@@ -2,13 +2,13 @@ use mathlib.Core.Path.{refl}
 use borrow.Author.Rules.{rules}
 use borrow.Author.Tests.{lt-leb}
 use Rattle.codec.specs.Lists.{any, every}
-use Rattle.joint.specs.Event.{ranges, bytesInRange, cutInRange}
-use Rattle.joint.proofs.engine.EventRanges.{none_below, byte, tests}
+use Rattle.joint.specs.Event.{ranges, bytes_in_range, cut_in_range}
+use Rattle.joint.proofs.Engine.EventRanges.{none_below, byte, tests}
 use Rattle.joint.proofs.events.in_range.Statement.{statement}
 use Rattle.joint.proofs.events.in_range.Tie as tie
 
 returns : tie.Need-returns
-unfolding bytesInRange cutInRange ranges every any
+unfolding bytes_in_range cut_in_range ranges every any
 returns c =
     let m = c.before.before in
     let f = m.before.ranges in
@@ -16,11 +16,11 @@ returns c =
     (simp (tests, byte f.y, byte f.z, byte f.cut, byte f.keep))
 
 returns-10 : tie.Need-returns-10
-unfolding bytesInRange every
+unfolding bytes_in_range every
 returns-10 c = let code = c.before.args.code in rw (lt-leb code 8 (none_below 9 code c.match.rest)) refl
 
 pub in-range-spec : {M : Type 1} → statement M
-unfolding bytesInRange cutInRange ranges every any
+unfolding bytes_in_range cut_in_range ranges every any
 in-range-spec =
     tie.close
     (tie.spec

@@ -1,6 +1,6 @@
 use mathlib.Core.Path.{refl}
 use borrow.Author.Rules.{rules}
-use Rattle.joint.proofs.engine.Inputs.{goes_to}
+use Rattle.joint.proofs.Engine.Inputs.{goes_to}
 use Rattle.joint.proofs.events.receiver.Statement.{statement}
 use Rattle.joint.proofs.events.receiver.Tie as tie
 

@@ -5,17 +5,17 @@ use mathlib.Core.List.{[], ◌∷◌}
 use native.Mathlib.Omega.{arith}
 use lib.Dec.{T, eqb}
 use Rattle.codec.specs.Lists.{any}
-use Rattle.codec.specs.Records.{awaitsAcks}
-use Rattle.codec.specs.Answers.{recordIn}
-use Rattle.codec.specs.laws.Tests.{alike, alike-eq, below, below_at}
+use Rattle.codec.specs.Records.{awaits_acks}
+use Rattle.codec.specs.Answers.{record_in}
+use Rattle.codec.specs.Laws.Tests.{alike, alike_eq, below, below_at}
 use Rattle.codec.specs.declared.record.Record.{Record}
 use Rattle.joint.specs.Plan.{closes}
 use borrow.Author.Rules.{rules}
 use Rattle.joint.proofs.records.closes.Statement.{statement}
 use Rattle.joint.proofs.records.closes.Tie as tie
 
-commit-closes : (x : Record) → x.kind ≡ 2 → not (awaitsAcks (recordIn x)) ≡ closes (recordIn x)
-unfolding closes any recordIn
+commit-closes : (x : Record) → x.kind ≡ 2 → not (awaits_acks (record_in x)) ≡ closes (record_in x)
+unfolding closes any record_in
 commit-closes x e = rw e refl
 
 -- kind k is not 2, and a record of it closes or not, as b says
@@ -24,11 +24,11 @@ told b k = not (eqb k 2) && alike b (any (eqb k) (3 ∷ 4 ∷ 6 ∷ 7 ∷ []))
 
 by-told : (two b c d : Bool) → T (not two && alike b c) → b ≡ (c || (two && d))
 by-told true b c d t = absurd t
-by-told false b c d t = alike-eq b c t ∙ sym (or-false c)
+by-told false b c d t = alike_eq b c t ∙ sym (or-false c)
 
 -- n kinds from k on
-other-closes : (k n : ℕ) (b : Bool) → T (below n (λ j. told b (k + j))) → (x : Record) → k ≤ x.kind → x.kind < k + n → b ≡ closes (recordIn x)
-unfolding closes recordIn
+other-closes : (k n : ℕ) (b : Bool) → T (below n (λ j. told b (k + j))) → (x : Record) → k ≤ x.kind → x.kind < k + n → b ≡ closes (record_in x)
+unfolding closes record_in
 other-closes k n b t x l h =
     let e : x.kind ≡ k + (x.kind - k) = omega arith in
     by-told (eqb x.kind 2) b (any (eqb x.kind) (3 ∷ 4 ∷ 6 ∷ 7 ∷ [])) _

@@ -9,18 +9,18 @@ use native.Mathlib.Omega.{arith}
 use borrow.Author.Rules.{rules}
 use Rattle.joint.specs.State as plain
 use Rattle.joint.specs.State.{forgotten}
-use Rattle.joint.specs.Totals.{forcesAt}
-use Rattle.joint.specs.Answers.{noRecords, transactionsIn, runIn, forcesIn, answer_in, refusalNumber}
-use Rattle.joint.specs.Inside.{eventIn, changeIn}
+use Rattle.joint.specs.Totals.{forces_at}
+use Rattle.joint.specs.Answers.{no_records, transactions_in, run_in, forces_in, answer_in, refusal_number}
+use Rattle.joint.specs.Inside.{event_in, change_in}
 use Rattle.joint.specs.declared.answers.Answer.TheVariants as variants
-use Rattle.joint.proofs.engine.Arrays.{length-shown}
-use Rattle.joint.proofs.engine.Whole.{run-whole}
-use Rattle.joint.proofs.engine.Replays.{adds_none, ahead-start, ahead-ends}
-use Rattle.joint.proofs.engine.Turns.{Full, whole-stored, turned-refused, malformed-seen, parsed-seen, restart-stored, restart-refused, happens-seen, refused-change}
-use Rattle.joint.proofs.engine.Refused.{refused-number}
+use Rattle.joint.proofs.Engine.Arrays.{length-shown}
+use Rattle.joint.proofs.Engine.Whole.{run-whole}
+use Rattle.joint.proofs.Engine.Replays.{adds_none, ahead_start, ahead_ends}
+use Rattle.joint.proofs.Engine.Turns.{Full, whole-stored, turned_refused, malformed_seen, parsed_seen, restart-stored, restart-refused, happens_seen, refused_change}
+use Rattle.joint.proofs.Engine.Refused.{refused-number}
 use Rattle.joint.proofs.replay.go.Statement.{statement}
 use Rattle.joint.proofs.replay.go.Tie as tie
-use Rattle.joint.proofs.replay.go.Proof.Read.{Inv-loop, μ-loop, sub-rest, ended, top, run, w, x, full, room, next, restarting, read_of, restart-low, restart-parsed, restarted, restart-of, restart-counted, accepted, restart-answer, restart-turned, step-read, in-range, step-parsed, site-low, transaction-low}
+use Rattle.joint.proofs.replay.go.Proof.Read.{Inv-loop, μ-loop, sub-rest, ended, top, run, w, x, full, room, next, restarting, read_of, restart-low, restart-parsed, restarted, restart-of, restart-counted, accepted, restart-answer, restart-turned, step-read, in_range_lem, step-parsed, site-low, transaction-low}
 use Rattle.joint.proofs.replay.go.Proof.Decided.{found, number, transaction, low, few, decided, taking, counts, turned, answered, came, row, row_seen, put-stored, settled, transactions-put, forces-put, site-put, full_put}
 
 whole_run : (s : tie.Start Inv-loop μ-loop) → Full s.args.run
@@ -28,7 +28,7 @@ whole_run s =
     record {
       nine = search length-shown;
       logs = search length-shown;
-      whole = λ i. run-whole s.args.run _ s.well-formed.0 i noRecords;
+      whole = λ i. run-whole s.args.run _ s.well-formed.0 i no_records;
       eight = search length-shown;
       counters = search length-shown;
     }
@@ -36,7 +36,7 @@ whole_run s =
 loop-holds : tie.Need-loop-init Inv-loop μ-loop
 loop-holds c =
     let a = c.before.before in
-    record { full = whole_run a; ahead = ahead-start (runIn a.args.run) (forcesIn a.args.run) _ _ _ _ a.requires.0 (adds_none a.args.run [] (λ s. unfold forcesAt select in refl)) }
+    record { full = whole_run a; ahead = ahead_start (run_in a.args.run) (forces_in a.args.run) _ _ _ _ a.requires.0 (adds_none a.args.run [] (λ s. unfold forces_at select in refl)) }
 
 add-end : tie.Need-overflow-add-end Inv-loop μ-loop
 add-end c = omega (arith, ended c.before, sub-rest c.before.before)
@@ -57,11 +57,11 @@ store-requires : tie.Need-store-requires Inv-loop μ-loop
 store-requires c κs = room c.before.before.before
 
 loop-again : tie.Need-loop-preserved Inv-loop μ-loop
-unfolding eventIn answer_in refusalNumber
+unfolding event_in answer_in refusal_number
 loop-again c =
     let r = c.before.before.before.before.before.before in
     next r variants.Malformed (run r) _ (full r)
-    (λ _. turned-refused (run r) (x r) variants.Malformed 0 refl (malformed-seen (w r) (x r) (sym (rw c.before.before.before.before.enum_told.given.1 at r.read.ensures.0))))
+    (λ _. turned_refused (run r) (x r) variants.Malformed 0 refl (malformed_seen (w r) (x r) (sym (rw c.before.before.before.before.enum_told.given.1 at r.read.ensures.0))))
     c.before.before.store.ensures
 
 element-copy-out-site : tie.Need-element-copy-out-site Inv-loop μ-loop
@@ -110,7 +110,7 @@ loop-again-2 c =
     next r (restart-answer a)
     (record { sites = set (run r).sites e.site s.result.log.site; records = set (run r).records e.site s.result.log.records; transactions = s.result.transactions; forces = restart-counted a }) _
     (record { nine = length-set (run r).sites e.site _ ∙ (full r).nine; logs = length-set (run r).records e.site _ ∙ (full r).logs; whole = whole-stored (run r).records e.site _ (full r).logs (restart-low k) (logged-restart (restarted a)) (full r).whole; eight = sized (restarted a); counters = length-set (run r).forces e.site _ ∙ (full r).counters })
-    (λ _. restart-turned a _ refl (restart-stored (run r) (full r) e.site (restart-low k) _ _ _ _ _ s.ensures _ ∙ parsed-seen (w r) (x r) _ (restart-parsed k)))
+    (λ _. restart-turned a _ refl (restart-stored (run r) (full r) e.site (restart-low k) _ _ _ _ _ s.ensures _ ∙ parsed_seen (w r) (x r) _ (restart-parsed k)))
     (rw (accepted a) at c.before.before.before.before.before.before.before.before.before.before.before.store2.ensures)
 
 loop-again-3 : tie.Need-loop-preserved-3 Inv-loop μ-loop
@@ -121,7 +121,7 @@ loop-again-3 c =
     let s = a.restart in
     let n = refused-number s.result.answer c.match2.keys2 in
     next r s.result.answer (run r) _ (full r)
-    (λ _. turned-refused (run r) (x r) s.result.answer n.0 n.1 (restart-refused (run r) (full r) (restarting k).site (restart-low k) _ _ _ _ _ s.ensures c.match2.keys2 ∙ parsed-seen (w r) (x r) _ (restart-parsed k)))
+    (λ _. turned_refused (run r) (x r) s.result.answer n.0 n.1 (restart-refused (run r) (full r) (restarting k).site (restart-low k) _ _ _ _ _ s.ensures c.match2.keys2 ∙ parsed_seen (w r) (x r) _ (restart-parsed k)))
     c.before.before.before.store2.ensures
 
 element-copy-out-site-2 : tie.Need-element-copy-out-site-2 Inv-loop μ-loop
@@ -133,7 +133,7 @@ element-copy-out-transaction c = omega (arith, transaction-low c.before)
 input-requires : tie.Need-input-requires Inv-loop μ-loop
 input-requires c κs =
     let k = c.before.before.before.before.before.before.before.before in
-    (rw c.before.step2.given.1 at (in-range k)).1.1
+    (rw c.before.step2.given.1 at (in_range_lem k)).1.1
 
 element-copy-out-records-2 : tie.Need-element-copy-out-records-2 Inv-loop μ-loop
 element-copy-out-records-2 c = omega (arith, site-low c.before.before.before.before.before.before)
@@ -142,7 +142,7 @@ store-requires-3 : tie.Need-store-requires-3 Inv-loop μ-loop
 store-requires-3 c κs = room c.before.before.before.before.before.before.before.before.before.before.before.before
 
 loop-again-4 : tie.Need-loop-preserved-4 Inv-loop μ-loop
-unfolding changeIn
+unfolding change_in
 loop-again-4 c =
     let d = c.before.before.before.before.before.before.before in
     let r = step-read (found d) in
@@ -150,8 +150,8 @@ loop-again-4 c =
     let a = given.0.0 in
     next r a (run r) _ (full r)
     (λ h.
-    let q = refused-change (w r) (x r) a (sym (ap (changeIn (w r) (number d) (transaction d)) given.1) ∙ decided d h ∙ parsed-seen (w r) (x r) _ (step-parsed (found d))) in
-    turned-refused (run r) (x r) a q.1.0 q.1.1 q.0)
+    let q = refused_change (w r) (x r) a (sym (ap (change_in (w r) (number d) (transaction d)) given.1) ∙ decided d h ∙ parsed_seen (w r) (x r) _ (step-parsed (found d))) in
+    turned_refused (run r) (x r) a q.1.0 q.1.1 q.0)
     c.before.before.store3.ensures
 
 store-requires-4 : tie.Need-store-requires-4 Inv-loop μ-loop
@@ -221,7 +221,7 @@ gone : (c : tie.After-forget-all Inv-loop μ-loop) → length c.forget-all.resul
 gone c = search length-shown
 
 loop-again-5 : tie.Need-loop-preserved-5 Inv-loop μ-loop
-unfolding runIn
+unfolding run_in
 loop-again-5 c =
     let j = c.before.before.before.before in
     let s = settled j in
@@ -230,8 +230,8 @@ loop-again-5 c =
     let forget : (ℕ → plain.Transaction) → ℕ → plain.Transaction = λ f u. forgotten (number d) (f u) in
     next r (variants.Accepted (counts (answered s))) (record { sites = j.if2.run.sites; records = j.if2.run.records; transactions = c.forget-all.result; forces = j.if2.run.forces }) _
     (record { nine = (full_put j).nine; logs = (full_put j).logs; whole = (full_put j).whole; eight = gone c; counters = (full_put j).counters })
-    (λ h. turned (answered s) _ (forces-put j) (happens-seen (w r) (number d) (transaction d) (row s) (counts (answered s)) _ _ ((answered s).before.before.before.before.before.before.of.ensures (transaction d)) (site-put j h)
-    (rw (sym c.before.before.before.goes_down.ensures ∙ c.before.before.if3.true) (c.forget-all.ensures ∙ ap forget (ap transactionsIn (transactions-put j) ∙ put-stored s)))
+    (λ h. turned (answered s) _ (forces-put j) (happens_seen (w r) (number d) (transaction d) (row s) (counts (answered s)) _ _ ((answered s).before.before.before.before.before.before.of.ensures (transaction d)) (site-put j h)
+    (rw (sym c.before.before.before.goes_down.ensures ∙ c.before.before.if3.true) (c.forget-all.ensures ∙ ap forget (ap transactions_in (transactions-put j) ∙ put-stored s)))
     ∙ row_seen s h))
     c.before.before.before.before.before.before.before.before.before.before.before.before.store4.ensures
 
@@ -239,7 +239,7 @@ loop-less-6 : tie.Need-loop-smaller-6 Inv-loop μ-loop
 loop-less-6 c = let r = step-read (found (came c.before.before.before.before)) in let t = top r in omega (arith, r.before.before.before.before.loop-test.taken)
 
 loop-again-6 : tie.Need-loop-preserved-6 Inv-loop μ-loop
-unfolding runIn
+unfolding run_in
 loop-again-6 c =
     let j = c.before.before in
     let s = settled j in
@@ -247,13 +247,13 @@ loop-again-6 c =
     let r = step-read (found d) in
     next r (variants.Accepted (counts (answered s))) j.if2.run _
     (full_put j)
-    (λ h. turned (answered s) _ (forces-put j) (happens-seen (w r) (number d) (transaction d) (row s) (counts (answered s)) _ _ ((answered s).before.before.before.before.before.before.of.ensures (transaction d)) (site-put j h)
-    (rw (sym c.before.goes_down.ensures ∙ c.if3.false) (ap transactionsIn (transactions-put j) ∙ put-stored s))
+    (λ h. turned (answered s) _ (forces-put j) (happens_seen (w r) (number d) (transaction d) (row s) (counts (answered s)) _ _ ((answered s).before.before.before.before.before.before.of.ensures (transaction d)) (site-put j h)
+    (rw (sym c.before.goes_down.ensures ∙ c.if3.false) (ap transactions_in (transactions-put j) ∙ put-stored s))
     ∙ row_seen s h))
     c.before.before.before.before.before.before.before.before.before.before.store4.ensures
 
 returns : tie.Need-returns Inv-loop μ-loop
-returns c = ahead-ends c.before.loop.invariant.ahead (omega arith) _ refl refl
+returns c = ahead_ends c.before.loop.invariant.ahead (omega arith) _ refl refl
 
 pub go-spec : {M : Type 1} → statement M
 go-spec =

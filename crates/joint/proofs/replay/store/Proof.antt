@@ -1,7 +1,7 @@
 use native.Mathlib.Omega.{arith}
 use lib.ListN.{length-set}
 use Rattle.joint.specs.Answers.{answer_in}
-use Rattle.joint.proofs.engine.Replays.{answer-stored}
+use Rattle.joint.proofs.Engine.Replays.{answer-stored}
 use borrow.Author.Rules.{rules}
 use Rattle.joint.proofs.replay.store.Statement.{statement}
 use Rattle.joint.proofs.replay.store.Tie as tie

@@ -1,6 +1,6 @@
 use native.Mathlib.Omega.{arith}
 use borrow.Author.Rules.{rules}
-use Rattle.joint.proofs.engine.Transactions.{member-either}
+use Rattle.joint.proofs.Engine.Transactions.{member-either}
 use Rattle.joint.proofs.transactions.with_all.Statement.{statement}
 use Rattle.joint.proofs.transactions.with_all.Tie as tie
 

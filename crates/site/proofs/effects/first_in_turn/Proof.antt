@@ -6,8 +6,8 @@ use lib.ListN.{length, length-append}
 use lib.Seq.{take_all}
 use native.Mathlib.Omega.{arith}
 use Rattle.site.specs.Coordinator.{in_turn}
-use Rattle.site.specs.laws.Order.{in-turn-adds, both-same}
-use Rattle.site.proofs.Turned.{Walked, walk-starts, goes_on, walk-on, walk_ends}
+use Rattle.site.specs.Laws.Order.{in_turn_adds, both-same}
+use Rattle.site.proofs.Turned.{Walked, walk_starts, goes_on, walk_on, walk_ends}
 use Rattle.site.proofs.effects.first_in_turn.Statement.{statement}
 use Rattle.site.proofs.effects.first_in_turn.Tie as tie
 
@@ -20,14 +20,14 @@ decreases-loop start mask most taken₀ left₀ i₀ taken left i = 8 - i
 returns : tie.Need-returns invariant-loop decreases-loop
 returns c =
     let a = c.before.before.args in (
-      sym (take_all a.most (in_turn a.start a.mask) (omega (arith, c.if1.true, c.before.size.ensures, in-turn-adds length length-append a.start a.mask))),
+      sym (take_all a.most (in_turn a.start a.mask) (omega (arith, c.if1.true, c.before.size.ensures, in_turn_adds length length-append a.start a.mask))),
       both-same a.mask (omega arith),
     )
 
 loop-holds : tie.Need-loop-init invariant-loop decreases-loop
 loop-holds c =
     let s = c.before.before in
-    walk-starts s.args.start s.args.mask (omega (arith, s.requires)) s.args.most (omega (arith, c.if1.false, c.before.size.ensures))
+    walk_starts s.args.start s.args.mask (omega (arith, s.requires)) s.args.most (omega (arith, c.if1.false, c.before.size.ensures))
 
 -- the round is not over
 goes : (c : tie.In-loop invariant-loop decreases-loop) → c.before.loop.i < 8
@@ -45,7 +45,7 @@ loop-again c =
     let d = m.before in
     let w = d.before in
     let s = w.before.before.before in
-    let on = walk-on s.args.start s.args.mask (omega (arith, s.requires)) s.args.most w.loop.taken w.loop.left w.loop.i w.loop.invariant (omega (arith, d.loop-test.true)) in
+    let on = walk_on s.args.start s.args.mask (omega (arith, s.requires)) s.args.most w.loop.taken w.loop.left w.loop.i w.loop.invariant (omega (arith, d.loop-test.true)) in
     ⊎_elim
     (λ o. rw (o.3, o.4, o.2.ensures, o.1.ensures) (on true (sym m.member.ensures ∙ o.0.taken)))
     (λ o. rw (o.1, o.2) (on false (sym m.member.ensures ∙ o.0.left)))

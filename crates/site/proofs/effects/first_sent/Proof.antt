@@ -7,8 +7,8 @@ use lib.ListN.{length, take}
 use borrow.Author.Tests.{ltb-true, ltb-false}
 use Rattle.codec.specs.Sets.{listed, both, minus}
 use Rattle.site.specs.Coordinator.{in_turn}
-use Rattle.site.specs.laws.Order.{cut-in-groups}
-use Rattle.site.proofs.Turned.{turn-beyond}
+use Rattle.site.specs.Laws.Order.{cut_in_groups}
+use Rattle.site.proofs.Turned.{turn_beyond}
 use Rattle.site.proofs.effects.first_sent.Statement.{statement}
 use Rattle.site.proofs.effects.first_sent.Tie as tie
 
@@ -20,7 +20,7 @@ starts c = rw c.pick.ensures (by (ltb 7 t) refl)
     t = c.before.args.transaction
 
     by : (b : Bool) → ltb 7 t ≡ b → (cond b 0 t ≤ 7) × ((x : ℕ) → in_turn t x ≡ in_turn (cond b 0 t) x)
-    by true e = (omega arith, λ x. turn-beyond t x (ltb-true 7 t e))
+    by true e = (omega arith, λ x. turn_beyond t x (ltb-true 7 t e))
     by false e = (omega (arith, ltb-false 7 t e), λ x. refl)
 
 returns : tie.Need-returns
@@ -41,7 +41,7 @@ returns c =
     let left : f.before.pick3.result ≡ cond within a.most (a.most - length (listed (both a.to a.owing))) =
     rw (f.before.pick3.ensures, l.less.ensures, count) refl in
     rw (c.either.ensures, c.before.pick4.ensures, count, first)
-    (cut-in-groups a.transaction a.owing a.to a.most r.result within refl (omega arith)
+    (cut_in_groups a.transaction a.owing a.to a.most r.result within refl (omega arith)
     (rw group at r.ensures.1)
     (s r.result ∙ r.ensures.0 ∙ ap₂ take left (ap (in_turn b.before.pick.result) group ∙ sym (s _))))
 

@@ -1,8 +1,8 @@
 use mathlib.Core.Path.{sym}
-use Rattle.site.specs.Step.{answerNumber}
-use Rattle.site.specs.Numbers.{summaryBehind, summary, packed, rowValues, noValues, coordinatorValues, coordinatorResult}
+use Rattle.site.specs.Step.{answer_number}
+use Rattle.site.specs.Numbers.{summary_behind, summary, packed, row_values, no_values, coordinator_values, coordinator_result}
 use native.Mathlib.Omega.{arith}
-use Rattle.site.specs.Answers.{summaryIn}
+use Rattle.site.specs.Answers.{summary_in}
 use Rattle.site.proofs.Summed.{fits}
 use borrow.Author.Rules.{rules}
 use Rattle.site.proofs.numbers.coordinator_result.Statement.{statement}
@@ -12,18 +12,18 @@ enum_told : tie.Need-enum-told
 enum_told c = search rules
 
 packed-requires-2 : tie.Need-packed-requires-2
-packed-requires-2 c κs = fits _ (summaryIn c.summary.result) (c.summary.ensures 0)
+packed-requires-2 c κs = fits _ (summary_in c.summary.result) (c.summary.ensures 0)
 
 returns : tie.Need-returns
-unfolding coordinatorResult coordinatorValues answerNumber noValues packed
+unfolding coordinator_result coordinator_values answer_number no_values packed
 returns c t = rw c.enum_told.given.1
 
 returns-2 : tie.Need-returns-2
-unfolding coordinatorResult coordinatorValues answerNumber rowValues summary summaryBehind
+unfolding coordinator_result coordinator_values answer_number row_values summary summary_behind
 returns-2 c t = rw (c.packed.ensures, c.before.enum-told2.given.1)
 
 returns-3 : tie.Need-returns-3
-unfolding coordinatorResult coordinatorValues answerNumber rowValues
+unfolding coordinator_result coordinator_values answer_number row_values
 returns-3 c t =
     rw (
       c.packed2.ensures,

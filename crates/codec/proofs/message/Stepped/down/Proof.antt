@@ -1,7 +1,7 @@
 use mathlib.Core.Logic.{⊎_elim}
 use Prim.Native.Nat.{◌-◌}
 use native.Mathlib.Omega.{arith}
-use Rattle.codec.proofs.Numbered.{Stepping, not-stepped, step-taken, step_left, stepped}
+use Rattle.codec.proofs.Numbered.{Stepping, not_stepped, step-taken, step_left, stepped}
 use Rattle.codec.proofs.message.Stepped.down.Statement.{statement}
 use Rattle.codec.proofs.message.Stepped.down.Tie as tie
 
@@ -12,7 +12,7 @@ abbrev decreases-loop : tie.decreases-loop
 decreases-loop number step steps₀ rest₀ tried₀ steps rest tried = 7 - tried
 
 loop-holds : tie.Need-loop-init invariant-loop decreases-loop
-loop-holds c = not-stepped _ _ c.requires
+loop-holds c = not_stepped _ _ c.requires
 
 add-steps : tie.Need-overflow-add-steps invariant-loop decreases-loop
 add-steps c = let w = c.before.before in omega (arith, w.loop.invariant.taken, w.loop.invariant.few)

@@ -5,11 +5,11 @@ use native.Mathlib.Omega.{arith}
 use borrow.Author.Tests.{le-ltb, ne_eqb}
 use lib.Dec.{eqb, leb, ltb, eqb→eq, leb→le}
 use Rattle.codec.specs.Sets.{empty, minus}
-use Rattle.codec.specs.Records.{lengths, length_of, membersIn, presumeCommitIn, awaitsAcks}
-use Rattle.codec.specs.Answers.{recordIn}
+use Rattle.codec.specs.Records.{lengths, length_of, members_in, presume_commit_in, awaits_acks}
+use Rattle.codec.specs.Answers.{record_in}
 use Rattle.codec.specs.declared.record.Record.{Record}
-use Rattle.codec.specs.laws.Tests.{below_at}
-use Rattle.codec.specs.laws.Remaining.{minus-none}
+use Rattle.codec.specs.Laws.Tests.{below_at}
+use Rattle.codec.specs.Laws.Remaining.{minus-none}
 use Rattle.codec.proofs.record.Record.awaits_acks.Statement.{statement}
 use Rattle.codec.proofs.record.Record.awaits_acks.Tie as tie
 
@@ -23,16 +23,16 @@ unfolding length_of lengths
 no_fields k h low other = leb→le _ _ (rw (le-ltb k 3 low, ne_eqb k 5 other) at (below_at 256 (λ k. ltb k 3 || eqb k 5 || leb (length_of k) 2) tt k h))
 
 module _ (x : Record) where
-  with_two : length_of x.kind ≡ 4 → awaitsAcks (recordIn x) ≡ not (eqb (minus x.first x.second) 0)
-  unfolding recordIn awaitsAcks membersIn presumeCommitIn empty
+  with_two : length_of x.kind ≡ 4 → awaits_acks (record_in x) ≡ not (eqb (minus x.first x.second) 0)
+  unfolding record_in awaits_acks members_in presume_commit_in empty
   with_two e = rw e
 
-  with-one : x.kind ≡ 5 → x.first < 256 → awaitsAcks (recordIn x) ≡ not (eqb x.first 0)
-  unfolding recordIn awaitsAcks membersIn presumeCommitIn empty length_of lengths
+  with-one : x.kind ≡ 5 → x.first < 256 → awaits_acks (record_in x) ≡ not (eqb x.first 0)
+  unfolding record_in awaits_acks members_in presume_commit_in empty length_of lengths
   with-one e h = rw (e, minus-none x.first h)
 
-  with_none : length_of x.kind ≤ 2 → awaitsAcks (recordIn x) ≡ false
-  unfolding recordIn awaitsAcks membersIn presumeCommitIn empty
+  with_none : length_of x.kind ≤ 2 → awaits_acks (record_in x) ≡ false
+  unfolding record_in awaits_acks members_in presume_commit_in empty
   with_none h = let none : length_of x.kind - 2 ≡ 0 = omega arith in rw (none, minus-none 0 (omega arith))
 
 returns : tie.Need-returns

@@ -2,7 +2,7 @@ use mathlib.Core.Path.{sym, refl}
 use native.Mathlib.Omega.{arith}
 use lib.ListN.{get_or-eq_default}
 use Rattle.codec.specs.Records.{lengths, length_of}
-use Rattle.codec.specs.laws.Fields.{length_most}
+use Rattle.codec.specs.Laws.Fields.{length_most}
 use borrow.Author.Rules.{rules}
 use Rattle.codec.proofs.record.Record.length_of.Statement.{statement}
 use Rattle.codec.proofs.record.Record.length_of.Tie as tie

@@ -3,7 +3,7 @@ use mathlib.Core.Path.{◌≡◌, refl, ◌∙◌}
 use lib.ListN.{length-set}
 use native.Mathlib.Omega.{arith}
 use borrow.Author.Rules.{rules}
-use Rattle.drill_text.proofs.Digits.{Ended, ended-start, ended-more, ended-next, ended-last}
+use Rattle.drill_text.proofs.Digits.{Ended, ended_start, ended_more, ended_next, ended_last}
 use Rattle.drill_text.proofs.totals.Digits.of.Statement.{statement}
 use Rattle.drill_text.proofs.totals.Digits.of.Tie as tie
 
@@ -14,21 +14,21 @@ abbrev decreases-loop : tie.decreases-loop
 decreases-loop n of₀ rest₀ from₀ of rest from = from
 
 loop-holds : tie.Need-loop-init invariant-loop decreases-loop
-loop-holds c = ended-start _ _ refl (search rules)
+loop-holds c = ended_start _ _ refl (search rules)
 
 array-write-of : tie.Need-array-write-of invariant-loop decreases-loop
 array-write-of c = omega (arith, c.before.loop.invariant.most)
 
 sub-from : tie.Need-overflow-sub-from invariant-loop decreases-loop
-sub-from c = ended-more c.before.loop.invariant c.loop-test.true
+sub-from c = ended_more c.before.loop.invariant c.loop-test.true
 
 loop-less : tie.Need-loop-smaller invariant-loop decreases-loop
-loop-less c = omega (arith, ended-more c.before.loop.invariant c.loop-test.true)
+loop-less c = omega (arith, ended_more c.before.loop.invariant c.loop-test.true)
 
 loop-again : tie.Need-loop-preserved invariant-loop decreases-loop
 loop-again c =
     let l = c.before.loop in
-    ended-next l.invariant (l.from - 1) (omega (arith, ended-more l.invariant c.loop-test.true)) c.loop-test.true
+    ended_next l.invariant (l.from - 1) (omega (arith, ended_more l.invariant c.loop-test.true)) c.loop-test.true
 
 array-write-of-2 : tie.Need-array-write-of-2 invariant-loop decreases-loop
 array-write-of-2 c = omega (arith, c.before.loop.invariant.most)
@@ -36,7 +36,7 @@ array-write-of-2 c = omega (arith, c.before.loop.invariant.most)
 returns : tie.Need-returns invariant-loop decreases-loop
 returns c =
     let i = c.before.loop.invariant in
-    ((i.most, length-set c.before.loop.of _ _ ∙ i.size), ended-last i (omega (arith, c.loop-test.false)))
+    ((i.most, length-set c.before.loop.of _ _ ∙ i.size), ended_last i (omega (arith, c.loop-test.false)))
 
 pub of_spec : {M : Type 1} → statement M
 of_spec =

@@ -1,8 +1,8 @@
 use mathlib.Core.Path.{ap}
 use borrow.Author.Rules.{rules}
-use Rattle.joint.specs.Answers.{answer_in, refusalNumber}
+use Rattle.joint.specs.Answers.{answer_in, refusal_number}
 use Rattle.joint.specs.Run.{Answer}
-use Rattle.joint.proofs.engine.Refused.{refused-counts}
+use Rattle.joint.proofs.Engine.Refused.{refused_counts}
 use Rattle.joint.proofs.answers.Answer.sends.Statement.{statement}
 use Rattle.joint.proofs.answers.Answer.sends.Tie as tie
 
@@ -11,8 +11,8 @@ unfolding answer_in
 returns c = search rules
 
 returns-2 : tie.Need-returns-2
-unfolding refusalNumber
-returns-2 c = ap (λ (a : Answer). a.sends) (refused-counts c.before.args.self c.match.keys2)
+unfolding refusal_number
+returns-2 c = ap (λ (a : Answer). a.sends) (refused_counts c.before.args.self c.match.keys2)
 
 pub sends-spec : {M : Type 1} → statement M
 sends-spec = tie.close (tie.spec (λ c. search rules) returns returns-2)

@@ -1,5 +1,5 @@
 use mathlib.Core.Path.{refl, sym, ◌∙◌}
-use Rattle.joint.proofs.engine.Effects.{row-records, row-forces, row-sends}
+use Rattle.joint.proofs.Engine.Effects.{row-records, row-forces, row-sends}
 use borrow.Author.Rules.{rules}
 use Rattle.joint.proofs.answers.Counts.of.Statement.{statement}
 use Rattle.joint.proofs.answers.Counts.of.Tie as tie

@@ -2,14 +2,14 @@ use Prim.Native.Nat.{◌≤◌}
 use mathlib.Core.Path.{◌≡◌, sym}
 use mathlib.Core.Bool.{true, false}
 use native.Mathlib.Omega.{arith}
-use Rattle.codec.specs.laws.Listed.{size-most}
-use Rattle.joint.specs.Answers.{billIn}
-use Rattle.joint.proofs.engine.Bills.{wrong, part-size, bill-refused, within, bill-priced}
+use Rattle.codec.specs.Laws.Listed.{size-most}
+use Rattle.joint.specs.Answers.{bill_in}
+use Rattle.joint.proofs.Engine.Bills.{wrong, part-size, bill-refused, within, bill_priced}
 use Rattle.joint.proofs.bill.Bill.of.Statement.{statement}
 use Rattle.joint.proofs.bill.Bill.of.Tie as tie
 
 returns : tie.Need-returns
-unfolding billIn
+unfolding bill_in
 returns c =
     let a = c.before.before.args in
     bill-refused a.members a.presume-commit (rw (sym c.before.part.ensures) c.if1.true)
@@ -30,11 +30,11 @@ sub-a : tie.Need-overflow-sub-a
 sub-a c = (few c).0
 
 returns-2 : tie.Need-returns-2
-unfolding billIn
+unfolding bill_in
 returns-2 c =
     let w = c.before.before in
     let a = w.before.before.before.before.args in
-    bill-priced a.members a.presume-commit (right w) _ _ _ _ w.before.size.ensures w.size2.ensures c.before.one-if.ensures.0 c.one-if2.ensures.0
+    bill_priced a.members a.presume-commit (right w) _ _ _ _ w.before.size.ensures w.size2.ensures c.before.one-if.ensures.0 c.one-if2.ensures.0
 
 pub of_spec : {M : Type 1} → statement M
 of_spec =

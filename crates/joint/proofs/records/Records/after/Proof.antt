@@ -2,14 +2,14 @@ use mathlib.Core.Path.{◌≡◌, ap, ◌∙◌}
 use Prim.Native.Nat.{ℕ}
 use mathlib.Core.List.{List, [], ◌∷◌}
 use lib.ListN.{length}
-use Rattle.site.specs.Answers.{effectsIn}
+use Rattle.site.specs.Answers.{effects_in}
 use Rattle.joint.specs.State.{stopped}
 use Rattle.joint.specs.Plan.{trimmed}
-use Rattle.joint.specs.Answers.{siteFrom}
-use Rattle.joint.specs.Inside.{siteAfter, thenSite, rowSite, Fits}
-use Rattle.joint.proofs.engine.Arrays.{length-shown}
-use Rattle.joint.proofs.engine.Sites.{row-length}
-use Rattle.joint.proofs.engine.RowSites.{unmoved, unchanged}
+use Rattle.joint.specs.Answers.{site_from}
+use Rattle.joint.specs.Inside.{site_after, then_site, row_site, Fits}
+use Rattle.joint.proofs.Engine.Arrays.{length-shown}
+use Rattle.joint.proofs.Engine.Sites.{row-length}
+use Rattle.joint.proofs.Engine.RowSites.{unmoved, unchanged}
 use borrow.Author.Rules.{rules}
 use Rattle.joint.proofs.records.Records.after.Statement.{statement}
 use Rattle.joint.proofs.records.Records.after.Tie as tie
@@ -19,8 +19,8 @@ effected : (c : tie.After-after)
     → let s = c.before.before.before.before.args in
     let rs = c.before.append.result.of in
     (length rs ≡ 24)
-    × (Fits (effectsIn s.transaction s.row.effects) (siteFrom s.site s.self.of)
-    → siteFrom c.after.result rs ≡ siteAfter s.transaction (effectsIn s.transaction s.row.effects) (siteFrom s.site s.self.of))
+    × (Fits (effects_in s.transaction s.row.effects) (site_from s.site s.self.of)
+    → site_from c.after.result rs ≡ site_after s.transaction (effects_in s.transaction s.row.effects) (site_from s.site s.self.of))
 effected c =
     let a = c.before in
     let s = a.before.before.before.args in
@@ -33,21 +33,21 @@ enum_told : tie.Need-enum-told
 enum_told c = search rules
 
 returns : tie.Need-returns
-unfolding rowSite thenSite
+unfolding row_site then_site
 returns c = λ fits.
     let w = c.before.before.before in
     let s = w.before.before.before.before.args in
     rw c.before.enum_told.given.1 (c.trim.ensures ∙ ap (trimmed s.transaction) ((effected w).1 fits))
 
 returns-2 : tie.Need-returns-2
-unfolding rowSite thenSite
+unfolding row_site then_site
 returns-2 c = λ fits.
     let d = c.before.before in
     let w = d.before.before in
     rw d.then.given.1 (c.stop.ensures ∙ ap (stopped d.then.given.0.0) ((effected w).1 fits))
 
 returns-3 : tie.Need-returns-3
-unfolding rowSite
+unfolding row_site
 returns-3 c = λ fits.
     let s = c.before.before.before.before.before.args in
     let keys : List ℕ = 0 ∷ 1 ∷ 2 ∷ 3 ∷ 6 ∷ [] in

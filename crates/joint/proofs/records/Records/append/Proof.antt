@@ -5,13 +5,13 @@ use mathlib.Core.Logic.{⊎_elim}
 use native.Mathlib.Omega.{arith}
 use borrow.Author.Tests.{eq-eqb, ne_eqb}
 use lib.Dec.{eqb}
-use Rattle.joint.specs.Inside.{putRow}
+use Rattle.joint.specs.Inside.{put_row}
 use borrow.Author.Rules.{rules}
 use Rattle.joint.proofs.records.Records.append.Statement.{statement}
 use Rattle.joint.proofs.records.Records.append.Tie as tie
 
 returns : tie.Need-returns
-unfolding putRow
+unfolding put_row
 returns c =
     let j = c.before in
     let p = j.before.before in

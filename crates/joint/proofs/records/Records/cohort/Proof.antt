@@ -4,8 +4,8 @@ use mathlib.Core.Logic.{⊎_elim}
 use lib.ListN.{length}
 use native.Mathlib.Omega.{arith}
 use borrow.Author.Rules.{rules}
-use Rattle.joint.proofs.engine.Arrays.{length-shown}
-use Rattle.joint.proofs.engine.Walks.{none-recorded, masks-recorded}
+use Rattle.joint.proofs.Engine.Arrays.{length-shown}
+use Rattle.joint.proofs.Engine.Walks.{none_recorded, masks_recorded}
 use Rattle.joint.proofs.records.Records.cohort.Statement.{statement}
 use Rattle.joint.proofs.records.Records.cohort.Tie as tie
 
@@ -21,14 +21,14 @@ returns c =
     let o = c.before in
     let s = o.before.before in
     let a = s.args in
-    none-recorded a.transaction a.commit a.t1.of a.count o.oldest.result (size s) s.requires (rw (kind o.before) at o.oldest.ensures) c.if2.true
+    none_recorded a.transaction a.commit a.t1.of a.count o.oldest.result (size s) s.requires (rw (kind o.before) at o.oldest.ensures) c.if2.true
 
 returns-2 : tie.Need-returns-2
 returns-2 c =
     let o = c.before.before in
     let s = o.before.before in
     let a = s.args in
-    masks-recorded a.transaction a.commit a.t1.of a.count o.oldest.result (size s) s.requires (rw (kind o.before) at o.oldest.ensures) (omega (arith, c.before.if2.false))
+    masks_recorded a.transaction a.commit a.t1.of a.count o.oldest.result (size s) s.requires (rw (kind o.before) at o.oldest.ensures) (omega (arith, c.before.if2.false))
 
 pub cohort-spec : {M : Type 1} → statement M
 cohort-spec = tie.close (tie.spec (λ c κs. search rules) returns (λ c. search rules) (λ c. search rules) returns-2)

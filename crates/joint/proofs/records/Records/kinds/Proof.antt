@@ -6,9 +6,9 @@ use borrow.Author.Rules.{rules}
 use borrow.Author.Tests.{leb-true}
 use lib.ListN.{length, get_or, length-set}
 use lib.Dec.{leb}
-use Rattle.codec.specs.Answers.{noRecord}
-use Rattle.joint.proofs.engine.Arrays.{length-shown}
-use Rattle.joint.proofs.engine.Walks.{Collected, collect-starts, collect-more, collect-none}
+use Rattle.codec.specs.Answers.{no_record}
+use Rattle.joint.proofs.Engine.Arrays.{length-shown}
+use Rattle.joint.proofs.Engine.Walks.{Collected, collect_starts, collect_more, collect_none}
 use Rattle.joint.proofs.records.Records.kinds.Statement.{statement}
 use Rattle.joint.proofs.records.Records.kinds.Tie as tie
 
@@ -21,17 +21,17 @@ decreases-loop count records kinds₀ i₀ kinds i = count - i
 -- transaction and kind are asked for
 asked : (c : tie.Then1 invariant-loop decreases-loop)
     → let w = c.before.before.before.before.before in
-    let x = get_or w.before.before.args.self.of w.loop.i noRecord in
+    let x = get_or w.before.before.args.self.of w.loop.i no_record in
     (x.transaction ≤ 7) × (x.kind ≤ 7)
 asked c =
     let w = c.before.before.before.before.before in
-    let x = get_or w.before.before.args.self.of w.loop.i noRecord in
+    let x = get_or w.before.before.args.self.of w.loop.i no_record in
     let h = (and-eq-true_iff (leb x.transaction 7) (leb x.kind 7)).0 c.if1.true in
     (leb-true x.transaction 7 h.0, leb-true x.kind 7 h.1)
 
 loop-holds : tie.Need-loop-init invariant-loop decreases-loop
 loop-holds c = let e : length c.before.args.self.of ≡ 24 = search length-shown in
-    (omega arith, (e, (refl, collect-starts c.before.args.self.of)))
+    (omega arith, (e, (refl, collect_starts c.before.args.self.of)))
 
 cast-at : tie.Need-overflow-cast-at invariant-loop decreases-loop
 cast-at c = omega (arith, asked c.before)
@@ -62,7 +62,7 @@ loop-again c = let b = c.before.before in
         v.0,
         (
           simp length-set v.1.0,
-          collect-more rs i (i + 1) (omega arith) (omega arith) w.loop.kinds c.with-bit.result (omega (arith, asked b)) c.with-bit.ensures v.1.1,
+          collect_more rs i (i + 1) (omega arith) (omega arith) w.loop.kinds c.with-bit.result (omega (arith, asked b)) c.with-bit.ensures v.1.1,
         ),
       ),
     )
@@ -72,7 +72,7 @@ loop-again-2 c = let w = c.before.before.before.before.before in
     let rs = w.before.before.args.self.of in
     let i = w.loop.i in
     let v = w.loop.invariant.1 in
-    (omega arith, (v.0, (v.1.0, collect-none rs i (i + 1) (omega arith) (omega arith) w.loop.kinds c.if1.false v.1.1)))
+    (omega arith, (v.0, (v.1.0, collect_none rs i (i + 1) (omega arith) (omega arith) w.loop.kinds c.if1.false v.1.1)))
 
 returns : tie.Need-returns invariant-loop decreases-loop
 returns c = let w = c.before in

@@ -2,20 +2,20 @@ use mathlib.Core.Path.{◌≡◌}
 use mathlib.Core.List.{map}
 use native.Mathlib.Omega.{arith}
 use lib.ListN.{length, take, length-take, length-map}
-use Rattle.codec.specs.Records.{ofTransaction}
-use Rattle.codec.specs.Answers.{recordIn}
-use Rattle.joint.proofs.engine.Arrays.{length-shown}
-use Rattle.joint.proofs.engine.Walks.{any-kind, any-oldest}
+use Rattle.codec.specs.Records.{of_transaction}
+use Rattle.codec.specs.Answers.{record_in}
+use Rattle.joint.proofs.Engine.Arrays.{length-shown}
+use Rattle.joint.proofs.Engine.Walks.{any_kind, any_oldest}
 use borrow.Author.Rules.{rules}
 use Rattle.joint.proofs.records.Records.remember.Statement.{statement}
 use Rattle.joint.proofs.records.Records.remember.Tie as tie
 
 returns : tie.Need-returns
 returns c = let s = c.before.args in
-    let l = take s.count (map recordIn s.self.of) in
+    let l = take s.count (map record_in s.self.of) in
     let e : length s.self.of ≡ 24 = search length-shown in
     let n : length l ≡ s.count = simp (length-take, length-map) (omega arith) in
-    rw (c.oldest.ensures, any-kind s.transaction) (rw n at (any-oldest (ofTransaction s.transaction) l))
+    rw (c.oldest.ensures, any_kind s.transaction) (rw n at (any_oldest (of_transaction s.transaction) l))
 
 pub remember-spec : {M : Type 1} → statement M
 remember-spec = tie.close (tie.spec (λ c κs. search rules) returns)

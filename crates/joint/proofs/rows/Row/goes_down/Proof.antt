@@ -1,11 +1,11 @@
-use Rattle.joint.specs.Inside.{goesDown}
-use Rattle.joint.proofs.engine.Rows.{not-down}
+use Rattle.joint.specs.Inside.{goes_down}
+use Rattle.joint.proofs.Engine.Rows.{not-down}
 use borrow.Author.Rules.{rules}
 use Rattle.joint.proofs.rows.Row.goes_down.Statement.{statement}
 use Rattle.joint.proofs.rows.Row.goes_down.Tie as tie
 
 returns : tie.Need-returns
-unfolding goesDown
+unfolding goes_down
 returns c = search rules
 
 returns-2 : tie.Need-returns-2

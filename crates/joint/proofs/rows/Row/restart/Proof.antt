@@ -2,25 +2,25 @@ use Prim.Native.Nat.{◌≤◌}
 use mathlib.Core.Path.{ap, sym, ◌∙◌}
 use mathlib.Core.Bool.{cond}
 use native.Mathlib.Omega.{arith}
-use Rattle.site.specs.Answers.{cohortIn, hasKind}
+use Rattle.site.specs.Answers.{cohort_in, has_kind}
 use Rattle.site.specs.declared.participant.ParticipantAnswer.TheVariants as answer
-use Rattle.joint.specs.State.{recordedCohort, withParticipant}
-use Rattle.joint.specs.Plan.{planned, rowPlan}
-use Rattle.joint.specs.Inside.{thenIn}
-use Rattle.joint.proofs.engine.Rows.{no-participant-row, coordinator-restarts, participant-restarts, some-none, some_same}
+use Rattle.joint.specs.State.{recorded_cohort, with_participant}
+use Rattle.joint.specs.Plan.{planned, row_plan}
+use Rattle.joint.specs.Inside.{then_in}
+use Rattle.joint.proofs.Engine.Rows.{no_participant-row, coordinator_restarts, participant_restarts, some-none, some_same}
 use borrow.Author.Rules.{rules}
 use Rattle.joint.proofs.rows.Row.restart.Statement.{statement}
 use Rattle.joint.proofs.rows.Row.restart.Tie as tie
 
 returns : tie.Need-returns
-unfolding rowPlan thenIn
+unfolding row_plan then_in
 returns c = λ w own h log.
     let s = c.before in
     let k = s.before in
     let i = k.before.before in
     let a = i.before.args in
-    let told = rw k.before.has.ensures at k.cohort.ensures ∙ ap (recordedCohort a.t (cond (hasKind a.kinds 2) 2 1)) (rw i.if1.true at log) in
-    rw i.if1.true (coordinator-restarts w a.t (hasKind a.kinds) (cohortIn k.cohort.result) s.restart.result (s.restart.ensures a.t) (rw i.if1.true at h) told)
+    let told = rw k.before.has.ensures at k.cohort.ensures ∙ ap (recorded_cohort a.t (cond (has_kind a.kinds 2) 2 1)) (rw i.if1.true at log) in
+    rw i.if1.true (coordinator_restarts w a.t (has_kind a.kinds) (cohort_in k.cohort.result) s.restart.result (s.restart.ensures a.t) (rw i.if1.true at h) told)
 
 returns-2 : tie.Need-returns-2
 unfolding planned
@@ -31,12 +31,12 @@ returns-2 c = λ w own h log.
     let r = p.participant in
     let t = a.args.t in
     let low : 1 ≤ a.args.site = omega (arith, p.before.if1.false) in
-    absurd (some-none (sym (ap (planned a.args.site t (withParticipant a.args.site)) (no-participant-row t s.restart2.result c.match.keys2)
-    ∙ participant-restarts a.args.transaction w t own a.args.site low a.requires.0 r.result r.ensures.0 r.ensures.1.0 r.ensures.1.1.0 r.ensures.1.1.1
-    (hasKind a.args.kinds) s.restart2.result (s.restart2.ensures t) h)))
+    absurd (some-none (sym (ap (planned a.args.site t (with_participant a.args.site)) (no_participant-row t s.restart2.result c.match.keys2)
+    ∙ participant_restarts a.args.transaction w t own a.args.site low a.requires.0 r.result r.ensures.0 r.ensures.1.0 r.ensures.1.1.0 r.ensures.1.1.1
+    (has_kind a.args.kinds) s.restart2.result (s.restart2.ensures t) h)))
 
 returns-3 : tie.Need-returns-3
-unfolding planned rowPlan thenIn
+unfolding planned row_plan then_in
 returns-3 c = λ w own h log.
     let k = c.before.before in
     let s = k.before.before in
@@ -44,8 +44,8 @@ returns-3 c = λ w own h log.
     let a = p.before.before in
     let r = p.participant in
     let low : 1 ≤ a.args.site = omega (arith, p.before.if1.false) in
-    some_same (participant-restarts a.args.transaction w a.args.t own a.args.site low a.requires.0 r.result r.ensures.0 r.ensures.1.0 r.ensures.1.1.0 r.ensures.1.1.1
-    (hasKind a.args.kinds) (answer.Row k.answer.given.0.0) (rw k.answer.given.1 at (s.restart2.ensures a.args.t)) h)
+    some_same (participant_restarts a.args.transaction w a.args.t own a.args.site low a.requires.0 r.result r.ensures.0 r.ensures.1.0 r.ensures.1.1.0 r.ensures.1.1.1
+    (has_kind a.args.kinds) (answer.Row k.answer.given.0.0) (rw k.answer.given.1 at (s.restart2.ensures a.args.t)) h)
 
 pub restart-spec : {M : Type 1} → statement M
 restart-spec =

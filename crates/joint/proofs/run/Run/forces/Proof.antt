@@ -3,10 +3,10 @@ use lib.ListN.{length}
 use native.Mathlib.Omega.{arith}
 use borrow.Author.Rules.{rules}
 use Rattle.joint.specs.Totals.{highest, held}
-use Rattle.joint.specs.Answers.{forcesIn}
-use Rattle.joint.proofs.engine.Arrays.{length-shown, get_d_past}
-use Rattle.joint.proofs.engine.Reads.{getD-within}
-use Rattle.joint.proofs.engine.Whole.{run-held}
+use Rattle.joint.specs.Answers.{forces_in}
+use Rattle.joint.proofs.Engine.Arrays.{length-shown, get_d_past}
+use Rattle.joint.proofs.Engine.Reads.{getD-within}
+use Rattle.joint.proofs.Engine.Whole.{run-held}
 use Rattle.joint.proofs.run.Run.forces.Statement.{statement}
 use Rattle.joint.proofs.run.Run.forces.Tie as tie
 
@@ -14,13 +14,13 @@ counters : (s : tie.Start) → length s.args.t1.forces ≡ 9
 counters s = search length-shown
 
 returns : tie.Need-returns
-unfolding forcesIn
+unfolding forces_in
 returns c =
     let a = c.before.args in
     sym (ap held (get_d_past a.t1.forces a.site 0 (omega (arith, counters c.before, c.if1.true))) ∙ unfold held highest in refl)
 
 returns-2 : tie.Need-returns-2
-unfolding forcesIn
+unfolding forces_in
 returns-2 c =
     let s = c.before.before in
     let a = s.args in

@@ -5,25 +5,25 @@ use lib.ListN.{replicate}
 use native.Mathlib.Omega.{arith}
 use borrow.Author.Rules.{rules}
 use Rattle.codec.specs.Sets.{member}
-use Rattle.codec.specs.laws.Members.{high_bits, none_in}
+use Rattle.codec.specs.Laws.Members.{high_bits, none_in}
 use Rattle.site.specs.Presumption.{Outcome, commit, abort}
-use Rattle.site.specs.Answers.{participantIn, hasKind}
-use Rattle.joint.specs.State.{unknownPart, fresh}
+use Rattle.site.specs.Answers.{participant_in, has_kind}
+use Rattle.joint.specs.State.{unknown_part, fresh}
 use Rattle.joint.specs.Totals.{highest, held}
-use Rattle.joint.specs.Answers.{siteFrom, no_site, noRecords, entered_in, no_held, transactionIn, noTransaction, runIn, forcesIn}
+use Rattle.joint.specs.Answers.{site_from, no_site, no_records, entered_in, no_held, transaction_in, no_transaction, run_in, forces_in}
 use Rattle.joint.specs.declared.sites.Site.{Site}
 use Rattle.joint.specs.declared.records.Records.{Records}
-use Rattle.joint.proofs.engine.Arrays.{all-default}
-use Rattle.joint.proofs.base.Placed.{run-path}
+use Rattle.joint.proofs.Engine.Arrays.{all-default}
+use Rattle.joint.proofs.Base.Placed.{run_path}
 use Rattle.joint.proofs.run.Run.new.Statement.{statement}
 use Rattle.joint.proofs.run.Run.new.Tie as tie
 
-no-site : (s : ℕ) → siteFrom no_site noRecords.of ≡ fresh.site s
-unfolding siteFrom fresh
+no-site : (s : ℕ) → site_from no_site no_records.of ≡ fresh.site s
+unfolding site_from fresh
 no-site s = refl
 
-no_kind : (k : ℕ) → hasKind 0 k ≡ false
-unfolding hasKind
+no_kind : (k : ℕ) → has_kind 0 k ≡ false
+unfolding has_kind
 no_kind k = rw (high_bits 0 0 k (omega arith) (omega arith)) refl
 
 nothing-entered : (s : ℕ) (o : Outcome) → entered_in 0 0 s o ≡ false
@@ -31,25 +31,25 @@ unfolding entered_in
 nothing-entered s commit = no_kind s
 nothing-entered s abort = no_kind s
 
-no-transaction : (t : ℕ) → transactionIn noTransaction ≡ fresh.transaction t
-unfolding transactionIn fresh
+no-transaction : (t : ℕ) → transaction_in no_transaction ≡ fresh.transaction t
+unfolding transaction_in fresh
 no-transaction t =
     λ i. record {
       cohort = (fresh.transaction t).cohort;
-      coordinator = unknownPart;
-      participant = λ p. participantIn (all-default 9 p no_held i).phase;
+      coordinator = unknown_part;
+      participant = λ p. participant_in (all-default 9 p no_held i).phase;
       marked = λ p. no_kind p i;
       sent = λ p k. (ap (member p) (all-default 8 k 0) ∙ none_in p) i;
       entered = λ s o. nothing-entered s o i;
     }
 
-run-fresh : runIn (record { sites = replicate 9 no_site; records = replicate 9 noRecords; transactions = replicate 8 noTransaction; forces = replicate 9 0 }) ≡ fresh
-unfolding runIn
+run-fresh : run_in (record { sites = replicate 9 no_site; records = replicate 9 no_records; transactions = replicate 8 no_transaction; forces = replicate 9 0 }) ≡ fresh
+unfolding run_in
 run-fresh =
-    run-path (fun_ext (λ s. ap₂ (λ (x : Site) (y : Records). siteFrom x y.of) (all-default 9 s no_site) (all-default 9 s noRecords) ∙ no-site s)) (fun_ext (λ t. ap transactionIn (all-default 8 t noTransaction) ∙ no-transaction t))
+    run_path (fun_ext (λ s. ap₂ (λ (x : Site) (y : Records). site_from x y.of) (all-default 9 s no_site) (all-default 9 s no_records) ∙ no-site s)) (fun_ext (λ t. ap transaction_in (all-default 8 t no_transaction) ∙ no-transaction t))
 
 returns : tie.Need-returns
-unfolding forcesIn
+unfolding forces_in
 returns c = (rw (c.before.new.ensures, c.new2.ensures) run-fresh, λ s. ap held (all-default 9 s 0) ∙ unfold held highest in refl)
 
 pub new_spec : {M : Type 1} → statement M

@@ -5,23 +5,23 @@ use lib.ListN.{length}
 use borrow.Author.Tests.{lt-ltb}
 use Rattle.codec.specs.Lists.{first}
 use Rattle.codec.specs.Records.{LogRecord}
-use Rattle.codec.specs.Image.{overLimit, logRefusals, writeRefusals, writeUnless, writeImage}
+use Rattle.codec.specs.Image.{over_limit, log_refusals, write_refusals, write_unless, write_image}
 use Rattle.codec.specs.Answers.{written}
-use Rattle.joint.proofs.engine.Arrays.{length-shown}
-use Rattle.joint.proofs.engine.Whole.{log-read}
+use Rattle.joint.proofs.Engine.Arrays.{length-shown}
+use Rattle.joint.proofs.Engine.Whole.{log_read}
 use borrow.Author.Rules.{rules}
 use borrow.Author.Tests.{lt-ltb}
 use Rattle.codec.specs.Lists.{first}
 use Rattle.codec.specs.Records.{LogRecord}
-use Rattle.codec.specs.Image.{overLimit, logRefusals, writeRefusals, writeUnless, writeImage}
+use Rattle.codec.specs.Image.{over_limit, log_refusals, write_refusals, write_unless, write_image}
 use Rattle.codec.specs.Answers.{written}
-use Rattle.joint.proofs.engine.Arrays.{length-shown}
-use Rattle.joint.proofs.engine.Whole.{log-read}
+use Rattle.joint.proofs.Engine.Arrays.{length-shown}
+use Rattle.joint.proofs.Engine.Whole.{log_read}
 use Rattle.joint.proofs.run.Run.write_log.Statement.{statement}
 use Rattle.joint.proofs.run.Run.write_log.Tie as tie
 
-no-site : (s : ℕ) (log : List LogRecord) (at : ℕ) (buffer : List ℕ) → 8 < s → written 21 buffer ≡ writeImage s log at buffer
-unfolding writeImage writeRefusals logRefusals first overLimit writeUnless
+no-site : (s : ℕ) (log : List LogRecord) (at : ℕ) (buffer : List ℕ) → 8 < s → written 21 buffer ≡ write_image s log at buffer
+unfolding write_image write_refusals log_refusals first over_limit write_unless
 no-site s log at buffer h = rw (lt-ltb 8 s h) refl
 
 sites : (s : tie.Start) → length s.args.t1.sites ≡ 9
@@ -42,8 +42,8 @@ returns-2 c =
     let s = n.before.before.before.before.before in
     let a = s.args in
     w.write-log.ensures
-    ∙ ap (λ (l : List LogRecord). writeImage a.site l a.at a.buffer.now)
-    (log-read a.t1 _ s.well-formed.0 a.site _ _ _ (sites s) (logs s) (search rules) n.stable-count.ensures)
+    ∙ ap (λ (l : List LogRecord). write_image a.site l a.at a.buffer.now)
+    (log_read a.t1 _ s.well-formed.0 a.site _ _ _ (sites s) (logs s) (search rules) n.stable-count.ensures)
 
 pub write-log-spec : {M : Type 1} → statement M
 write-log-spec =

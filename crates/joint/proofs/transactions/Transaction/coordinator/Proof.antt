@@ -1,10 +1,10 @@
 use mathlib.Core.Path.{refl}
-use Rattle.joint.specs.Answers.{transactionIn}
+use Rattle.joint.specs.Answers.{transaction_in}
 use Rattle.joint.proofs.transactions.Transaction.coordinator.Statement.{statement}
 use Rattle.joint.proofs.transactions.Transaction.coordinator.Tie as tie
 
 returns : tie.Need-returns
-unfolding transactionIn
+unfolding transaction_in
 returns c = (refl, refl)
 
 pub coordinator-spec : {M : Type 1} → statement M

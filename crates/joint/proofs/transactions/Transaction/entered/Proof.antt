@@ -1,4 +1,4 @@
-use Rattle.joint.specs.Answers.{transactionIn, entered_in}
+use Rattle.joint.specs.Answers.{transaction_in, entered_in}
 use borrow.Author.Rules.{rules}
 use Rattle.joint.proofs.transactions.Transaction.entered.Statement.{statement}
 use Rattle.joint.proofs.transactions.Transaction.entered.Tie as tie
@@ -7,11 +7,11 @@ enum_told : tie.Need-enum-told
 enum_told c = search rules
 
 returns : tie.Need-returns
-unfolding transactionIn entered_in
+unfolding transaction_in entered_in
 returns c = rw c.before.enum_told.given.1 c.has.ensures
 
 returns-2 : tie.Need-returns-2
-unfolding transactionIn entered_in
+unfolding transaction_in entered_in
 returns-2 c = rw c.before.enum-told2.given.1 c.has2.ensures
 
 pub entered-spec : {M : Type 1} → statement M

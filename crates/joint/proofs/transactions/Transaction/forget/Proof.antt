@@ -1,7 +1,7 @@
 use mathlib.Core.Path.{sym, ap, ◌∙◌}
 use borrow.Author.Rules.{rules}
-use Rattle.joint.specs.State.{unknownPart, forgotten, withCoordinator}
-use Rattle.joint.proofs.engine.Transactions.{forgotten-participant}
+use Rattle.joint.specs.State.{unknown_part, forgotten, with_coordinator}
+use Rattle.joint.proofs.Engine.Transactions.{forgotten-participant}
 use Rattle.joint.proofs.transactions.Transaction.forget.Statement.{statement}
 use Rattle.joint.proofs.transactions.Transaction.forget.Tie as tie
 
@@ -9,7 +9,7 @@ returns : tie.Need-returns
 unfolding forgotten
 returns c =
     rw c.before.if1.true
-    (c.with-coordinator.ensures ∙ ap (withCoordinator 0 unknownPart) (rw c.before.if1.true at c.before.before.with-participant.ensures))
+    (c.with-coordinator.ensures ∙ ap (with_coordinator 0 unknown_part) (rw c.before.if1.true at c.before.before.with-participant.ensures))
 
 returns-2 : tie.Need-returns-2
 returns-2 c =

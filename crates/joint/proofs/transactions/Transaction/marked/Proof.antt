@@ -1,10 +1,10 @@
 use borrow.Author.Rules.{rules}
-use Rattle.joint.specs.Answers.{transactionIn}
+use Rattle.joint.specs.Answers.{transaction_in}
 use Rattle.joint.proofs.transactions.Transaction.marked.Statement.{statement}
 use Rattle.joint.proofs.transactions.Transaction.marked.Tie as tie
 
 returns : tie.Need-returns
-unfolding transactionIn
+unfolding transaction_in
 returns c = c.has.ensures
 
 pub marked-spec : {M : Type 1} → statement M

@@ -1,11 +1,11 @@
 use mathlib.Core.Path.{refl}
 use Rattle.codec.specs.Sets.{empty}
-use Rattle.joint.specs.Answers.{transactionIn}
+use Rattle.joint.specs.Answers.{transaction_in}
 use Rattle.joint.proofs.transactions.Transaction.opened.Statement.{statement}
 use Rattle.joint.proofs.transactions.Transaction.opened.Tie as tie
 
 returns : tie.Need-returns
-unfolding transactionIn empty
+unfolding transaction_in empty
 returns c = refl
 
 pub opened-spec : {M : Type 1} → statement M

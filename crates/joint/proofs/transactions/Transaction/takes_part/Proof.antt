@@ -1,17 +1,17 @@
 use mathlib.Core.Path.{refl, sym, ◌∙◌}
 use borrow.Author.Rules.{rules}
-use Rattle.joint.specs.Answers.{transactionIn}
-use Rattle.joint.specs.State.{takesPart}
-use Rattle.joint.proofs.engine.Transactions.{part-member}
-use Rattle.joint.proofs.transactions.Transaction.takes_part.Statement.{statement}
-use Rattle.joint.proofs.transactions.Transaction.takes_part.Tie as tie
+use Rattle.joint.specs.Answers.{transaction_in}
+use Rattle.joint.specs.State.{takes_part}
+use Rattle.joint.proofs.Engine.Transactions.{part-member}
+use Rattle.joint.proofs.transactions.Transaction.takes_part_lem.Statement.{statement}
+use Rattle.joint.proofs.transactions.Transaction.takes_part_lem.Tie as tie
 
 returns : tie.Need-returns
-unfolding takesPart
+unfolding takes_part
 returns c = rw c.if1.true refl
 
 returns-2 : tie.Need-returns-2
-unfolding transactionIn
+unfolding transaction_in
 returns-2 c = c.member.ensures ∙ sym (part-member _ c.before.before.before.args.site c.before.if1.false)
 
 pub takes-part-spec : {M : Type 1} → statement M

@@ -1,11 +1,11 @@
 use mathlib.Core.Path.{refl}
-use Rattle.joint.specs.State.{withCoordinator}
-use Rattle.joint.specs.Answers.{transactionIn}
+use Rattle.joint.specs.State.{with_coordinator}
+use Rattle.joint.specs.Answers.{transaction_in}
 use Rattle.joint.proofs.transactions.Transaction.with_coordinator.Statement.{statement}
 use Rattle.joint.proofs.transactions.Transaction.with_coordinator.Tie as tie
 
 returns : tie.Need-returns
-unfolding transactionIn withCoordinator
+unfolding transaction_in with_coordinator
 returns c = refl
 
 pub with-coordinator-spec : {M : Type 1} → statement M

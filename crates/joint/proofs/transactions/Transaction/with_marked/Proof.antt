@@ -1,5 +1,5 @@
 use borrow.Author.Rules.{rules}
-use Rattle.joint.proofs.engine.Transactions.{mark-stored}
+use Rattle.joint.proofs.Engine.Transactions.{mark-stored}
 use Rattle.joint.proofs.transactions.Transaction.with_marked.Statement.{statement}
 use Rattle.joint.proofs.transactions.Transaction.with_marked.Tie as tie
 

@@ -1,8 +1,8 @@
 use mathlib.Core.Path.{◌≡◌}
 use lib.ListN.{length}
 use native.Mathlib.Omega.{arith}
-use Rattle.joint.proofs.engine.Arrays.{length-shown}
-use Rattle.joint.proofs.engine.Transactions.{phase-stored}
+use Rattle.joint.proofs.Engine.Arrays.{length-shown}
+use Rattle.joint.proofs.Engine.Transactions.{phase-stored}
 use borrow.Author.Rules.{rules}
 use Rattle.joint.proofs.transactions.Transaction.with_participant.Statement.{statement}
 use Rattle.joint.proofs.transactions.Transaction.with_participant.Tie as tie

@@ -1,14 +1,14 @@
-use Rattle.site.specs.Answers.{effectsIn, closing, sending}
+use Rattle.site.specs.Answers.{effects_in, closing, sending}
 use Rattle.site.specs.Numbers.{appending, entry_of}
 use Rattle.codec.specs.Records.{lengths, length_of}
 use Rattle.site.specs.Step.{messages, given}
-use Rattle.site.specs.Cohort.{masksOf}
-use Rattle.site.specs.Coordinator.{leaving, committing, tellAll, inOrder}
+use Rattle.site.specs.Cohort.{masks_of}
+use Rattle.site.specs.Coordinator.{leaving, committing, tell_all, in_order}
 use Rattle.site.proofs.coordinator.Coordinator.committing.Statement.{statement}
 use Rattle.site.proofs.coordinator.Coordinator.committing.Tie as tie
 
 returns : tie.Need-returns
-unfolding leaving effectsIn appending entry_of closing sending lengths length_of messages given masksOf committing tellAll inOrder
+unfolding leaving effects_in appending entry_of closing sending lengths length_of messages given masks_of committing tell_all in_order
 returns c t = rw (c.until-acked.ensures, c.before.owing.ensures)
 
 pub committing-spec : {M : Type 1} → statement M

@@ -1,7 +1,7 @@
-use Rattle.site.specs.Presumption.{sameOutcome}
+use Rattle.site.specs.Presumption.{same_outcome}
 use Rattle.site.specs.Step.{answered}
-use Rattle.site.specs.Coordinator.{leavingIf, onAck, ackedIf}
-use Rattle.site.proofs.NoRow.{no-commit-ack, no-abort-ack}
+use Rattle.site.specs.Coordinator.{leaving_if, on_ack, acked_if}
+use Rattle.site.proofs.NoRow.{no_commit_ack, no_abort_ack}
 use borrow.Author.Rules.{rules}
 use Rattle.site.proofs.coordinator.Coordinator.on_ack.Statement.{statement}
 use Rattle.site.proofs.coordinator.Coordinator.on_ack.Tie as tie
@@ -10,7 +10,7 @@ enum_told : tie.Need-enum-told
 enum_told c = search rules
 
 returns : tie.Need-returns
-unfolding answered leavingIf onAck ackedIf sameOutcome
+unfolding answered leaving_if on_ack acked_if same_outcome
 returns c t =
     rw (
       c.acked.ensures t,
@@ -20,15 +20,15 @@ returns c t =
     )
 
 returns-2 : tie.Need-returns-2
-unfolding answered leavingIf
+unfolding answered leaving_if
 returns-2 c t =
     rw (
       c.before.enum_told.given.1,
-      no-commit-ack c.before.before.before.args.participant c.before.before.before.args.self.phase c.match2.keys2,
+      no_commit_ack c.before.before.before.args.participant c.before.before.before.args.self.phase c.match2.keys2,
     )
 
 returns-3 : tie.Need-returns-3
-unfolding answered leavingIf onAck ackedIf sameOutcome
+unfolding answered leaving_if on_ack acked_if same_outcome
 returns-3 c t =
     rw (
       c.acked2.ensures t,
@@ -38,11 +38,11 @@ returns-3 c t =
     )
 
 returns-4 : tie.Need-returns-4
-unfolding answered leavingIf
+unfolding answered leaving_if
 returns-4 c t =
     rw (
       c.before.enum-told2.given.1,
-      no-abort-ack c.before.before.before.args.participant c.before.before.before.args.self.phase c.match3.keys2,
+      no_abort_ack c.before.before.before.args.participant c.before.before.before.args.self.phase c.match3.keys2,
     )
 
 pub on-ack-spec : {M : Type 1} → statement M

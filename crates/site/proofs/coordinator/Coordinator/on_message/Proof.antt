@@ -7,10 +7,10 @@ use borrow.Author.Tests.{not-true, not-false, lt-leb}
 use Rattle.codec.specs.Lists.{any}
 use Rattle.codec.specs.Sets.{member}
 use Rattle.site.specs.Step.{messages, answered}
-use Rattle.site.specs.Coordinator.{coordinatorStep}
-use Rattle.site.specs.Numbers.{kindsReceived, receives, input_of, coordinatorAnswer}
-use Rattle.site.specs.Answers.{cohortIn, coordinatorStateIn}
-use Rattle.site.proofs.ByKind.{coordinator-stranger, coordinator-takes, coordinator-never, not-received}
+use Rattle.site.specs.Coordinator.{coordinator_step}
+use Rattle.site.specs.Numbers.{kinds_received, receives, input_of, coordinator_answer}
+use Rattle.site.specs.Answers.{cohort_in, coordinator_state_in}
+use Rattle.site.proofs.ByKind.{coordinator-stranger, coordinator_takes, coordinator_never, not-received}
 use Rattle.site.proofs.coordinator.Coordinator.on_message.Statement.{statement}
 use Rattle.site.proofs.coordinator.Coordinator.on_message.Tie as tie
 
@@ -25,25 +25,25 @@ is_member d = rw (sym d.before.member.ensures) (not-false d.before.member.result
 
 takes : (d : tie.Else1) (t k : ℕ) → d.before.before.args.kind ≡ k → (receives 0 k && (leb 16 k || member d.before.before.args.participant d.before.before.args.self.members)) ≡ true
     → let s = d.before.before.args in
-    answered (coordinatorStep t (cohortIn s.self) (input_of k s.participant) (coordinatorStateIn s.self))
-    ≡ coordinatorAnswer t (cohortIn s.self) s.kind s.participant (coordinatorStateIn s.self)
-takes d t = let s = d.before.before.args in coordinator-takes t s.self s.kind s.participant
+    answered (coordinator_step t (cohort_in s.self) (input_of k s.participant) (coordinator_state_in s.self))
+    ≡ coordinator_answer t (cohort_in s.self) s.kind s.participant (coordinator_state_in s.self)
+takes d t = let s = d.before.before.args in coordinator_takes t s.self s.kind s.participant
 
 returns-7 : tie.Need-returns-7
-unfolding receives kindsReceived any
+unfolding receives kinds_received any
 returns-7 c t =
     let s = c.before.before.before.args in
-    coordinator-never t s.self s.kind s.participant (rw c.match.keys6 refl)
+    coordinator_never t s.self s.kind s.participant (rw c.match.keys6 refl)
 
 returns-8 : tie.Need-returns-8
 returns-8 c t =
     let s = c.before.before.before in
     let r = c.match.rest.0 in
-    coordinator-never t s.args.self s.args.kind s.args.participant
+    coordinator_never t s.args.self s.args.kind s.args.participant
     (not-received s.args.kind r.0.0.0.0.1 r.0.0.0.1 r.0.0.1 r.0.1 r.1 (λ e. omega (arith, e, s.requires)) (λ e. omega (arith, e, s.requires)))
 
 pub on-message-spec : {M : Type 1} → statement M
-unfolding receives kindsReceived any input_of messages coordinatorStep
+unfolding receives kinds_received any input_of messages coordinator_step
 on-message-spec =
     tie.close
     (tie.spec

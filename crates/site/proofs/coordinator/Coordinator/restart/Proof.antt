@@ -1,15 +1,15 @@
 use mathlib.Core.Path.{sym}
 use Rattle.codec.specs.Sets.{empty}
-use Rattle.site.specs.Answers.{effectsIn, closing, sending}
+use Rattle.site.specs.Answers.{effects_in, closing, sending}
 use Rattle.site.specs.Numbers.{appending, entry_of}
 use Rattle.site.specs.Step.{messages, given}
-use Rattle.site.specs.Coordinator.{leaving, restartFrom, coordinatorRestart}
-use Rattle.site.specs.laws.Order.{ordered-none}
+use Rattle.site.specs.Coordinator.{leaving, restart_from, coordinator_restart}
+use Rattle.site.specs.Laws.Order.{ordered-none}
 use Rattle.site.proofs.coordinator.Coordinator.restart.Statement.{statement}
 use Rattle.site.proofs.coordinator.Coordinator.restart.Tie as tie
 
 returns : tie.Need-returns
-unfolding coordinatorRestart restartFrom empty
+unfolding coordinator_restart restart_from empty
 returns c t =
     let h = c.before.before.before in
     rw (
@@ -21,7 +21,7 @@ returns c t =
     )
 
 returns-2 : tie.Need-returns-2
-unfolding coordinatorRestart restartFrom
+unfolding coordinator_restart restart_from
 returns-2 c t =
     let h = c.before.before.before in
     rw (
@@ -35,7 +35,7 @@ returns-2 c t =
     )
 
 returns-3 : tie.Need-returns-3
-unfolding coordinatorRestart restartFrom leaving effectsIn appending entry_of closing sending messages given
+unfolding coordinator_restart restart_from leaving effects_in appending entry_of closing sending messages given
 returns-3 c t =
     let h = c.before.before in
     rw (

@@ -1,13 +1,13 @@
 use mathlib.Core.Path.{◌∙◌, sym}
 use native.Mathlib.Omega.{arith}
-use Rattle.codec.specs.laws.Listed.{size-most}
-use Rattle.site.proofs.Cut.{no-sends, sending-length}
+use Rattle.codec.specs.Laws.Listed.{size-most}
+use Rattle.site.proofs.Cut.{no_sends, sending-length}
 use borrow.Author.Rules.{rules}
 use Rattle.site.proofs.effects.Effects.sends.Statement.{statement}
 use Rattle.site.proofs.effects.Effects.sends.Tie as tie
 
 returns : tie.Need-returns
-returns c = (λ t. no-sends t c.before.before.args.self.message _ _ (omega arith), omega arith)
+returns c = (λ t. no_sends t c.before.before.args.self.message _ _ (omega arith), omega arith)
 
 returns-2 : tie.Need-returns-2
 returns-2 c =

@@ -2,7 +2,7 @@ use Prim.Native.Nat.{◌<◌}
 use mathlib.Core.Path.{◌∙◌}
 use mathlib.Core.Logic.{inl, inr, ⊎_elim}
 use native.Mathlib.Omega.{arith}
-use Rattle.site.proofs.Summed.{summed, looked-last}
+use Rattle.site.proofs.Summed.{summed, looked_last}
 use Rattle.site.proofs.effects.Effects.summary.Statement.{statement}
 use Rattle.site.proofs.effects.Effects.summary.Tie as tie
 
@@ -16,7 +16,7 @@ returns c t =
     let j = d.before in
     let s = j.before.before.before in
     let e = s.before.args.self in
-    let l = looked-last e j.if1.alone (⊎_elim (λ h. inl (h.0.taken, h.1)) (λ h. inr h.4) j.if1.branch) in
+    let l = looked_last e j.if1.alone (⊎_elim (λ h. inl (h.0.taken, h.1)) (λ h. inr h.4) j.if1.branch) in
     rw (
       summed t e (byte s),
       d.pick.ensures ∙ l.0,

@@ -1,12 +1,12 @@
 use native.Mathlib.Omega.{arith}
 use Rattle.site.specs.Step.{messages, answered}
-use Rattle.site.specs.Participant.{onPrepare}
+use Rattle.site.specs.Participant.{on_prepare}
 use borrow.Author.Rules.{rules}
 use Rattle.site.proofs.participant.Participant.on_prepare.Statement.{statement}
 use Rattle.site.proofs.participant.Participant.on_prepare.Tie as tie
 
 pub on-prepare-spec : {M : Type 1} → statement M
-unfolding answered onPrepare messages
+unfolding answered on_prepare messages
 on-prepare-spec =
     tie.close
     (tie.spec

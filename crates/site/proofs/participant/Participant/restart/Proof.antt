@@ -1,35 +1,35 @@
 use mathlib.Core.Path.{sym}
 use native.Mathlib.Omega.{arith}
-use Rattle.codec.specs.laws.Members.{numbered}
-use Rattle.site.specs.Answers.{hasKind, effectsIn, closing, sending}
+use Rattle.codec.specs.Laws.Members.{numbered}
+use Rattle.site.specs.Answers.{has_kind, effects_in, closing, sending}
 use Rattle.site.specs.Numbers.{appending, entry_of}
 use Rattle.site.specs.Step.{messages, given}
-use Rattle.site.specs.Participant.{restartWith, participantRestart}
-use Rattle.site.specs.laws.Order.{ordered-none}
-use Rattle.site.proofs.ByKind.{no-restart, restarts}
+use Rattle.site.specs.Participant.{restart_with, participant_restart}
+use Rattle.site.specs.Laws.Order.{ordered-none}
+use Rattle.site.proofs.ByKind.{no_restart, restarts}
 use Rattle.site.proofs.participant.Participant.restart.Statement.{statement}
 use Rattle.site.proofs.participant.Participant.restart.Tie as tie
 
 returns : tie.Need-returns
-returns c t = let s = c.before in rw (no-restart s.args.self (omega arith) (hasKind s.args.records) c.if1.true)
+returns c t = let s = c.before in rw (no_restart s.args.self (omega arith) (has_kind s.args.records) c.if1.true)
 
 returns-2 : tie.Need-returns-2
-unfolding participantRestart restartWith effectsIn appending entry_of closing sending messages given
+unfolding participant_restart restart_with effects_in appending entry_of closing sending messages given
 returns-2 c t =
     let s = c.before.before.before in
     rw (
-      restarts s.args.self (omega arith) (hasKind s.args.records) c.before.before.if1.false,
+      restarts s.args.self (omega arith) (has_kind s.args.records) c.before.before.if1.false,
       sym c.before.has.ensures,
       c.if2.true,
       ordered-none t 0,
     )
 
 returns-3 : tie.Need-returns-3
-unfolding participantRestart restartWith effectsIn appending entry_of closing sending messages given
+unfolding participant_restart restart_with effects_in appending entry_of closing sending messages given
 returns-3 c t =
     let s = c.before.before.before.before.before in
     rw (
-      restarts s.args.self (omega arith) (hasKind s.args.records) c.before.before.before.before.if1.false,
+      restarts s.args.self (omega arith) (has_kind s.args.records) c.before.before.before.before.if1.false,
       sym c.before.before.before.has.ensures,
       sym c.before.has2.ensures,
       c.before.before.if2.false,
@@ -42,12 +42,12 @@ voting-requires c κs =
     (numbered c.before.before.before.before.before.before.before.args.self.number c.before.before.before.before.before.before.if1.false, omega arith)
 
 returns-4 : tie.Need-returns-4
-unfolding participantRestart restartWith messages
+unfolding participant_restart restart_with messages
 returns-4 c t =
     let s = c.before.before.before.before.before.before.before.before in
     rw (
       c.voting.ensures t,
-      restarts s.args.self (omega arith) (hasKind s.args.records) c.before.before.before.before.before.before.before.if1.false,
+      restarts s.args.self (omega arith) (has_kind s.args.records) c.before.before.before.before.before.before.before.if1.false,
       sym c.before.before.before.before.before.before.has.ensures,
       sym c.before.before.before.before.has2.ensures,
       sym c.before.before.has3.ensures,
@@ -57,11 +57,11 @@ returns-4 c t =
     )
 
 returns-5 : tie.Need-returns-5
-unfolding participantRestart restartWith effectsIn appending entry_of closing sending messages given
+unfolding participant_restart restart_with effects_in appending entry_of closing sending messages given
 returns-5 c t =
     let s = c.before.before.before.before.before.before.before in
     rw (
-      restarts s.args.self (omega arith) (hasKind s.args.records) c.before.before.before.before.before.before.if1.false,
+      restarts s.args.self (omega arith) (has_kind s.args.records) c.before.before.before.before.before.before.if1.false,
       sym c.before.before.before.before.before.has.ensures,
       sym c.before.before.before.has2.ensures,
       sym c.before.has3.ensures,

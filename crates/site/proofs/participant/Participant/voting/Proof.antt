@@ -1,4 +1,4 @@
-use Rattle.site.specs.Answers.{effectsIn, closing}
+use Rattle.site.specs.Answers.{effects_in, closing}
 use Rattle.site.specs.Numbers.{appending, entry_of}
 use Rattle.site.specs.Step.{given}
 use Rattle.site.specs.Participant.{voting}
@@ -7,7 +7,7 @@ use Rattle.site.proofs.participant.Participant.voting.Statement.{statement}
 use Rattle.site.proofs.participant.Participant.voting.Tie as tie
 
 returns : tie.Need-returns
-unfolding voting effectsIn appending entry_of closing given
+unfolding voting effects_in appending entry_of closing given
 returns c t =
     let s = c.before in
     rw (c.own.ensures, number-sent t s.args.vote s.args.self.number s.requires.1 s.requires.0)

@@ -1,10 +1,10 @@
-use Rattle.site.specs.Numbers.{coordinatorPhase}
+use Rattle.site.specs.Numbers.{coordinator_phase}
 use borrow.Author.Rules.{rules}
 use Rattle.site.proofs.phases.CoordinatorPhase.number.Statement.{statement}
 use Rattle.site.proofs.phases.CoordinatorPhase.number.Tie as tie
 
 pub number-spec : {M : Type 1} → statement M
-unfolding coordinatorPhase
+unfolding coordinator_phase
 number-spec =
     tie.close
     (tie.spec

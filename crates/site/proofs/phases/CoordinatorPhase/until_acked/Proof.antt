@@ -1,15 +1,15 @@
 use borrow.Author.Tests.{ne_eqb}
 use Rattle.codec.specs.Sets.{empty}
-use Rattle.site.specs.Coordinator.{untilAcked}
+use Rattle.site.specs.Coordinator.{until_acked}
 use Rattle.site.proofs.phases.CoordinatorPhase.until_acked.Statement.{statement}
 use Rattle.site.proofs.phases.CoordinatorPhase.until_acked.Tie as tie
 
 returns : tie.Need-returns
-unfolding untilAcked empty
+unfolding until_acked empty
 returns c = rw c.if1.true
 
 returns-2 : tie.Need-returns-2
-unfolding untilAcked empty
+unfolding until_acked empty
 returns-2 c = rw (c.awaiting.ensures, ne_eqb c.before.before.args.waiting 0 c.before.if1.false)
 
 pub until-acked-spec : {M : Type 1} → statement M

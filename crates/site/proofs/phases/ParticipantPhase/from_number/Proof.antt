@@ -1,6 +1,6 @@
 use mathlib.Core.Path.{sym}
 use native.Mathlib.Omega.{arith}
-use Rattle.site.specs.Numbers.{participantFrom}
+use Rattle.site.specs.Numbers.{participant_from}
 use Rattle.site.proofs.Phased.{last-participant}
 use Rattle.site.proofs.phases.ParticipantPhase.from_number.Statement.{statement}
 use Rattle.site.proofs.phases.ParticipantPhase.from_number.Tie as tie
@@ -9,7 +9,7 @@ returns-5 : tie.Need-returns-5
 returns-5 c = let rest = c.match.rest in sym (last-participant c.before.args.phase (omega (arith, rest.0.0.0.1, rest.0.0.1, rest.0.1, rest.1)))
 
 pub from-number-spec : {M : Type 1} → statement M
-unfolding participantFrom
+unfolding participant_from
 from-number-spec =
     tie.close
     (tie.spec

@@ -1,10 +1,10 @@
-use Rattle.site.specs.Numbers.{participantPhase}
+use Rattle.site.specs.Numbers.{participant_phase}
 use borrow.Author.Rules.{rules}
 use Rattle.site.proofs.phases.ParticipantPhase.number.Statement.{statement}
 use Rattle.site.proofs.phases.ParticipantPhase.number.Tie as tie
 
 pub number-spec : {M : Type 1} → statement M
-unfolding participantPhase
+unfolding participant_phase
 number-spec =
     tie.close
     (tie.spec

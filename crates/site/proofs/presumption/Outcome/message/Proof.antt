@@ -1,4 +1,4 @@
-use Rattle.site.specs.Step.{messageKind}
+use Rattle.site.specs.Step.{message_kind}
 use borrow.Author.Rules.{rules}
 use Rattle.site.proofs.presumption.Outcome.message.Statement.{statement}
 use Rattle.site.proofs.presumption.Outcome.message.Tie as tie
@@ -7,11 +7,11 @@ enum_told : tie.Need-enum-told
 enum_told c = search rules
 
 returns : tie.Need-returns
-unfolding messageKind
+unfolding message_kind
 returns c = rw c.enum_told.given.1
 
 returns-2 : tie.Need-returns-2
-unfolding messageKind
+unfolding message_kind
 returns-2 c = rw c.enum-told2.given.1
 
 pub message-spec : {M : Type 1} → statement M

@@ -1,0 +1,76 @@
+-- Arrays of the program as functions of the index: what a store, a fresh array and a pass over all elements do to the function.
+use Prim.Native.Nat.{ℕ, zero, suc, ◌+◌, ◌≤◌, ◌<◌}
+use mathlib.Core.Path.{◌≡◌, refl, sym, ap, ◌∙◌, fun_ext}
+use mathlib.Core.Bool.{Bool, true, false, cond}
+use mathlib.Core.List.{List, [], ◌∷◌, map}
+use lib.ListN.{length, get_or, set, length-map, length-set, replicate}
+use lib.Seq.{get_or-set_same, get_or-set_other}
+use lib.Dec.{eqb, ltb}
+use borrow.Author.Tests.{eqb-true, eqb-false, ltb-true, ltb-false}
+use native.Mathlib.Omega.{arith}
+use Rattle.joint.specs.State.{update}
+
+-- what owning an array of structs tells of its list
+pub length-shown : (X Y : Type 0) (f : X → Y) (l : List X) (n : ℕ) → length (map f l) ≡ n → length l ≡ n
+length-shown X Y f l n e = sym (length-map l f) ∙ e
+
+-- element i is stored: what the array stands for is changed there
+pub stored {ℓ κ} : {A : Type ℓ} {B : Type κ} (h : A → B) (g : B → B) (l : List A) (i : ℕ) (v d : A) → i < length l → h v ≡ g (h (get_or l i d))
+    → (λ (j : ℕ). h (get_or (set l i v) j d)) ≡ update i g (λ j. h (get_or l j d))
+unfolding update
+stored {A} {B} h g l i v d lt e = fun_ext (λ j. go j (eqb j i) refl)
+  where
+    go : (j : ℕ) (b : Bool) → eqb j i ≡ b → h (get_or (set l i v) j d) ≡ cond b (g (h (get_or l j d))) (h (get_or l j d))
+    go j true q = rw (eqb-true j i q, get_or-set_same l i v d lt) e
+    go j false q = ap h (get_or-set_other l i j v d (eqb-false j i q))
+
+-- past its end an array reads as its default
+pub get_d_past {ℓ} : {A : Type ℓ} (l : List A) (j : ℕ) (d : A) → length l ≤ j → get_or l j d ≡ d
+get_d_past [] j d h = refl
+get_d_past (x ∷ l) zero d h = absurd (omega (arith, h))
+get_d_past (x ∷ l) (suc j) d h = get_d_past l j d (omega (arith, h))
+
+-- an array of the default stands for the default everywhere
+pub all-default {ℓ} : {A : Type ℓ} (n j : ℕ) (d : A) → get_or (replicate n d) j d ≡ d
+all-default zero j d = refl
+all-default (suc n) zero d = refl
+all-default (suc n) (suc j) d = all-default n j d
+
+-- ---- a pass over an array: the first i elements are changed by g, the others are not yet
+
+pub record Passed {A B : Type 0} (h : A → B) (g : B → B) (d : A) (before now : List A) (i : ℕ) : Type 0 where
+  pub length_kept : length now ≡ length before
+  pub front : (j : ℕ) → j < i → h (get_or now j d) ≡ g (h (get_or before j d))
+  pub back : (j : ℕ) → i ≤ j → get_or now j d ≡ get_or before j d
+
+module _ {A B : Type 0} (h : A → B) (g : B → B) (d : A) (before : List A) where
+  pub pass_starts : Passed h g d before before 0
+  pass_starts = record { length_kept = refl; front = λ j l. absurd (omega (arith, l)); back = λ j l. refl }
+
+  -- element i is stored, changed
+  pub pass_stores : (now : List A) (i : ℕ) (v : A) → Passed h g d before now i → i < length before → h v ≡ g (h (get_or now i d))
+      → Passed h g d before (set now i v) (i + 1)
+  pass_stores now i v p lt e =
+      record {
+        length_kept = simp length-set p.length_kept;
+        front = λ j l. front j l (eqb j i) refl;
+        back = λ j l. get_or-set_other now i j v d (λ q. absurd (omega (arith, l, q))) ∙ p.back j (omega (arith, l));
+      }
+    where
+      front : (j : ℕ) → j < i + 1 → (b : Bool) → eqb j i ≡ b → h (get_or (set now i v) j d) ≡ g (h (get_or before j d))
+      front j l true q =
+          rw (eqb-true j i q, get_or-set_same now i v d (omega (arith, lt, p.length_kept)))
+          (e ∙ ap (λ (x : A). g (h x)) (p.back i (omega arith)))
+      front j l false q =
+          ap h (get_or-set_other now i j v d (eqb-false j i q)) ∙ p.front j (omega (arith, l, eqb-false j i q))
+
+  -- all have been passed: the change holds at every index, if it leaves the default
+  pub pass_ends : (now : List A) (i : ℕ) → Passed h g d before now i → length before ≤ i → h d ≡ g (h d)
+      → ◌≡◌ {A = ℕ → B} (λ j. h (get_or now j d)) (λ j. g (h (get_or before j d)))
+  pass_ends now i p l e = fun_ext (λ j. go j (ltb j i) refl)
+    where
+      go : (j : ℕ) (b : Bool) → ltb j i ≡ b → h (get_or now j d) ≡ g (h (get_or before j d))
+      go j true q = p.front j (ltb-true j i q)
+      go j false q =
+          let past : i ≤ j = ltb-false j i q in
+          rw (get_d_past now j d (omega (arith, past, l, p.length_kept)), get_d_past before j d (omega (arith, past, l))) e

@@ -1,0 +1,82 @@
+-- The ranges of an event's bytes: at a code that is known, they come to a few tests.
+use Prim.Native.Nat.{ℕ, zero, suc, ◌≤◌, zero-le}
+use mathlib.Core.Path.{◌≡◌, refl, sym, ◌∙◌}
+use mathlib.Core.Bool.{Bool, true, false, not, ◌&&◌, ◌||◌, and_assoc, and-true, or-false, or-true, and-eq-true_iff}
+use mathlib.Core.List.{List, [], ◌∷◌}
+use mathlib.Core.Option.{none, some}
+use native.Mathlib.Omega.{arith}
+use lib.ListN.{length, get_or}
+use lib.Dec
+use lib.Dec.{eqb, leb, leb-suc-zero, eqb-suc-zero}
+use mir.Syntax.{w8}
+use mir.Val.{Fits}
+use borrow.Author.Tests.{leb-true, le-leb, eq-eqb, not-false}
+use Rattle.codec.specs.Lists.{any, every, only_if}
+use Rattle.codec.specs.Laws.Tests.{every_at}
+use Rattle.joint.specs.Event.{Parsed, event_length, event_of, ranges, bytes_in_range, cut_in_range, cut_at, cut_of, parse}
+
+-- n is none of the numbers below k, in the form in which the last arm of a match has it
+abbrev NoneBelow : ℕ → ℕ → Type 0
+NoneBelow zero n = Unit {0}
+NoneBelow (suc k) n = NoneBelow k n × (n ≡ k → ⊥)
+
+pub none_below : (k n : ℕ) → NoneBelow k n → k ≤ n
+none_below zero n h = zero-le
+none_below (suc k) n h = let l = none_below k n h.0 in omega (arith, l, h.1)
+
+pub byte : {n : ℕ} → Fits w8 n → leb n 255 ≡ true
+byte {n} h = le-leb n 255 (omega (arith, h.fits))
+
+pub leb-zero : (n : ℕ) → leb n 0 ≡ eqb n 0
+leb-zero zero = refl
+leb-zero (suc n) = leb-suc-zero n ∙ sym (eqb-suc-zero n)
+
+pub and_or_not : (a b : Bool) → (a && (b || not a)) ≡ (a && b)
+and_or_not true b = or-false b
+and_or_not false b = refl
+
+-- they make of `bytes_in_range` and `cut_in_range`, at one code, the program's tests
+pub ruleset tests = (and_assoc, and-true, or-false, or-true, Dec.leb-zero, leb-zero, and_or_not)
+
+module _ (bytes : List ℕ) where
+  abbrev at : ℕ → ℕ
+  at i = get_or bytes i 0
+
+  abbrev pub in_range : Bool
+  in_range = bytes_in_range (at 0) (at 1) (at 2) (at 3) && cut_in_range (at 0) (at 4) (at 5)
+
+  abbrev pub parsed : ℕ → Parsed
+  parsed code = record { event = event_of code (at 1) (at 2) (at 3); cut = cut_of code (at 4) (at 5) }
+
+  pub parse_by : parse bytes ≡ only_if (eqb (length bytes) 6 && in_range) (parsed (at 0))
+  unfolding parse every event_length
+  parse_by = rw (and-true (cut_in_range (at 0) (at 4) (at 5))) refl
+
+  -- an event that is not refused by 1, with its code. Where power cannot cut an event it is whole
+  pub record Accepted (code : ℕ) : Type 0 where
+    pub is : parse bytes ≡ some (parsed code)
+    pub known : code ≤ 8
+    pub last_x : at 1 ≤ get_or (get_or ranges code []) 0 0
+    pub first_y : get_or (get_or ranges code []) 1 0 ≤ at 2
+    pub last_y : at 2 ≤ get_or (get_or ranges code []) 2 0
+    pub last_z : at 3 ≤ get_or (get_or ranges code []) 3 0
+    pub uncut : any (eqb code) (1 ∷ 2 ∷ 3 ∷ 7 ∷ []) ≡ false → eqb code 6 ≡ false → cut_of code (at 4) (at 5) ≡ none
+
+  pub accepted : {code : ℕ} {r : Bool} → length bytes ≡ 6 → r ≡ in_range → not r ≡ false → at 0 ≡ code → Accepted code
+  unfolding bytes_in_range cut_in_range cut_of cut_at only_if
+  accepted {code} {r} six held left e =
+      let h = sym held ∙ not-false r left in
+      let both = (and-eq-true_iff (bytes_in_range code (at 1) (at 2) (at 3)) (cut_in_range code (at 4) (at 5))).0 (rw e at h) in
+      record {
+        is = parse_by ∙ rw (eq-eqb (length bytes) 6 six, h, e) refl;
+        known = leb-true _ _ (every_at _ both.0 0);
+        last_x = leb-true _ _ (every_at _ both.0 1);
+        first_y = leb-true _ _ (every_at _ both.0 2);
+        last_y = leb-true _ _ (every_at _ both.0 3);
+        last_z = leb-true _ _ (every_at _ both.0 4);
+        uncut = λ a n. rw (n, whole (eqb (at 4) 255) _ (every_at _ both.1 2) a) refl;
+      }
+    where
+      whole : (a b : Bool) → (a || b) ≡ true → b ≡ false → a ≡ true
+      whole true b p q = refl
+      whole false b p q = sym q ∙ p

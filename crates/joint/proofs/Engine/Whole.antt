@@ -1,0 +1,70 @@
+-- What owning a run tells of its arrays: each site has 24 records, and a counter of 64 bits.
+use Prim.Native.Nat.{ℕ, zero, suc, ◌≤◌, ◌<◌}
+use mathlib.Core.Path.{◌≡◌, refl, ap, ◌∙◌, subst}
+use mathlib.Core.Bool.{Bool, true, false}
+use mathlib.Core.List.{List, [], ◌∷◌, map}
+use lib.ListN.{length, take, get_or, length-map, get_or-map}
+use native.Mathlib.Omega.{arith}
+use mir.Val.{Val}
+use base.Fml.{Fml}
+use denote.Shadow.{shadow}
+use denote.Laws.{Is}
+use denote.Array.{each}
+use denote.Builtin.{u64}
+use lib.Dec.{ltb}
+use borrow.Author.Tests.{ltb-true, ltb-false}
+use denote.Struct.Struct.{Struct}
+use denote.Struct.Declared.{row, shape}
+use Rattle.codec.specs.Answers.{record_in}
+use Rattle.joint.specs.State as plain
+use Rattle.joint.specs.Totals.{highest, held}
+use Rattle.joint.specs.Answers.{run_in}
+use Rattle.joint.specs.Inside.{stable_of}
+use Rattle.joint.specs.declared.sites.Site.{Site}
+use Rattle.joint.specs.declared.records.Records.{Records}
+use Rattle.joint.specs.declared.run.Run.{Run}
+use Rattle.joint.proofs.Engine.Arrays.{length-shown, get_d_past}
+use Rattle.joint.proofs.Engine.Sites.{stable-taken}
+use Rattle.joint.proofs.Engine.Reads.{site_read}
+use Rattle.joint.specs.contracts.records.Records as records
+use Rattle.joint.specs.contracts.run.Run as run
+
+-- one element of an array
+one_of : (d : Type 0) (f : d → List Val → Fml) (xs : List d) (us : List Val) → shadow (each d f xs us) → (i : ℕ) → i < length xs → (e : d) → (u : Val) × shadow (f (get_or xs i e) (u ∷ []))
+one_of d f [] us s i h e = absurd (omega (arith, h))
+one_of d f (x ∷ xs) [] s i h e = absurd s
+one_of d f (x ∷ xs) (u ∷ us) s zero h e = (u, s.0)
+one_of d f (x ∷ xs) (u ∷ us) s (suc i) h e = one_of d f xs us s.1 i (omega (arith, h)) e
+
+records-whole : (x : Records) (vs : List Val) → Is (row records.the_type) x vs → length x.of ≡ 24
+records-whole x vs p = let e = p.1.1.0.1.0.1 in search length-shown
+
+pub run-whole : (r : Run) (vs : List Val) → Is (row run.the_type) r vs → (i : ℕ) (d : Records) → i ≤ 8 → length (get_or r.records i d).of ≡ 24
+run-whole r vs p i d h =
+    let l = p.1.1.1.0 in
+    let e = l.1.0.1 in
+    let n : length r.records ≡ 9 = search length-shown in
+    let R = Struct (shape records.the_type) in
+    let to = (records.the_type).to in
+    let one = one_of R.Denot R.own_val (map to r.records) l.0 l.1.1 i (simp length-map (omega (arith, h, n))) (to d) in
+    records-whole (get_or r.records i d) (one.0 ∷ [])
+    (subst (λ x. shadow (R.own_val x (one.0 ∷ []))) (get_or-map to r.records i d) one.1)
+
+pub run-held : (r : Run) (vs : List Val) → Is (row run.the_type) r vs → (s : ℕ) → get_or r.forces s 0 ≡ held (get_or r.forces s 0)
+unfolding held highest
+run-held r vs p s = go (ltb s (length r.forces)) refl
+  where
+    go : (b : Bool) → ltb s (length r.forces) ≡ b → get_or r.forces s 0 ≡ held (get_or r.forces s 0)
+    go true h =
+        let l = p.1.1.1.1.1.0 in
+        let one = one_of ℕ u64.own_val (map (λ v. v) r.forces) l.0 l.1.1 s (simp length-map (ltb-true s _ h)) 0 in
+        omega (arith, one.1.1, get_or-map (λ (v : ℕ). v) r.forces s 0)
+    go false h = rw (get_d_past r.forces s 0 (ltb-false s _ h)) refl
+
+-- the stable records of a site, by its counts
+pub log_read : (r : Run) (vs : List Val) → Is (row run.the_type) r vs → (i : ℕ) (d : Site) (e : Records) (k : ℕ) → length r.sites ≡ 9 → length r.records ≡ 9 → i ≤ 8
+    → k ≡ stable_of (get_or r.sites i d) → take k (map record_in (get_or r.records i e).of) ≡ ((run_in r).site i).stable
+log_read r vs p i d e k n m h q =
+    rw q
+    (stable-taken (get_or r.sites i d) (get_or r.records i e).of (run-whole r vs p i e h)
+    ∙ ap (λ (x : plain.Site). x.stable) (site_read r i d e n m h))
