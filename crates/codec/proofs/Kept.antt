@@ -71,8 +71,8 @@ module _ (s : ℕ) (newest : List Record) (done : List LogRecord) (kept : Kept s
     ordered_own : legal s (kinds (own x.transaction (done ++ (record_in x ∷ [])))) ≡ true
     unfolding in_sequence any record_in
     ordered_own =
-        rw (more_own, kinds_snoc (record_in x), ((and-eq-true_iff (any (same (kinds (own x.transaction done) ++ (x.kind ∷ []))) (sequences s)) _).0 follows).0)
-        (or-true (same (kinds (own x.transaction done) ++ (x.kind ∷ [])) []))
+        let ks = kinds (own x.transaction done) ++ (x.kind ∷ []) in
+        rw (more_own, kinds_snoc (record_in x)) (ap (same ks [] ||◌) ((and-eq-true_iff (any (same ks) (sequences s)) _).0 follows).0 ∙ or-true (same ks []))
 
     pub kept_next : Kept s (set newest x.transaction x) (done ++ (record_in x ∷ []))
     kept_next = record {

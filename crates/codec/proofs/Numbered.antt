@@ -144,10 +144,10 @@ module _ (m : Parts) where
 
 -- ---- there and back
 
-only_if : {A : Type 0} (b : Bool) (x y : A) → only_if b x ≡ some y → (b ≡ true) × (x ≡ y)
+only_if_lem : {A : Type 0} (b : Bool) (x y : A) → only_if b x ≡ some y → (b ≡ true) × (x ≡ y)
 unfolding only_if
-only_if true x y e = (refl, cc)
-only_if false x y e = let z : ◌≡◌ {A = ℕ} 0 1 = cc in absurd (omega arith)
+only_if_lem true x y e = (refl, cc)
+only_if_lem false x y e = let z : ◌≡◌ {A = ℕ} 0 1 = cc in absurd (omega arith)
 
 -- the number of parts in range
 numbered : (m : Parts) (n : ℕ) → InRange m → message_number m ≡ n → number_of m ≡ some n
@@ -166,7 +166,7 @@ vote_again n h l =
 pub number_again : (n : ℕ) (m : Parts) → message_parts n ≡ some m → number_of m ≡ some n
 unfolding message_parts
 number_again n m e =
-    let is = only_if (ltb n 512) _ m e in
+    let is = only_if_lem (ltb n 512) _ m e in
     rw (← is.1)
     (⊎_elim (λ h. rw (lt-ltb n 448 h) (low_again n h)) (λ h. rw (le-ltb n 448 h) (vote_again n h (ltb-true n 512 is.0))) (lt_or_le n 448))
 
@@ -188,7 +188,7 @@ module _ (m : Parts) (n : ℕ) (r : InRange m) (e : message_number m ≡ n) wher
 pub parts_again : (m : Parts) (n : ℕ) → number_of m ≡ some n → message_parts n ≡ some m
 unfolding number_of
 parts_again m n e =
-    let is = only_if (is_message m) (message_number m) n e in
+    let is = only_if_lem (is_message m) (message_number m) n e in
     let r = in_range_lem m (not-true (wrong m) (sym (is_message_lem m) ∙ is.0)) in
     ⊎_elim (low_parts m n r is.1) (λ h. vote_parts m n r is.1 (omega arith)) (lt_or_le m.kind 7)
 

@@ -1,4 +1,7 @@
 // Log records, log images and message numbers.
+
+#![tactic(auto)]
+
 pub mod log;
 pub mod message;
 pub mod reader;

@@ -8,7 +8,7 @@ use crate::message::Parts;
 use crate::record::{Newest, Record, RecordAnswer};
 
 // The first `count` of `records`, in log order. A count above 24 is refused by 21.
-#[derive(Drop)]
+#[derive(Clone, Copy)]
 pub struct Log {
     pub site: u8,
     pub count: usize,

@@ -3,27 +3,27 @@ ghost use Rattle.std.specs.Prelude.{◌≡◌, ◌+◌, ◌*◌, ◌<◌};
 ghost use Rattle.codec.specs.Messages.{message_parts, message_answer, parts_written, number_of, number_answer};
 ghost use Rattle.codec.specs.Answers.{parts_in, parts_values, number_values, written};
 
-#[derive(Drop)]
+#[derive(Clone, Copy)]
 pub struct Parts {
     pub transaction: u8,
     pub participant: u8,
     pub kind: u8,
 }
 
-#[derive(Drop)]
+#[derive(Clone, Copy)]
 pub enum PartsAnswer {
     Message(Parts),
     Refused,
 }
 
-#[derive(Drop)]
+#[derive(Clone, Copy)]
 pub enum NumberAnswer {
     Number(u16),
     Refused,
 }
 
 // A number stepped down: how many steps it had, and the rest.
-#[derive(Drop)]
+#[derive(Clone, Copy)]
 struct Stepped {
     steps: u8,
     rest: u16,
@@ -140,8 +140,7 @@ impl Parts {
 }
 
 // For C (include/dpr.h): transaction, participant and kind of a message number: 0, or 26 and `parts` as it was.
-#[unsafe(no_mangle)]
-pub extern "C" fn dpr_message_parts(number: u16, parts: &mut [u8; 3]) -> u8
+pub fn dpr_message_parts(number: u16, parts: &mut [u8; 3]) -> u8
     ensures { written result parts.new ≡ parts_written (message_parts number) parts.old }
 {
     let answer = Parts::from_number(number);

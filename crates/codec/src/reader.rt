@@ -9,7 +9,7 @@ use crate::log::Log;
 use crate::record::{Newest, Record, RecordAnswer};
 
 // 0, the count and the log; or the number that refuses, the index from 0 of the first bad record, and no log.
-#[derive(Drop)]
+#[derive(Clone, Copy)]
 pub struct ImageAnswer {
     pub answer: u8,
     pub index: u8,
@@ -136,8 +136,7 @@ pub fn read_image(bytes: &[u8]) -> ImageAnswer
 }
 
 // For C (include/dpr.h): number and index of an image's reading, the number in the low byte.
-#[unsafe(no_mangle)]
-pub extern "C" fn dpr_image_check(image: &[u8]) -> u16
+pub fn dpr_image_check(image: &[u8]) -> u16
     ensures { result ≡ check_image image.now }
 {
     let read = read_image(image);

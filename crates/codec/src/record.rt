@@ -9,7 +9,7 @@ use crate::message::Parts;
 use crate::sets::{both, minus, part};
 
 // The fields behind the transaction are members and PC in a record 1 or 2, and the presumption in a record 5.
-#[derive(Drop)]
+#[derive(Clone, Copy)]
 pub struct Record {
     pub kind: u8,
     pub transaction: u8,
@@ -18,7 +18,7 @@ pub struct Record {
 }
 
 // The newest record of each transaction among some records, NONE where there is none.
-#[derive(Drop)]
+#[derive(Clone, Copy)]
 pub struct Newest {
     pub of: [Record; Parts::LAST_TRANSACTION as usize + 1],
 }
@@ -58,7 +58,7 @@ impl Newest {
 }
 
 // What reading one record gives: the record; 23, kind or length; 27; 28, a mask or presumption; or 24.
-#[derive(Drop)]
+#[derive(Clone, Copy)]
 pub enum RecordAnswer {
     Accepted(Record),
     WrongKind,

@@ -144,8 +144,7 @@ pub fn write_image(log: Log, buffer: &mut [u8], at: usize) -> u8
 
 // For C (include/dpr.h): reads an image and writes its log again from `offset` on: 0, or 20 to 25, 27, 28 and `buffer` as it was.
 // No log that the reader gives is refused, so it is not checked again.
-#[unsafe(no_mangle)]
-pub extern "C" fn dpr_image_copy(image: &[u8], buffer: &mut [u8], offset: usize) -> u8
+pub fn dpr_image_copy(image: &[u8], buffer: &mut [u8], offset: usize) -> u8
     ensures { written result buffer.new ≡ copy_image image.now offset buffer.old }
 {
     let read = read_image(image);

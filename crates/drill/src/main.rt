@@ -1,4 +1,7 @@
 // The drill program: events on standard input, lines on standard output.
+
+#![tactic(auto)]
+
 ghost use Rattle.std.specs.Prelude.{◌≡◌, ◌≤◌, length, take};
 ghost use Rattle.io.specs.Counts.{IsPrefixLen};
 ghost use Rattle.joint.specs.Drill as drill;

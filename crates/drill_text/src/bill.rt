@@ -5,8 +5,7 @@ ghost use Rattle.joint.specs.Bill.{bill_for, bill_number};
 use joint::bill::Bill;
 
 // For C (include/dpr.h).
-#[unsafe(no_mangle)]
-pub extern "C" fn dpr_bill(members: u8, presume_commit: u8) -> u32
+pub fn dpr_bill(members: u8, presume_commit: u8) -> u32
     ensures { result ≡ bill_number (bill_for members presume_commit) }
 {
     let bill = Bill::of(members, presume_commit);

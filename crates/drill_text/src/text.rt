@@ -114,7 +114,7 @@ fn write_field(n: usize, end: u8, out: &mut [u8], at: usize) -> usize
 }
 
 // The last four digits of a number, as characters.
-#[derive(Drop)]
+#[derive(Clone, Copy)]
 struct LastFour {
     ones: u8,
     tens: u8,

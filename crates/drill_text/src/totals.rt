@@ -10,7 +10,7 @@ use joint::run::Run;
 use joint::totals::Totals;
 
 // The digits of a number of 64 bits, as characters: the last of these, from `from` on.
-#[derive(Drop)]
+#[derive(Clone, Copy)]
 struct Digits {
     of: [u8; 20],
     from: usize,

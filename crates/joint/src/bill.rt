@@ -7,7 +7,7 @@ use crate::answers::Counts;
 use codec::sets::{part, size};
 use site::effects::one_if;
 
-#[derive(Drop)]
+#[derive(Clone, Copy)]
 pub enum Bill {
     Refused,
     Costs(Counts),

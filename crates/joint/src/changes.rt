@@ -25,7 +25,7 @@ use site::inputs::BEGIN;
 use site::phases::ParticipantPhase;
 
 // A refusal carries nothing. A row that happens is whole: a cut has made it smaller.
-#[derive(Drop)]
+#[derive(Clone, Copy)]
 pub enum Change {
     Refused(Answer),
     Happens(Row),

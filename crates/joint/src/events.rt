@@ -10,7 +10,7 @@ use codec::message::Parts;
 use codec::sets::part;
 use site::inputs::{BEGIN, TIMER};
 
-#[derive(Drop)]
+#[derive(Clone, Copy)]
 pub struct Opening {
     pub transaction: u8,
     pub members: u8,
@@ -19,7 +19,7 @@ pub struct Opening {
 
 // Begin, a message of a participant, or a timer: what a site is given, by the number of its kind. Begin names
 // participant 0, a timer its own site.
-#[derive(Drop)]
+#[derive(Clone, Copy)]
 pub struct Input {
     pub transaction: u8,
     pub site: u8,
@@ -29,25 +29,25 @@ pub struct Input {
     pub keep: u8,
 }
 
-#[derive(Drop)]
+#[derive(Clone, Copy)]
 pub struct Discarding {
     pub transaction: u8,
     pub site: u8,
 }
 
-#[derive(Drop)]
+#[derive(Clone, Copy)]
 pub struct Marking {
     pub transaction: u8,
     pub participant: u8,
 }
 
-#[derive(Drop)]
+#[derive(Clone, Copy)]
 pub struct Crash {
     pub site: u8,
     pub keep: u8,
 }
 
-#[derive(Drop)]
+#[derive(Clone, Copy)]
 pub struct Restart {
     pub site: u8,
     pub cut: u8,
@@ -55,7 +55,7 @@ pub struct Restart {
 }
 
 // An event at one site in one transaction; force and crash name none.
-#[derive(Drop)]
+#[derive(Clone, Copy)]
 pub enum Step {
     Open(Opening),
     Input(Input),
@@ -66,7 +66,7 @@ pub enum Step {
 }
 
 // A restart goes through all transactions.
-#[derive(Drop)]
+#[derive(Clone, Copy)]
 pub enum Event {
     Malformed,
     Step(Step),

@@ -1,4 +1,7 @@
 // The joint run: events, power cuts, crashes, restart and trimming, over the promises of codec and site.
+
+#![tactic(auto)]
+
 pub mod answers;
 pub mod bill;
 mod changes;

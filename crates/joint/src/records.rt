@@ -21,20 +21,20 @@ use site::coordinator::Coordinator;
 use site::effects::Effects;
 use site::phases::CoordinatorPhase;
 
-#[derive(Drop)]
+#[derive(Clone, Copy)]
 pub struct Records {
     pub of: [Record; Log::COORDINATOR_MOST],
 }
 
 // A site's counts with its records.
-#[derive(Drop)]
+#[derive(Clone, Copy)]
 pub struct SiteLog {
     pub site: Site,
     pub records: Records,
 }
 
 // By transaction: a set of record kinds, bit k for kind k.
-#[derive(Drop)]
+#[derive(Clone, Copy)]
 pub struct Kinds {
     pub of: [u16; Run::TRANSACTIONS],
 }

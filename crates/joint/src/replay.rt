@@ -14,7 +14,7 @@ use crate::run::{Next, Run};
 use crate::totals::add_held;
 
 // How many events were run, the run that they leave, and the last answer.
-#[derive(Drop)]
+#[derive(Clone, Copy)]
 pub struct Ran {
     pub count: usize,
     pub run: Run,

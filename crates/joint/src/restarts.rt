@@ -17,7 +17,7 @@ use crate::transactions::Transaction;
 use site::effects::less;
 
 // All transactions after a restart's effects; how many more could have happened, and how many messages were sent.
-#[derive(Drop)]
+#[derive(Clone, Copy)]
 pub struct Resumed {
     pub transactions: [Transaction; Run::TRANSACTIONS],
     pub left: u8,
@@ -25,7 +25,7 @@ pub struct Resumed {
 }
 
 // A restart's answer, and the site with its records and all transactions after it.
-#[derive(Drop)]
+#[derive(Clone, Copy)]
 pub struct Restarted {
     pub answer: Answer,
     pub log: SiteLog,

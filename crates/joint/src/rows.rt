@@ -23,7 +23,7 @@ use site::record_kinds::has;
 // What follows a row's effects: a phase is set, at the coordinator with the set taken out, a transaction is opened, the
 // oldest record is dropped (and whether the participant forgets with it), the site goes down and keeps the unforced
 // records that a mask names, or the participant is marked as one that only looked.
-#[derive(Drop)]
+#[derive(Clone, Copy)]
 pub enum Then {
     Same,
     Coordinator {
@@ -40,13 +40,13 @@ pub enum Then {
     Marked,
 }
 
-#[derive(Drop)]
+#[derive(Clone, Copy)]
 pub struct Row {
     pub effects: Effects,
     pub then: Then,
 }
 
-#[derive(Drop)]
+#[derive(Clone, Copy)]
 pub enum Found {
     Row(Row),
     None,

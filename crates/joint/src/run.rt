@@ -16,7 +16,7 @@ use site::phases::{CoordinatorPhase, ParticipantPhase};
 use site::presumption::Outcome;
 
 // Sites and their records by number, 0 the coordinator; transactions by number.
-#[derive(Drop)]
+#[derive(Clone, Copy)]
 pub struct Run {
     pub(crate) sites: [Site; Run::SITES],
     pub(crate) records: [Records; Run::SITES],
@@ -26,7 +26,7 @@ pub struct Run {
 }
 
 // An event's answer, and the run that it leaves.
-#[derive(Drop)]
+#[derive(Clone, Copy)]
 pub struct Next {
     pub answer: Answer,
     pub run: Run,

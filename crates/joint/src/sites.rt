@@ -14,7 +14,7 @@ use codec::log::Log;
 use site::effects::Effects;
 
 // The first `stable` of its records are stable, and the next `unforced` are not; what stands behind these is no record of the log.
-#[derive(Drop)]
+#[derive(Clone, Copy)]
 pub struct Site {
     pub up: bool,
     pub stable: u8,

@@ -8,7 +8,7 @@ use crate::run::Run;
 use codec::message::Parts;
 
 // Forced writes so far, handovers opened with the site, and the first divided by the second.
-#[derive(Drop)]
+#[derive(Clone, Copy)]
 pub struct Totals {
     pub forces: u64,
     pub handovers: u64,

@@ -20,13 +20,13 @@ use site::presumption::Outcome;
 use site::record_kinds::has;
 
 // A participant's phase.
-#[derive(Drop)]
+#[derive(Clone, Copy)]
 pub struct Held {
     pub phase: ParticipantPhase,
 }
 
 // The coordinator's phase, and the cohort as opened: the members, 0 until then, and those that presume commit.
-#[derive(Drop)]
+#[derive(Clone, Copy)]
 pub struct Part {
     pub phase: CoordinatorPhase,
     pub members: u8,
@@ -34,7 +34,7 @@ pub struct Part {
 }
 
 // A transaction is copied at each event: what is copied in one piece stands together.
-#[derive(Drop)]
+#[derive(Clone, Copy)]
 pub struct Transaction {
     pub part: Part,
     // The participants that the coordinator has taken out.

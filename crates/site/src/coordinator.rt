@@ -19,7 +19,7 @@ use codec::sets::{both, either, member, minus, only, without};
 
 // One transaction (the definitions' `Coordinator` is its phase and the set taken out): its phase, its members and those of them that
 // presume commit (01: PC), both as opened, and the set taken out: those that only looked.
-#[derive(Drop)]
+#[derive(Clone, Copy)]
 pub struct Coordinator {
     pub phase: CoordinatorPhase,
     pub members: u8,
@@ -27,7 +27,7 @@ pub struct Coordinator {
     pub taken_out: u8,
 }
 
-#[derive(Drop)]
+#[derive(Clone, Copy)]
 pub struct CoordinatorRow {
     pub effects: Effects,
     pub phase: CoordinatorPhase,
@@ -35,7 +35,7 @@ pub struct CoordinatorRow {
 }
 
 // What a step gives. `NoRow` is not a row without effects: the joint run tells them apart.
-#[derive(Drop)]
+#[derive(Clone, Copy)]
 pub enum CoordinatorAnswer {
     Row(CoordinatorRow),
     NoRow,

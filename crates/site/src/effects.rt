@@ -10,7 +10,7 @@ use codec::message::Parts;
 use codec::sets::{both, either, member, minus, only, size};
 
 // What a row does, in this order: append, force, enter, send, append. 0 is none; there is no message where `to` is 0.
-#[derive(Drop)]
+#[derive(Clone, Copy)]
 pub struct Effects {
     // The kind of the record that is appended first, and its fields behind the transaction.
     pub appended: u8,
@@ -28,7 +28,7 @@ pub struct Effects {
 }
 
 // The numbers of a row as firmware gets them: a record that is the first effect is appended first, any other last.
-#[derive(Drop)]
+#[derive(Clone, Copy)]
 pub struct Summary {
     pub first: u8,
     pub last: u8,

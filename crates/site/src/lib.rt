@@ -1,4 +1,7 @@
 // One site's step on one transaction: the coordinator's and a participant's, and the call for C.
+
+#![tactic(auto)]
+
 pub mod coordinator;
 pub mod effects;
 pub mod inputs;

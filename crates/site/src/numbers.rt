@@ -167,8 +167,7 @@ fn participant_step(
 }
 
 // One site's step.
-#[unsafe(no_mangle)]
-pub extern "C" fn dpr_site_step(
+pub fn dpr_site_step(
     site: u8,
     kind: u8,
     transaction: u8,

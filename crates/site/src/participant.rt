@@ -18,7 +18,7 @@ use codec::record::Record;
 use codec::sets::only;
 
 // One transaction at participant `number`: its phase, what silence means to it, and whether it is marked as one that only looked.
-#[derive(Drop)]
+#[derive(Clone, Copy)]
 pub struct Participant {
     pub phase: ParticipantPhase,
     pub presumption: Presumption,
@@ -26,14 +26,14 @@ pub struct Participant {
     pub marked: bool,
 }
 
-#[derive(Drop)]
+#[derive(Clone, Copy)]
 pub struct ParticipantRow {
     pub effects: Effects,
     pub phase: ParticipantPhase,
 }
 
 // What a step gives. `NoRow` is not a row without effects: the joint run tells them apart.
-#[derive(Drop)]
+#[derive(Clone, Copy)]
 pub enum ParticipantAnswer {
     Row(ParticipantRow),
     NoRow,

@@ -8,7 +8,7 @@ ghost use Rattle.site.specs.Answers.{outcome_in, coordinator_in, participant_in}
 use crate::presumption::Outcome;
 
 // The set that is still waited for stands in the phase.
-#[derive(Drop)]
+#[derive(Clone, Copy)]
 pub enum CoordinatorPhase {
     Open,
     Collecting(u8),
@@ -77,7 +77,7 @@ impl CoordinatorPhase {
     }
 }
 
-#[derive(Drop)]
+#[derive(Clone, Copy)]
 pub enum ParticipantPhase {
     Working,
     Prepared,

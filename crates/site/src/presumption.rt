@@ -11,7 +11,7 @@ use crate::effects::Effects;
 use codec::message::Parts;
 use codec::record::Record;
 
-#[derive(Drop)]
+#[derive(Clone, Copy)]
 pub enum Outcome {
     Commit,
     Abort,
@@ -70,7 +70,7 @@ impl Outcome {
 }
 
 // What silence means: presumed abort (01: PrA, 0) or presumed commit (PrC, 1).
-#[derive(Drop)]
+#[derive(Clone, Copy)]
 pub enum Presumption {
     Abort,
     Commit,

@@ -25,10 +25,10 @@ stored {A} {B} h g l i v d lt e = fun_ext (λ j. go j (eqb j i) refl)
     go j false q = ap h (get_or-set_other l i j v d (eqb-false j i q))
 
 -- past its end an array reads as its default
-pub get_d_past {ℓ} : {A : Type ℓ} (l : List A) (j : ℕ) (d : A) → length l ≤ j → get_or l j d ≡ d
-get_d_past [] j d h = refl
-get_d_past (x ∷ l) zero d h = absurd (omega (arith, h))
-get_d_past (x ∷ l) (suc j) d h = get_d_past l j d (omega (arith, h))
+pub get_or_past {ℓ} : {A : Type ℓ} (l : List A) (j : ℕ) (d : A) → length l ≤ j → get_or l j d ≡ d
+get_or_past [] j d h = refl
+get_or_past (x ∷ l) zero d h = absurd (omega (arith, h))
+get_or_past (x ∷ l) (suc j) d h = get_or_past l j d (omega (arith, h))
 
 -- an array of the default stands for the default everywhere
 pub all-default {ℓ} : {A : Type ℓ} (n j : ℕ) (d : A) → get_or (replicate n d) j d ≡ d
@@ -73,4 +73,4 @@ module _ {A B : Type 0} (h : A → B) (g : B → B) (d : A) (before : List A) wh
       go j true q = p.front j (ltb-true j i q)
       go j false q =
           let past : i ≤ j = ltb-false j i q in
-          rw (get_d_past now j d (omega (arith, past, l, p.length_kept)), get_d_past before j d (omega (arith, past, l))) e
+          rw (get_or_past now j d (omega (arith, past, l, p.length_kept)), get_or_past before j d (omega (arith, past, l))) e

@@ -15,7 +15,7 @@ use Rattle.joint.specs.declared.sites.Site.{Site}
 use Rattle.joint.specs.declared.records.Records.{Records}
 use Rattle.joint.specs.declared.transactions.Transaction.{Transaction}
 use Rattle.joint.specs.declared.run.Run.{Run}
-use Rattle.joint.proofs.Engine.Arrays.{stored, get_d_past}
+use Rattle.joint.proofs.Engine.Arrays.{stored, get_or_past}
 
 -- within an array the default does not matter
 pub getD-within {ℓ} : {A : Type ℓ} (l : List A) (i : ℕ) (d e : A) → i < length l → get_or l i d ≡ get_or l i e
@@ -43,7 +43,7 @@ module _ (r : Run) where
   -- what is no site or no transaction is as in a fresh run
   pub up_past : (i : ℕ) → length r.sites ≡ 9 → 8 < i → ((run_in r).site i).up ≡ true
   unfolding run_in site_from
-  up_past i e h = ap (λ (x : Site). x.up) (get_d_past r.sites i no_site (omega (arith, e, h)))
+  up_past i e h = ap (λ (x : Site). x.up) (get_or_past r.sites i no_site (omega (arith, e, h)))
 
   pub up_read : (i : ℕ) (d : Site) → length r.sites ≡ 9 → i ≤ 8 → (get_or r.sites i d).up ≡ ((run_in r).site i).up
   unfolding run_in site_from
@@ -51,7 +51,7 @@ module _ (r : Run) where
 
   pub transaction_past : (i : ℕ) → length r.transactions ≡ 8 → 7 < i → (run_in r).transaction i ≡ transaction_in no_transaction
   unfolding run_in
-  transaction_past i e h = ap transaction_in (get_d_past r.transactions i no_transaction (omega (arith, e, h)))
+  transaction_past i e h = ap transaction_in (get_or_past r.transactions i no_transaction (omega (arith, e, h)))
 
 -- ---- stores
 

@@ -23,7 +23,7 @@ use Rattle.joint.specs.Inside.{stable_of}
 use Rattle.joint.specs.declared.sites.Site.{Site}
 use Rattle.joint.specs.declared.records.Records.{Records}
 use Rattle.joint.specs.declared.run.Run.{Run}
-use Rattle.joint.proofs.Engine.Arrays.{length-shown, get_d_past}
+use Rattle.joint.proofs.Engine.Arrays.{length-shown, get_or_past}
 use Rattle.joint.proofs.Engine.Sites.{stable-taken}
 use Rattle.joint.proofs.Engine.Reads.{site_read}
 use Rattle.joint.specs.contracts.records.Records as records
@@ -59,7 +59,7 @@ run-held r vs p s = go (ltb s (length r.forces)) refl
         let l = p.1.1.1.1.1.0 in
         let one = one_of ℕ u64.own_val (map (λ v. v) r.forces) l.0 l.1.1 s (simp length-map (ltb-true s _ h)) 0 in
         omega (arith, one.1.1, get_or-map (λ (v : ℕ). v) r.forces s 0)
-    go false h = rw (get_d_past r.forces s 0 (ltb-false s _ h)) refl
+    go false h = rw (get_or_past r.forces s 0 (ltb-false s _ h)) refl
 
 -- the stable records of a site, by its counts
 pub log_read : (r : Run) (vs : List Val) → Is (row run.the_type) r vs → (i : ℕ) (d : Site) (e : Records) (k : ℕ) → length r.sites ≡ 9 → length r.records ≡ 9 → i ≤ 8

@@ -4,7 +4,7 @@ use native.Mathlib.Omega.{arith}
 use borrow.Author.Rules.{rules}
 use Rattle.joint.specs.Totals.{highest, held}
 use Rattle.joint.specs.Answers.{forces_in}
-use Rattle.joint.proofs.Engine.Arrays.{length-shown, get_d_past}
+use Rattle.joint.proofs.Engine.Arrays.{length-shown, get_or_past}
 use Rattle.joint.proofs.Engine.Reads.{getD-within}
 use Rattle.joint.proofs.Engine.Whole.{run-held}
 use Rattle.joint.proofs.run.Run.forces.Statement.{statement}
@@ -17,7 +17,7 @@ returns : tie.Need-returns
 unfolding forces_in
 returns c =
     let a = c.before.args in
-    sym (ap held (get_d_past a.t1.forces a.site 0 (omega (arith, counters c.before, c.if1.true))) ∙ unfold held highest in refl)
+    sym (ap held (get_or_past a.t1.forces a.site 0 (omega (arith, counters c.before, c.if1.true))) ∙ unfold held highest in refl)
 
 returns-2 : tie.Need-returns-2
 unfolding forces_in

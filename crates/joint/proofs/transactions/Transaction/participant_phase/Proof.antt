@@ -4,7 +4,7 @@ use native.Mathlib.Omega.{arith}
 use Rattle.site.specs.Answers.{participant_in}
 use Rattle.joint.specs.Answers.{transaction_in, no_held}
 use Rattle.joint.specs.declared.transactions.Held.{Held}
-use Rattle.joint.proofs.Engine.Arrays.{length-shown, get_d_past}
+use Rattle.joint.proofs.Engine.Arrays.{length-shown, get_or_past}
 use Rattle.joint.proofs.Engine.Transactions.{read_any}
 use borrow.Author.Rules.{rules}
 use Rattle.joint.proofs.transactions.Transaction.participant_phase.Statement.{statement}
@@ -15,7 +15,7 @@ unfolding transaction_in
 returns c =
     let a = c.before.args in
     let n : length a.t1.participants ≡ 9 = search length-shown in
-    rw (get_d_past a.t1.participants a.participant no_held (omega arith)) refl
+    rw (get_or_past a.t1.participants a.participant no_held (omega arith)) refl
 
 returns-2 : tie.Need-returns-2
 unfolding transaction_in

@@ -3,7 +3,7 @@ use lib.ListN.{length}
 use native.Mathlib.Omega.{arith}
 use Rattle.codec.specs.Laws.Members.{none_in}
 use Rattle.joint.specs.Answers.{transaction_in}
-use Rattle.joint.proofs.Engine.Arrays.{get_d_past}
+use Rattle.joint.proofs.Engine.Arrays.{get_or_past}
 use borrow.Author.Rules.{rules}
 use Rattle.joint.proofs.transactions.Transaction.sent.Statement.{statement}
 use Rattle.joint.proofs.transactions.Transaction.sent.Tie as tie
@@ -13,7 +13,7 @@ unfolding transaction_in
 returns c =
     let a = c.before.args in
     let n : length a.t1.sent ≡ 8 = search rules in
-    rw (get_d_past a.t1.sent a.kind 0 (omega arith)) (sym (none_in a.participant))
+    rw (get_or_past a.t1.sent a.kind 0 (omega arith)) (sym (none_in a.participant))
 
 returns-2 : tie.Need-returns-2
 unfolding transaction_in

@@ -1,0 +1,48 @@
+use mathlib.Core.Path.{◌≡◌, sym, ap, ◌∙◌}
+use mathlib.Core.Bool.{true, false, not, ◌||◌}
+use Prim.Native.Nat.{◌≤◌}
+use native.Mathlib.Omega.{arith}
+use borrow.Author.Tests.{not-true, not-false}
+use lib.Dec.{ltb}
+use lib.ListN.{length, take}
+use Rattle.codec.specs.Lists.{same}
+use Rattle.codec.specs.Image.{magic, site_in, count_in, over_limit}
+use Rattle.codec.specs.Answers.{values}
+use Rattle.codec.proofs.Opened.{few-records, opens_long, not_opened, over, not-exact, by_records}
+use Rattle.codec.proofs.reader.read_image.Goals as goal
+use Rattle.codec.proofs.reader.read_image.Goals.{Else-over_limit}
+
+within : (c : Else-over_limit) → over_limit (site_in c.args.bytes.now) (count_in c.args.bytes.now) ≡ false
+unfolding site_in count_in
+within c = sym c.over_limit.ensures ∙ c.if-over_limit.false
+
+pub returns-then-not-opens : goal.returns-then-not-opens
+returns-then-not-opens c = c.refused.ensures ∙ ap values (sym (not_opened c.args.bytes.now (sym c.opens.ensures ∙ c.if-not-opens.true)))
+
+pub bounds-bytes-4 : goal.bounds-bytes-4
+bounds-bytes-4 c = omega (arith, opens_long c.args.bytes.now (sym c.opens.ensures ∙ c.if-not-opens.false))
+
+pub bounds-bytes-5 : goal.bounds-bytes-5
+bounds-bytes-5 c = omega (arith, opens_long c.args.bytes.now (sym c.opens.ensures ∙ c.if-not-opens.false))
+
+pub returns-then-over_limit : goal.returns-then-over_limit
+unfolding site_in count_in
+returns-then-over_limit c = c.refused-then-over_limit.ensures
+    ∙ ap values (sym (over c.args.bytes.now (sym c.opens.ensures ∙ c.if-not-opens.false) (sym c.over_limit.ensures ∙ c.if-over_limit.true)))
+
+pub table_exact-requires : goal.table_exact-requires
+table_exact-requires c = opens_long c.args.bytes.now (sym c.opens.ensures ∙ c.if-not-opens.false)
+
+pub returns-then-not-table_exact : goal.returns-then-not-table_exact
+returns-then-not-table_exact c =
+    c.refused-then-not-table_exact.ensures
+    ∙ ap values (sym (not-exact c.args.bytes.now (sym c.opens.ensures ∙ c.if-not-opens.false) (within c.before.before.before) (sym c.table_exact.ensures ∙ c.if-not-table_exact.true)))
+
+pub read_records-requires : goal.read_records-requires
+read_records-requires c =
+    record { whole = opens_long c.args.bytes.now (sym c.opens.ensures ∙ c.if-not-opens.false); few = few-records _ _ (within c.before.before); exact = sym c.table_exact.ensures ∙ c.if-not-table_exact.false }
+
+pub returns : goal.returns
+returns c =
+    c.read_records.ensures
+    ∙ ap values (sym (by_records c.args.bytes.now (sym c.opens.ensures ∙ c.if-not-opens.false) (within c.before.before.before) (sym c.table_exact.ensures ∙ c.if-not-table_exact.false)))

@@ -1,0 +1,23 @@
+use mathlib.Core.Path.{sym}
+use native.Mathlib.Omega.{arith}
+use Rattle.codec.specs.Laws.Fields.{fields_init, fields_commit, fields_prepared, fields_other, fields-zero, fields_high}
+use borrow.Author.Rules.{rules}
+use Rattle.codec.proofs.record.Record.fields_in_range.Goals as goal
+
+pub returns-in-1 : goal.returns-in-1
+returns-in-1 c = rw c.part.ensures (sym (fields_init c.args.self (omega arith) c.in-1.is))
+
+pub returns-in-2 : goal.returns-in-2
+returns-in-2 c = rw c.part-in-2.ensures (sym (fields_commit c.args.self (omega arith) c.in-2.is))
+
+pub returns-in-5 : goal.returns-in-5
+returns-in-5 c = sym (fields_prepared c.args.self c.in-5.is)
+
+pub returns-in-3 : goal.returns-in-3
+returns-in-3 c = let rest = c.in_default-1.rest in sym (fields_other _ c.if-kind-lt1.false c.in-3.if-kind-lt8-own.true rest.0.0.1 rest.0.1 rest.1)
+
+pub returns-in_default : goal.returns-in_default
+returns-in_default c = sym (fields-zero _ c.in_default.if-kind-lt1-own.true)
+
+pub returns-in_default-2 : goal.returns-in_default-2
+returns-in_default-2 c = sym (fields_high _ c.in_default.if-kind-lt8-own.false)
