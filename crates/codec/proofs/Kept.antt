@@ -1,6 +1,6 @@
 -- What the reader and the writer keep of the records that they have passed: the newest of each transaction. Assumes nothing.
 use mathlib.Core.Path.{◌≡◌, refl, ap, sym, ◌∙◌}
-use mathlib.Core.Bool.{Bool, true, false, cond, and-eq-true_iff, or-true}
+use mathlib.Core.Bool.{Bool, true, false, cond, ◌||◌, and-eq-true_iff, or-true}
 use mathlib.Core.List.{List, [], ◌∷◌, ◌++◌, append-nil}
 use Prim.Native.Nat.{ℕ, ◌<◌}
 use native.Mathlib.Omega.{arith}
@@ -38,6 +38,10 @@ select_snoc f (y ∷ log) x = by (f y) (select f log) (cond (f x) (x ∷ []) [])
     by true m r e = ap (y ∷◌) e
     by false m r e = e
 
+legal_by : (s : ℕ) (ks : List ℕ) → any (same ks) (sequences s) ≡ true → legal s ks ≡ true
+unfolding any
+legal_by s ks e = ap (same ks [] ||◌) e ∙ or-true (same ks [])
+
 module _ (x : LogRecord) where
   last_snoc : (z : LogRecord) (l : List LogRecord) → last_or z (l ++ (x ∷ [])) ≡ x
   last_snoc z [] = refl
@@ -69,10 +73,11 @@ module _ (s : ℕ) (newest : List Record) (done : List LogRecord) (kept : Kept s
     holds_own = rw (get_or-set_same newest x.transaction x no_record (omega (arith, kept.size)), more_own, last_snoc)
 
     ordered_own : legal s (kinds (own x.transaction (done ++ (record_in x ∷ [])))) ≡ true
-    unfolding in_sequence any record_in
+    unfolding in_sequence record_in
     ordered_own =
         let ks = kinds (own x.transaction done) ++ (x.kind ∷ []) in
-        rw (more_own, kinds_snoc (record_in x)) (ap (same ks [] ||◌) ((and-eq-true_iff (any (same ks) (sequences s)) _).0 follows).0 ∙ or-true (same ks []))
+        let now : kinds (own x.transaction (done ++ (record_in x ∷ []))) ≡ ks = ap kinds more_own ∙ kinds_snoc (record_in x) (own x.transaction done) in
+        ap (legal s) now ∙ legal_by s ks ((and-eq-true_iff (any (same ks) (sequences s)) _).0 follows).0
 
     pub kept_next : Kept s (set newest x.transaction x) (done ++ (record_in x ∷ []))
     kept_next = record {

@@ -40,16 +40,13 @@ passed_all s records newest i h p = rw (p.left, drop_of_length-le records {i = i
 
 -- ---- one record
 
--- an answer with another tag than the first was not accepted
-pub not-accepted : (a : RecordAnswer) → OneOf (1 ∷ 2 ∷ 3 ∷ 4 ∷ []) (tag_of the_type a) → record_number a ≡ 0 → ⊥
-not-accepted (Accepted x) k e = not_first k
-  where
-    not_first : OneOf (1 ∷ 2 ∷ 3 ∷ 4 ∷ []) 0 → ⊥
-    not_first k = ⊎_elim (λ h. omega arith) (⊎_elim (λ h. omega arith) (⊎_elim (λ h. omega arith) (λ h. omega arith))) k
-not-accepted WrongKind k e = omega arith
-not-accepted WrongTransaction k e = omega arith
-not-accepted WrongField k e = omega arith
-not-accepted OutOfSequence k e = omega arith
+-- an answer that is no accepted record has a number
+pub not-accepted : (a : RecordAnswer) → ((x : Record) → a ≡ Accepted x → ⊥) → record_number a ≡ 0 → ⊥
+not-accepted (Accepted x) n e = n x refl
+not-accepted WrongKind n e = omega arith
+not-accepted WrongTransaction n e = omega arith
+not-accepted WrongField n e = omega arith
+not-accepted OutOfSequence n e = omega arith
 
 -- an accepted answer tells that no test struck
 pub taken : (a b c d : Bool) (x r : Record) → answer_to a b c d x ≡ Accepted r → (a ≡ false) × (x ≡ r)

@@ -1,4 +1,5 @@
 -- The pair table of an image: its bytes, its pairs, and the records that they name.
+use mathlib.Core.Path.{subst}
 use Rattle.std.specs.Prelude.{ℕ, zero, suc, ◌+◌, ◌*◌, ◌/◌, ◌%◌, ◌≤◌, ◌<◌, ◌≡◌, refl, true, eqb, length, get_or, take, drop}
 use Rattle.std.proofs.Common.{ap₂, length-append, length-drop, take-append-drop, drop_at, drop-drop, length-take-le, add_assoc, arith, eqb-true, eq-eqb}
 use Rattle.std.proofs.Math.Bool.{and-eq-true_iff}
@@ -90,7 +91,7 @@ unfolding pairs_of pair_table flatten word
 named_table head at [] e = refl
 named_table head at (r ∷ records) e =
     ap₂ ◌∷◌ (rw (word_number at, word_number (length r), drop_at, take-append_seam))
-    (rw (← append_assoc) (named_table (head ++ r) (at + length r) records (rw (length-append, e))))
+    (subst (λ (l : List ℕ). map (named l) (pairs_of (pair_table (at + length r) records)) ≡ records) (append_assoc head r (flatten records)) (named_table (head ++ r) (at + length r) records (rw (length-append, e))))
 
 pub table_exact_lem : (at : ℕ) (records : List (List ℕ)) → exact at (pairs_of (pair_table at records)) (at + length (flatten records)) ≡ true
 unfolding exact pairs_of pair_table flatten word

@@ -36,13 +36,13 @@ table_exact-requires c = opens_long c.args.bytes.now (sym c.opens.ensures ∙ c.
 pub returns-then-not-table_exact : goal.returns-then-not-table_exact
 returns-then-not-table_exact c =
     c.refused-then-not-table_exact.ensures
-    ∙ ap values (sym (not-exact c.args.bytes.now (sym c.opens.ensures ∙ c.if-not-opens.false) (within c.before.before.before) (sym c.table_exact.ensures ∙ c.if-not-table_exact.true)))
+    ∙ ap values (sym (not-exact c.args.bytes.now (sym c.opens.ensures ∙ c.if-not-opens.false) (within (goal.at.returns-then-not-table_exact c).Else-over_limit) (sym c.table_exact.ensures ∙ c.if-not-table_exact.true)))
 
 pub read_records-requires : goal.read_records-requires
 read_records-requires c =
-    record { whole = opens_long c.args.bytes.now (sym c.opens.ensures ∙ c.if-not-opens.false); few = few-records _ _ (within c.before.before); exact = sym c.table_exact.ensures ∙ c.if-not-table_exact.false }
+    record { whole = opens_long c.args.bytes.now (sym c.opens.ensures ∙ c.if-not-opens.false); few = few-records _ _ (within (goal.at.read_records-requires c).Else-over_limit); exact = sym c.table_exact.ensures ∙ c.if-not-table_exact.false }
 
 pub returns : goal.returns
 returns c =
     c.read_records.ensures
-    ∙ ap values (sym (by_records c.args.bytes.now (sym c.opens.ensures ∙ c.if-not-opens.false) (within c.before.before.before) (sym c.table_exact.ensures ∙ c.if-not-table_exact.false)))
+    ∙ ap values (sym (by_records c.args.bytes.now (sym c.opens.ensures ∙ c.if-not-opens.false) (within (goal.at.returns c).Else-over_limit) (sym c.table_exact.ensures ∙ c.if-not-table_exact.false)))

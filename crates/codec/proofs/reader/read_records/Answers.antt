@@ -56,36 +56,36 @@ pub slice_bounds-read-start : goal.slice_bounds-read-start
 slice_bounds-read-start c = omega (arith, c.end_of-end.ensures)
 
 pub slice_bounds-read-end : goal.slice_bounds-read-end
-slice_bounds-read-end c = rw c.end_of-end.ensures (inside c.before).part
+slice_bounds-read-end c = rw c.end_of-end.ensures (inside (goal.at.slice_bounds-read-end c).In-loop-i).part
 
 pub overflow_cast-i : goal.overflow_cast-i
-overflow_cast-i c = omega (arith, few c.before.before.before.before.before)
+overflow_cast-i c = omega (arith, few (goal.at.overflow_cast-i c).In-loop-i)
 
 pub returns-in_default : goal.returns-in_default
 unfolding site_in
 returns-in_default c =
     let bytes = c.args.bytes.now in
-    let named : record_number c.read-answer.result ≡ 0 → ⊥ = not-accepted c.read-answer.result c.in_default.in_default-own.keys2 in
-    let here = ap record_number (c.read-answer.ensures ∙ ap (answer_at c.args.bytes.now c.loop-i.newest.of c.loop-i.at) (size c.before.before.before.before)) in
-    let struck = image-stopped bytes c.loop-i.invariant.0 c.loop-i.records c.loop-i.newest.of c.loop-i.at c.loop-i.i c.loop-i.invariant.1.1.1 (more c.before.before.before.before.before.before) (λ e. named (here ∙ e)) in
+    let named : record_number c.read-answer.result ≡ 0 → ⊥ = not-accepted c.read-answer.result c.in_default.not-Accepted in
+    let here = ap record_number (c.read-answer.ensures ∙ ap (answer_at c.args.bytes.now c.loop-i.newest.of c.loop-i.at) (size (goal.at.returns-in_default c).After-end_of-end)) in
+    let struck = image-stopped bytes c.loop-i.invariant.0 c.loop-i.records c.loop-i.newest.of c.loop-i.at c.loop-i.i c.loop-i.invariant.1.1.1 (more (goal.at.returns-in_default c).In-loop-i) (λ e. named (here ∙ e)) in
     c.refused.ensures
     ∙ ap values (records-refused bytes _ _ (λ e. named (sym c.number.ensures ∙ e)) (c.number.ensures ∙ here ∙ struck.0) struck.1)
 
 pub offset_bounds-records-i : goal.offset_bounds-records-i
-offset_bounds-records-i c = omega (arith, few c.before.before.before.before.before)
+offset_bounds-records-i c = omega (arith, few (goal.at.offset_bounds-records-i c).In-loop-i)
 
 pub bounds-records-i : goal.bounds-records-i
-bounds-records-i c = few c.before.before.before.before.before
+bounds-records-i c = few (goal.at.bounds-records-i c).In-loop-i
 
 pub overflow_add-i : goal.overflow_add-i
-overflow_add-i c = omega (arith, few c.before.before.before.before.before)
+overflow_add-i c = omega (arith, few (goal.at.overflow_add-i c).In-loop-i)
 
 pub loop-i-preserved : goal.loop-i-preserved
 unfolding site_in
 loop-i-preserved c =
     let inv = c.loop-i.invariant in
     let next = filled_next c.args.bytes.now inv.0 c.loop-i.records c.loop-i.newest.of c.loop-i.at c.loop-i.i inv.1.1.1
-    (more c.before.before.before.before.before) c.in-Accepted.«record» (sym (c.read-answer.ensures ∙ ap (answer_at c.args.bytes.now c.loop-i.newest.of c.loop-i.at) (size c.before.before.before)) ∙ c.in-Accepted.is) in
+    (more (goal.at.loop-i-preserved c).In-loop-i) c.in-Accepted.«record» (sym (c.read-answer.ensures ∙ ap (answer_at c.args.bytes.now c.loop-i.newest.of c.loop-i.at) (size (goal.at.loop-i-preserved c).After-end_of-end)) ∙ c.in-Accepted.is) in
     (inv.0, (inv.1.0, (inv.1.1.0, rw (c.with-newest.ensures, c.end_of-end.ensures) next.1)))
 
 pub overflow_cast-index : goal.overflow_cast-index

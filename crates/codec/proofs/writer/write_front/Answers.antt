@@ -3,7 +3,8 @@ use mathlib.Core.List.{◌++◌}
 use Prim.Native.Nat.{◌+◌, ◌-◌, ◌*◌, ◌≤◌}
 use native.Mathlib.Nat.{le_refl, le_trans, le-add_right}
 use native.Mathlib.Omega.{arith}
-use lib.ListN.{length, length-map}
+use borrow.Author.Rules.{rules}
+use lib.ListN.{length}
 use mir.Facts.{Fits-below}
 use borrow.Rule.Slice.PartMut.{put_mid}
 use Rattle.codec.specs.Image.{magic, image}
@@ -11,16 +12,10 @@ use Rattle.codec.specs.Answers.{log_in}
 use Rattle.codec.specs.Laws.Stored.{Left, left_front, next_last, left-part, left_next, left_put, stored-part}
 use Rattle.codec.proofs.InTurn.{table_of, records_of, head_fits, table_length, image_head, image_table}
 use Rattle.codec.proofs.writer.write_front.Goals as goal
-use Rattle.codec.proofs.writer.write_front.Goals.{After-records-1, After-slice_known-1, After-slice_known-3-1}
-
-few : (c : After-slice_known-1) → c.args.log.count ≤ 24
-few c = c.requires.0
-
-fit : (c : After-slice_known-1) → length c.args.log.records ≡ 24
-fit c = search rules
+use Rattle.codec.proofs.writer.write_front.Goals.{After-records-1, After-slice_known-3-1}
 
 pub overflow_cast-count : goal.overflow_cast-count
-overflow_cast-count c = Fits-below tt (few c)
+overflow_cast-count c = Fits-below tt c.requires.0
 
 pub write_head-requires : goal.write_head-requires
 unfolding image magic
@@ -33,7 +28,8 @@ headed : (c : After-records-1)
     Left 0 (image a.log.site (log_in a.log)) a.out.now 6 (table_of c.args.log.count a.log.records ++ records_of c.args.log.count a.log.records) c.write_head.new.out
 unfolding magic
 headed c =
-    left_next (left_front c.requires.1) (image_head c.args.log (few c.before.before.before.before.before) (fit c.before.before.before.before.before)) 6 refl _ c.write_head.ensures
+    let fit : length c.args.log.records ≡ 24 = search rules in
+    left_next (left_front c.requires.1) (image_head c.args.log c.requires.0 fit) 6 refl _ c.write_head.ensures
 
 pub slice_bounds-write_pairs-count : goal.slice_bounds-write_pairs-count
 slice_bounds-write_pairs-count c = le_trans (le-add_right _ _) (headed c).room
@@ -46,13 +42,13 @@ slice_bounds-write_pairs-end c = le_refl _
 
 pub write_pairs-requires : goal.write_pairs-requires
 write_pairs-requires c =
-    (few c.before.before.before.before.before.before, left-part (headed c.before) (image_table c.args.log.count c.args.log.records))
+    (c.requires.0, left-part (headed (goal.at.write_pairs-requires c).After-records-1) (image_table c.args.log.count c.args.log.records))
 
 pub overflow_mul-at : goal.overflow_mul-at
-overflow_mul-at c = (head_fits (few c.before.before.before.before.before.before.before.before.before)).0
+overflow_mul-at c = (head_fits c.requires.0).0
 
 pub overflow_add-at : goal.overflow_add-at
-overflow_add-at c = (head_fits (few c.before.before.before.before.before.before.before.before.before)).1
+overflow_add-at c = (head_fits c.requires.0).1
 
 -- the records are left
 tabled : (c : After-slice_known-3-1)
@@ -60,9 +56,11 @@ tabled : (c : After-slice_known-3-1)
     let a = c.args in
     let out = c.write_head.new.out in
     Left 0 (image a.log.site (log_in a.log)) a.out.now (6 + 4 * c.args.log.count) (records_of c.args.log.count a.log.records) (put_mid 6 (length out - 6) out c.write_pairs.new.out)
+unfolding magic
 tabled c =
+    let fit : length c.args.log.records ≡ 24 = search rules in
     let log = c.args.log in
-    left_put (headed c.before.before.before.before) (image_table c.args.log.count log.records) _ (ap (6 +◌) (sym (table_length log (few c.before.before.before.before.before.before.before.before.before) (fit c.before.before.before.before.before.before.before.before.before)))) _ c.write_pairs.ensures
+    left_put (left_next (left_front c.requires.1) (image_head log c.requires.0 fit) 6 refl _ c.write_head.ensures) (image_table c.args.log.count log.records) _ (ap (6 +◌) (sym (table_length log c.requires.0 fit))) _ c.write_pairs.ensures
 
 pub slice_bounds-write_records-count : goal.slice_bounds-write_records-count
 slice_bounds-write_records-count c = le_trans (le-add_right _ _) (tabled c).room
@@ -75,7 +73,7 @@ slice_bounds-write_records-end c = le_refl _
 
 pub write_records-requires : goal.write_records-requires
 write_records-requires c =
-    (few c.before.before.before.before.before.before.before.before.before.before, left-part (tabled c.before) next_last)
+    (c.requires.0, left-part (tabled (goal.at.write_records-requires c).After-slice_known-3-1) next_last)
 
 pub returns : goal.returns
-returns c = stored-part _ _ _ _ c.write_records.ensures ∙ (tabled c.before.before.before.before).whole
+returns c = stored-part _ _ _ _ c.write_records.ensures ∙ (tabled (goal.at.returns c).After-slice_known-3-1).whole

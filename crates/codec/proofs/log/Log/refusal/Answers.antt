@@ -35,8 +35,8 @@ whole c =
     ap (λ (rs : List (List ℕ)). first (record_refusals l.site [] rs)) (held_bytes l (few-records l.site l.count (limits c)))
     ∙ sym (refused_record l.site (log_in l) (ap (over_limit l.site) (held-count l (fit c.before.before.before)) ∙ limits c))
 
-few : {count : ℕ} {records : List Record} → (count ≤ 24) → length records ≡ 24 → count ≤ length records
-few a b = omega arith
+few : (count : ℕ) (records : List Record) → count ≤ 24 → length records ≡ 24 → count ≤ length records
+few count records a b = omega arith
 
 answered : (s : ℕ) (newest : List Record) (x y : Record) (a : RecordAnswer) → a ≡ answer_on s (bytes_of (record_in x)) (record_in y) x → y ≡ get_or newest x.transaction no_record
     → a ≡ answer_for s newest x
@@ -54,13 +54,12 @@ loop-i-init c =
 
 pub returns-in_default : goal.returns-in_default
 returns-in_default c =
-    let h = c.in_default.not-Accepted in ?
 
     let l = c.args.self in
     let number = ap record_number (answered _ _ _ _ _ c.judged-answer.ensures c.behind.ensures) in
     c.number.ensures ∙ number
-    ∙ log-stopped l.site l.count l.records c.loop-i.newest.of c.loop-i.i c.loop-i.invariant.1.1 c.loop-i-test.true (few c.loop-i.invariant.0 c.loop-i.invariant.1.0)
-    (λ e. not-accepted c.judged-answer.result c.in_default.in_default-own.keys2 (number ∙ e))
+    ∙ log-stopped l.site l.count l.records c.loop-i.newest.of c.loop-i.i c.loop-i.invariant.1.1 c.loop-i-test.true (few _ _ c.loop-i.invariant.0 c.loop-i.invariant.1.0)
+    (λ e. not-accepted c.judged-answer.result c.in_default.not-Accepted (number ∙ e))
     ∙ whole c.before.before.before.before.before.before.before.before
 
 pub loop-i-preserved : goal.loop-i-preserved
@@ -70,7 +69,7 @@ loop-i-preserved c =
       inv.0,
       (
         inv.1.0,
-        rw c.with-newest.ensures (log_next l.site l.count l.records c.loop-i.newest.of c.loop-i.i inv.1.1 c.loop-i-test.true (few c.loop-i.invariant.0 c.loop-i.invariant.1.0)
+        rw c.with-newest.ensures (log_next l.site l.count l.records c.loop-i.newest.of c.loop-i.i inv.1.1 c.loop-i-test.true (few _ _ c.loop-i.invariant.0 c.loop-i.invariant.1.0)
             c.in-Accepted.«record» (sym (answered _ _ _ _ _ c.judged-answer.ensures c.behind.ensures) ∙ c.in-Accepted.is)).1,
       ),
     )
@@ -78,4 +77,4 @@ loop-i-preserved c =
 pub returns : goal.returns
 returns c =
     let l = c.args.self in
-    sym (sym (whole c.before.before.before) ∙ passed_all l.site (bytes_in l.count l.records) c.loop-i.newest.of c.loop-i.i (rw (records-length l.count l.records (few c.loop-i.invariant.0 c.loop-i.invariant.1.0)) c.loop-i-test.false) c.loop-i.invariant.1.1)
+    sym (sym (whole c.before.before.before) ∙ passed_all l.site (bytes_in l.count l.records) c.loop-i.newest.of c.loop-i.i (rw (records-length l.count l.records (few _ _ c.loop-i.invariant.0 c.loop-i.invariant.1.0)) c.loop-i-test.false) c.loop-i.invariant.1.1)

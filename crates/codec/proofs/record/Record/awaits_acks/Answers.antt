@@ -37,7 +37,7 @@ returns-in-5 c = sym (with-one c.args.self c.in-5.is (omega arith))
 
 pub returns-in-1 : goal.returns-in-1
 returns-in-1 c =
-    rw c.minus.ensures (sym (with_two c.args.self (two_fields _ c.if-kind-lt1.false c.in-1.if-kind-lt3-own.true)))
+    rw c.minus.ensures (sym (with_two c.args.self (two_fields _ (omega arith) (omega arith))))
 
 pub returns-in_default : goal.returns-in_default
 unfolding length_of lengths
@@ -47,4 +47,4 @@ returns-in_default c = let x = c.args.self in
 
 pub returns-in_default-2 : goal.returns-in_default-2
 returns-in_default-2 c =
-    sym (with_none c.args.self (no_fields _ (omega arith) c.in_default.if-kind-lt3-own.false c.in_default-1.rest.1))
+    sym (with_none c.args.self (no_fields _ (omega arith) (omega arith) (λ e. omega arith)))

@@ -14,10 +14,10 @@ pub returns-in-5 : goal.returns-in-5
 returns-in-5 c = sym (fields_prepared c.args.self c.in-5.is)
 
 pub returns-in-3 : goal.returns-in-3
-returns-in-3 c = let rest = c.in_default-1.rest in sym (fields_other _ c.if-kind-lt1.false c.in-3.if-kind-lt8-own.true rest.0.0.1 rest.0.1 rest.1)
+returns-in-3 c = sym (fields_other c.args.self (omega arith) (omega arith) (λ e. omega arith) (λ e. omega arith) (λ e. omega arith))
 
 pub returns-in_default : goal.returns-in_default
-returns-in_default c = sym (fields-zero _ c.in_default.if-kind-lt1-own.true)
+returns-in_default c = sym (fields-zero _ (omega arith))
 
 pub returns-in_default-2 : goal.returns-in_default-2
-returns-in_default-2 c = sym (fields_high _ c.in_default.if-kind-lt8-own.false)
+returns-in_default-2 c = sym (fields_high _ (omega arith))
