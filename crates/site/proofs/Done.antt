@@ -1,5 +1,5 @@
 -- The numbers of a row tell firmware all that the row does: done in the header's order they are the row's effects, row by row. Assumes nothing.
-use mathlib.Core.Path.{◌≡◌, refl, sym, subst, ◌∙◌}
+use mathlib.Core.Path.{◌≡◌, refl, ap, sym, subst, ◌∙◌}
 use mathlib.Core.Bool.{Bool, true, false, cond, not, ◌&&◌, and-eq-true_iff}
 use mathlib.Core.List.{List, [], ◌∷◌, ◌++◌, map, append-nil}
 use mathlib.Core.Option.{Option, none, some}
@@ -53,8 +53,8 @@ module _ (a : Arguments) (out : ℕ) where
   -- messages, by their kind and their set
   back : (m : Message) (ps : List ℕ) → ordered a.transaction (go_first a.cohort (message_kind m)) (weight ps) ≡ ps
       → map (send (get_or messages (kind_of m ps) prepare)) (ordered a.transaction (go_first a.cohort (kind_of m ps)) (weight ps)) ≡ map (send m) ps
-  back m [] e = rw (ordered-none a.transaction (go_first a.cohort 0))
-  back m (p ∷ ps) e = rw (e, (kind_known m).1)
+  back m [] e = rw (ordered-none a.transaction (go_first a.cohort 0)) refl
+  back m (p ∷ ps) e = rw e (ap (λ (x : Message). map (send x) (p ∷ ps)) (kind_known m).1)
 
   force_back : (f : Bool) → eqb (cond f 1 0) 1 ≡ f
   force_back true = refl

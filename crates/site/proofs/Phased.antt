@@ -34,16 +34,13 @@ last-participant phase h =
     (participant.working ∷ participant.prepared ∷ participant.decided commit ∷ participant.decided abort ∷ [])
     participant.unknown h
 
-pub waits_for_none : (x : CoordinatorPhase) → OneOf (0 ∷ 4 ∷ []) (tag_of the_type x) → waiting_set (coordinator_in x) ≡ 0
+pub waits_for_none : (x : CoordinatorPhase) → ((w : ℕ) → x ≡ Collecting w → ⊥) → ((w : ℕ) → x ≡ Committing w → ⊥) → ((w : ℕ) → x ≡ Aborting w → ⊥) → waiting_set (coordinator_in x) ≡ 0
 unfolding waiting_set
-waits_for_none Open k = refl
-waits_for_none (Collecting w) (inl k) = cc
-waits_for_none (Collecting w) (inr k) = cc
-waits_for_none (Committing w) (inl k) = cc
-waits_for_none (Committing w) (inr k) = cc
-waits_for_none (Aborting w) (inl k) = cc
-waits_for_none (Aborting w) (inr k) = cc
-waits_for_none Unknown k = refl
+waits_for_none Open a b c = refl
+waits_for_none (Collecting w) a b c = absurd (a w refl)
+waits_for_none (Committing w) a b c = absurd (b w refl)
+waits_for_none (Aborting w) a b c = absurd (c w refl)
+waits_for_none Unknown a b c = refl
 
 none_of_five : (n : ℕ) → (n ≡ 0 → ⊥) → (n ≡ 1 → ⊥) → (n ≡ 2 → ⊥) → (n ≡ 3 → ⊥) → (n ≡ 4 → ⊥) → 5 ≤ n
 none_of_five zero a b c d e = absurd (a refl)

@@ -1,0 +1,10 @@
+use native.Mathlib.Omega.{arith}
+use Rattle.site.proofs.Cut.{count_law}
+use borrow.Author.Rules.{rules}
+use Rattle.site.proofs.effects.Effects.count.Goals as goal
+
+pub returns : goal.returns
+returns c t =
+    let e = c.args.self in
+    count_law t e _ _ _ _ _ c.one_if-appends.ensures.0 c.one_if-forces.ensures.0
+    c.entries-enters.ensures.0 (c.sends.ensures.0 t) c.one_if-closes.ensures.0

@@ -1,0 +1,30 @@
+use Prim.Native.Nat.{ℕ, ◌-◌}
+use mathlib.Core.Path.{ap, sym, ◌∙◌}
+use native.Mathlib.Omega.{arith}
+use lib.Seq.{take_all}
+use Rattle.site.specs.Answers.{effects_in}
+use Rattle.site.proofs.Cut.{cut_law}
+use borrow.Author.Rules.{rules}
+use Rattle.site.proofs.effects.Effects.cut.Goals as goal
+
+-- all of them happen
+pub returns-then-count-most : goal.returns-then-count-most
+returns-then-count-most c =
+    let a = c.args in
+    sym (take_all a.most (effects_in a.transaction a.self) (omega (arith, c.if-count-most.true, c.count.ensures a.transaction)))
+
+pub returns : goal.returns
+returns c =
+    let a = c.args in
+    let e = a.self in
+    let forces = c.less-forces in
+    let enters = c.less-enters in
+    let sends = c.less-sends in
+    let closes = c.less-closes in
+    rw (c.up_to.ensures, c.up_to-2.ensures, c.up_to-3.ensures)
+    (cut_law a.transaction e a.most forces.result enters.result sends.result closes.result c.first_sent.result
+    (forces.ensures ∙ ap (λ (k : ℕ). a.most - k) c.one_if.ensures.0)
+    (enters.ensures ∙ ap (λ (k : ℕ). forces.result - k) c.one_if-2.ensures.0)
+    (sends.ensures ∙ ap (λ (k : ℕ). enters.result - k) c.entries.ensures.0)
+    (closes.ensures ∙ ap (λ (k : ℕ). sends.result - k) (c.sends.ensures.0 a.transaction))
+    c.first_sent.ensures)
