@@ -128,6 +128,9 @@ def main():
         crate = path[len(TOP) :].split("/")[2]
 
         def turn(m):
+            # a name of the program's stays: it has no dash and no capital
+            if path.endswith(".rt") and m.group() == m.group().lower():
+                return m.group()
             # what a walk of the code calls its steps stays
             if inside and "-" in m.group() and text[: m.start()].endswith("."):
                 return m.group()

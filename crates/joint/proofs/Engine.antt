@@ -24,3 +24,4 @@ pub mod Replays
 pub mod Turns
 pub mod Rooms
 pub mod Bills
+pub mod Handovers

@@ -98,7 +98,7 @@ pub(crate) fn input(site: Site, before: Transaction, e: Input) -> Change
     if !before.opened() {
         return Change::Refused(Answer::NeverOpened);
     }
-    if !before.takes_part_lem(e.participant) {
+    if !before.takes_part(e.participant) {
         return Change::Refused(Answer::NoMember);
     }
     if !site.up {
@@ -140,7 +140,7 @@ pub(crate) fn discard(site: Site, records: Records, before: Transaction, e: Disc
     if !before.opened() {
         return Change::Refused(Answer::NeverOpened);
     }
-    if !before.takes_part_lem(e.site) {
+    if !before.takes_part(e.site) {
         return Change::Refused(Answer::NoMember);
     }
     if !site.up {
@@ -182,7 +182,7 @@ pub(crate) fn mark(site: Site, before: Transaction, e: Marking) -> Change
     if !before.opened() {
         return Change::Refused(Answer::NeverOpened);
     }
-    if !before.takes_part_lem(e.participant) {
+    if !before.takes_part(e.participant) {
         return Change::Refused(Answer::NoMember);
     }
     if !site.up {

@@ -69,7 +69,7 @@ impl Run {
         let mut i: u8 = 0;
         while i <= Parts::LAST_TRANSACTION {
             let transaction = self.transaction(i);
-            if transaction.opened() & transaction.takes_part_lem(site) {
+            if transaction.opened() & transaction.takes_part(site) {
                 count += 1;
             }
             i += 1;

@@ -104,7 +104,7 @@ impl Transaction {
     }
 
     // The coordinator takes part in each transaction, a participant in those that it is a member of.
-    pub fn takes_part_lem(self, site: u8) -> bool
+    pub fn takes_part(self, site: u8) -> bool
         ensures { result ≡ takes_part (transaction_in self) site }
     {
         let part = self.part;

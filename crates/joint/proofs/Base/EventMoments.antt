@@ -1,6 +1,6 @@
 -- What the moments of one event tell: a reply from Unknown is what silence means, and a commit record that was stable at one of them stays so to the end of the event.
 use Prim.Native.Nat.{ℕ, zero, suc, ◌≤◌}
-use mathlib.Core.Path.{◌≡◌, refl, ◌∙◌}
+use mathlib.Core.Path.{◌≡◌, refl, ◌∙◌, ap}
 use mathlib.Core.Logic.{◌⊎◌, inl, inr, ⊎_elim}
 use mathlib.Core.Bool.{true, false}
 use mathlib.Core.List.{List, [], ◌∷◌, ◌++◌, map}
@@ -51,11 +51,14 @@ told abort abort p q h = refl
 abbrev pub Silent : Run → ℕ → ℕ → Outcome → Type 0
 Silent r t p o = (o ≡ silence (presumption_of (r.transaction t).cohort p)) × T (member p (r.transaction t).cohort.members) × ((r.site 0).up ≡ true)
 
+acts_of : {x q : Plan} → some x ≡ some q → q.acts ≡ x.acts
+acts_of {x} {q} e = let k : q ≡ x = cc in ap (λ (p : Plan). p.acts) k
+
 -- the acts of p's delivered Yes where the coordinator is Unknown
 yes_acts : (r : Run) (t p : ℕ) (q : Plan) → (r.transaction t).coordinator.phase ≡ CoordinatorPhase.unknown → plan r (delivery t p voteYes) ≡ some q
     → q.acts ≡ record { transaction = t; effect = send (tell (silence (presumption_of (r.transaction t).cohort p))) p } ∷ []
 unfolding plan receiver coordinator_of step coordinator_step leaving_if leaving on_yes telling planned row_plan acting or_nothing
-yes_acts r t p q u e = let d : some _ ≡ some q = rw u at e in cc
+yes_acts r t p q u e = acts_of (rw u at e)
 
 part-member : (r : Run) (t p : ℕ) → 1 ≤ p → takes_part (r.transaction t) p ≡ true → T (member p (r.transaction t).cohort.members)
 unfolding takes_part

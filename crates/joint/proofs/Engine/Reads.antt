@@ -18,10 +18,10 @@ use Rattle.joint.specs.declared.run.Run.{Run}
 use Rattle.joint.proofs.Engine.Arrays.{stored, get_or_past}
 
 -- within an array the default does not matter
-pub getD-within {ℓ} : {A : Type ℓ} (l : List A) (i : ℕ) (d e : A) → i < length l → get_or l i d ≡ get_or l i e
-getD-within [] i d e h = absurd (omega (arith, h))
-getD-within (x ∷ l) zero d e h = refl
-getD-within (x ∷ l) (suc i) d e h = getD-within l i d e (omega (arith, h))
+pub get_or-within {ℓ} : {A : Type ℓ} (l : List A) (i : ℕ) (d e : A) → i < length l → get_or l i d ≡ get_or l i e
+get_or-within [] i d e h = absurd (omega (arith, h))
+get_or-within (x ∷ l) zero d e h = refl
+get_or-within (x ∷ l) (suc i) d e h = get_or-within l i d e (omega (arith, h))
 
 -- a site's counts and its records, from the two arrays
 abbrev pub site_at : List Site → List Records → ℕ → plain.Site
@@ -34,11 +34,11 @@ module _ (r : Run) where
       → site_from (get_or r.sites i d) (get_or r.records i e).of ≡ (run_in r).site i
   unfolding run_in
   site_read i d e n m h =
-      ap₂ (λ (x : Site) (y : Records). site_from x y.of) (getD-within r.sites i d no_site (omega (arith, n, h))) (getD-within r.records i e no_records (omega (arith, m, h)))
+      ap₂ (λ (x : Site) (y : Records). site_from x y.of) (get_or-within r.sites i d no_site (omega (arith, n, h))) (get_or-within r.records i e no_records (omega (arith, m, h)))
 
   pub transaction_read : (i : ℕ) (d : Transaction) → length r.transactions ≡ 8 → i ≤ 7 → transaction_in (get_or r.transactions i d) ≡ (run_in r).transaction i
   unfolding run_in
-  transaction_read i d e h = ap transaction_in (getD-within r.transactions i d no_transaction (omega (arith, e, h)))
+  transaction_read i d e h = ap transaction_in (get_or-within r.transactions i d no_transaction (omega (arith, e, h)))
 
   -- what is no site or no transaction is as in a fresh run
   pub up_past : (i : ℕ) → length r.sites ≡ 9 → 8 < i → ((run_in r).site i).up ≡ true
@@ -47,7 +47,7 @@ module _ (r : Run) where
 
   pub up_read : (i : ℕ) (d : Site) → length r.sites ≡ 9 → i ≤ 8 → (get_or r.sites i d).up ≡ ((run_in r).site i).up
   unfolding run_in site_from
-  up_read i d e h = ap (λ (x : Site). x.up) (getD-within r.sites i d no_site (omega (arith, e, h)))
+  up_read i d e h = ap (λ (x : Site). x.up) (get_or-within r.sites i d no_site (omega (arith, e, h)))
 
   pub transaction_past : (i : ℕ) → length r.transactions ≡ 8 → 7 < i → (run_in r).transaction i ≡ transaction_in no_transaction
   unfolding run_in

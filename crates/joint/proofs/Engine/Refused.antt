@@ -17,9 +17,6 @@ use Rattle.joint.specs.Inside.{taken, refusal}
 use Rattle.joint.specs.declared.answers.Counts.{Counts}
 use Rattle.joint.specs.declared.answers.Answer.{Answer}
 use Rattle.joint.specs.declared.answers.Answer.TheVariants as answer
-use Rattle.joint.specs.contracts.answers.Answer.{the_type}
-use denote.Enum.Declared.{tag_of}
-use types.Run.{OneOf, miss}
 
 -- ---- an answer is an acceptance, or a refusal that counts nothing
 
@@ -36,12 +33,10 @@ answer_case answer.NeverSent = inr (6, (refl, refl))
 answer_case answer.NotAllowed = inr (7, (refl, refl))
 answer_case answer.CutTooFar = inr (8, (refl, refl))
 
--- by its tag
-module _ (a : Answer) (k : OneOf (1 ∷ 2 ∷ 3 ∷ 4 ∷ 5 ∷ 6 ∷ 7 ∷ 8 ∷ 9 ∷ []) (tag_of the_type a)) where
+-- where it is no acceptance
+module _ (a : Answer) (k : (c : Counts) → a ≡ answer.Accepted c → ⊥) where
   refused_as : (n : ℕ) × (answer_in a ≡ refusal_number (suc n))
-  refused_as =
-      let refused : Answer → Type 0 = λ a. OneOf (1 ∷ 2 ∷ 3 ∷ 4 ∷ 5 ∷ 6 ∷ 7 ∷ 8 ∷ 9 ∷ []) (tag_of the_type a) in
-      ⊎_elim (λ x. absurd (miss (1 ∷ 2 ∷ 3 ∷ 4 ∷ 5 ∷ 6 ∷ 7 ∷ 8 ∷ 9 ∷ []) 0 tt (subst refused x.1 k))) (λ x. (x.0, x.1.0)) (answer_case a)
+  refused_as = ⊎_elim (λ x. absurd (k x.0 x.1)) (λ x. (x.0, x.1.0)) (answer_case a)
 
   pub refused-number : (n : ℕ) × ((answer_in a).number ≡ suc n)
   unfolding refusal_number

@@ -1,13 +1,10 @@
 -- A row at its site: its records and its force, and what follows these.
 use Prim.Native.Nat.{ℕ}
 use mathlib.Core.Path.{◌≡◌, refl, sym, ap, ◌∙◌}
-use mathlib.Core.Bool.{false, not, ◌||◌}
+use mathlib.Core.Bool.{Bool, false, not, ◌||◌}
 use mathlib.Core.List.{List, [], ◌∷◌}
 use lib.Dec.{T, eqb}
 use borrow.Author.Tests.{eqb-true, not-false}
-use denote.Enum.Declared.{tag_of}
-use mir.Val.{has_key}
-use types.Run.{OneOf, miss}
 use Rattle.codec.specs.Laws.Tests.{or_none}
 use Rattle.site.specs.Step.{force, given}
 use Rattle.site.specs.Answers.{effects_in}
@@ -16,21 +13,20 @@ use Rattle.joint.specs.Inside.{site_after, then_site, moves, writes_log}
 use Rattle.joint.specs.declared.rows.Row.{Row}
 use Rattle.joint.specs.declared.rows.Then.{Then}
 use Rattle.joint.specs.declared.rows.Then.TheVariants as follows
-use Rattle.joint.specs.contracts.rows.Then.{the_type}
 use Rattle.joint.proofs.Base.Booleans.{clash}
 use Rattle.joint.proofs.Engine.Effects.{site-row, kind-none}
 
--- ---- what follows, by the keys that a match leaves: 4 is Discarded, 5 is Down
+-- ---- what follows, where a match leaves it
 
-pub unmoved : (ks : List ℕ) → T (not (has_key ks 4)) → T (not (has_key ks 5)) → (x : Then) → OneOf ks (tag_of the_type x) → moves x ≡ false
+pub unmoved : (x : Then) → ((last : Bool) → x ≡ follows.Discarded last → ⊥) → ((keep : ℕ) → x ≡ follows.Down keep → ⊥) → moves x ≡ false
 unfolding moves
-unmoved ks off cut follows.Same k = refl
-unmoved ks off cut (follows.Coordinator c out) k = refl
-unmoved ks off cut (follows.Participant c) k = refl
-unmoved ks off cut (follows.Opened m c) k = refl
-unmoved ks off cut (follows.Discarded last) k = absurd (miss ks 4 off k)
-unmoved ks off cut (follows.Down keep) k = absurd (miss ks 5 cut k)
-unmoved ks off cut follows.Marked k = refl
+unmoved follows.Same off cut = refl
+unmoved (follows.Coordinator c out) off cut = refl
+unmoved (follows.Participant c) off cut = refl
+unmoved (follows.Opened m c) off cut = refl
+unmoved (follows.Discarded last) off cut = absurd (off last refl)
+unmoved (follows.Down keep) off cut = absurd (cut keep refl)
+unmoved follows.Marked off cut = refl
 
 -- it goes down, and no record moves: none is kept
 pub unkept : (x : Then) (keep : ℕ) → x ≡ follows.Down keep → moves x ≡ false → keep ≡ 0
@@ -38,16 +34,16 @@ unfolding moves
 unkept x keep e d = eqb-true keep 0 (not-false _ (rw e at d))
 
 -- no record moves, and the site stays up
-pub unchanged : (ks : List ℕ) → T (not (has_key ks 5)) → (x : Then) → OneOf ks (tag_of the_type x) → moves x ≡ false
+pub unchanged : (x : Then) → ((keep : ℕ) → x ≡ follows.Down keep → ⊥) → moves x ≡ false
     → (t : ℕ) (a : Site) → a ≡ then_site t x a
 unfolding moves then_site
-unchanged ks off follows.Same k d t a = refl
-unchanged ks off (follows.Coordinator c out) k d t a = refl
-unchanged ks off (follows.Participant c) k d t a = refl
-unchanged ks off (follows.Opened m c) k d t a = refl
-unchanged ks off (follows.Discarded last) k d t a = absurd (clash d)
-unchanged ks off (follows.Down keep) k d t a = absurd (miss ks 5 off k)
-unchanged ks off follows.Marked k d t a = refl
+unchanged follows.Same off d t a = refl
+unchanged (follows.Coordinator c out) off d t a = refl
+unchanged (follows.Participant c) off d t a = refl
+unchanged (follows.Opened m c) off d t a = refl
+unchanged (follows.Discarded last) off d t a = absurd (clash d)
+unchanged (follows.Down keep) off d t a = absurd (off keep refl)
+unchanged follows.Marked off d t a = refl
 
 -- ---- a row that leaves the records
 

@@ -7,8 +7,6 @@ use mathlib.Core.Option.{Option, none, some}
 use lib.Dec.{eqb, ltb, leb}
 use native.Mathlib.Omega.{arith}
 use borrow.Author.Tests.{le-ltb}
-use denote.Enum.Declared.{tag_of}
-use types.Run.{OneOf, miss}
 use Rattle.codec.specs.Lists.{any}
 use Rattle.codec.specs.Sets.{participants, member}
 use Rattle.codec.specs.Laws.Tests.{below_at, true_of}
@@ -26,10 +24,11 @@ use Rattle.site.specs.declared.coordinator.CoordinatorRow.{CoordinatorRow}
 use Rattle.site.specs.declared.coordinator.CoordinatorAnswer.{CoordinatorAnswer}
 use Rattle.site.specs.declared.coordinator.CoordinatorAnswer.TheVariants as coordinator
 use Rattle.site.specs.declared.participant.Participant.{Participant}
+use Rattle.site.specs.declared.participant.ParticipantRow.{ParticipantRow}
 use Rattle.site.specs.declared.participant.ParticipantAnswer.{ParticipantAnswer}
+use Rattle.site.specs.declared.phases.CoordinatorPhase.{CoordinatorPhase}
+use Rattle.site.specs.declared.phases.ParticipantPhase.{ParticipantPhase}
 use Rattle.site.specs.declared.participant.ParticipantAnswer.TheVariants as participant
-use Rattle.site.specs.contracts.coordinator.CoordinatorAnswer as coordinator-answer
-use Rattle.site.specs.contracts.participant.ParticipantAnswer as participant-answer
 use Rattle.site.specs.Laws.Order.{ordered-none}
 use Rattle.joint.specs.State as plain
 use Rattle.joint.specs.State.{holds, recorded_cohort, update, with_coordinator, with_participant, with_marked, at_site, at_transaction, forgotten, stopped, down, perform_all}
@@ -40,7 +39,6 @@ use Rattle.joint.specs.Inside.{site_after, transaction_after, then_in, then_site
 use Rattle.joint.specs.declared.transactions.Transaction.{Transaction}
 use Rattle.joint.specs.declared.rows.Then.{Then}
 use Rattle.joint.specs.declared.rows.Then.TheVariants as follows
-use Rattle.joint.specs.contracts.rows.Then.{the_type}
 use Rattle.joint.proofs.Base.Placed.{update_twice, run_path, placed_as, placed_changed, performed}
 
 -- ---- a row without effects
@@ -54,25 +52,28 @@ no_effects_lem t = rw (ordered-none t 0) refl
 
 -- ---- what follows it, by its kind
 
-pub not-down : (th : Then) → OneOf (0 ∷ 1 ∷ 2 ∷ 3 ∷ 4 ∷ 6 ∷ []) (tag_of the_type th) → false ≡ goes_down th
+pub not-down : (th : Then) → ((keep : ℕ) → th ≡ follows.Down keep → ⊥) → false ≡ goes_down th
 unfolding goes_down
 not-down follows.Same k = refl
 not-down (follows.Coordinator c out) k = refl
 not-down (follows.Participant c) k = refl
 not-down (follows.Opened m c) k = refl
 not-down (follows.Discarded b) k = refl
-not-down (follows.Down keep) k = absurd (miss (0 ∷ 1 ∷ 2 ∷ 3 ∷ 4 ∷ 6 ∷ []) 5 tt k)
+not-down (follows.Down keep) k = absurd (k keep refl)
 not-down follows.Marked k = refl
 
-pub kept_transaction : (s : ℕ) (th : Then) (x : plain.Transaction) → OneOf (0 ∷ 5 ∷ []) (tag_of the_type th) → x ≡ then_transaction s th x
+pub kept_transaction : (s : ℕ) (th : Then) (x : plain.Transaction)
+    → ((p : CoordinatorPhase) (out : ℕ) → th ≡ follows.Coordinator p out → ⊥) → ((p : ParticipantPhase) → th ≡ follows.Participant p → ⊥)
+    → ((m c : ℕ) → th ≡ follows.Opened m c → ⊥) → ((last : Bool) → th ≡ follows.Discarded last → ⊥) → (th ≡ follows.Marked → ⊥)
+    → x ≡ then_transaction s th x
 unfolding then_transaction
-kept_transaction s follows.Same x k = refl
-kept_transaction s (follows.Coordinator c out) x k = absurd (miss (0 ∷ 5 ∷ []) 1 tt k)
-kept_transaction s (follows.Participant c) x k = absurd (miss (0 ∷ 5 ∷ []) 2 tt k)
-kept_transaction s (follows.Opened m c) x k = absurd (miss (0 ∷ 5 ∷ []) 3 tt k)
-kept_transaction s (follows.Discarded b) x k = absurd (miss (0 ∷ 5 ∷ []) 4 tt k)
-kept_transaction s (follows.Down keep) x k = refl
-kept_transaction s follows.Marked x k = absurd (miss (0 ∷ 5 ∷ []) 6 tt k)
+kept_transaction s follows.Same x a b c d e = refl
+kept_transaction s (follows.Coordinator p out) x a b c d e = absurd (a p out refl)
+kept_transaction s (follows.Participant p) x a b c d e = absurd (b p refl)
+kept_transaction s (follows.Opened m n) x a b c d e = absurd (c m n refl)
+kept_transaction s (follows.Discarded last) x a b c d e = absurd (d last refl)
+kept_transaction s (follows.Down keep) x a b c d e = refl
+kept_transaction s follows.Marked x a b c d e = absurd (e refl)
 
 -- ---- what a row does in a run
 
@@ -135,13 +136,13 @@ row-answered none true e = refl
 row-answered (some r) true e = refl
 row-answered o false e = cc
 
-pub no_coordinator-row : (t : ℕ) (a : CoordinatorAnswer) → OneOf (1 ∷ 2 ∷ []) (tag_of coordinator-answer.the_type a) → none ≡ row_of (coordinator_answer_in t a)
-no_coordinator-row t (coordinator.Row r) k = absurd (miss (1 ∷ 2 ∷ []) 0 tt k)
+pub no_coordinator-row : (t : ℕ) (a : CoordinatorAnswer) → ((r : CoordinatorRow) → a ≡ coordinator.Row r → ⊥) → none ≡ row_of (coordinator_answer_in t a)
+no_coordinator-row t (coordinator.Row r) k = absurd (k r refl)
 no_coordinator-row t coordinator.NoRow k = refl
 no_coordinator-row t coordinator.Refused k = refl
 
-pub no_participant-row : (t : ℕ) (a : ParticipantAnswer) → OneOf (1 ∷ 2 ∷ []) (tag_of participant-answer.the_type a) → none ≡ row_of (participant_answer_in t a)
-no_participant-row t (participant.Row r) k = absurd (miss (1 ∷ 2 ∷ []) 0 tt k)
+pub no_participant-row : (t : ℕ) (a : ParticipantAnswer) → ((r : ParticipantRow) → a ≡ participant.Row r → ⊥) → none ≡ row_of (participant_answer_in t a)
+no_participant-row t (participant.Row r) k = absurd (k r refl)
 no_participant-row t participant.NoRow k = refl
 no_participant-row t participant.Refused k = refl
 

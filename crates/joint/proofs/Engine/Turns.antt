@@ -9,8 +9,6 @@ use lib.ListN.{length, take, get_or, set, length-take}
 use lib.Seq.{get_or-set_same, get_or-set_other}
 use lib.Dec.{eqb}
 use native.Mathlib.Omega.{arith}
-use denote.Enum.Declared.{tag_of}
-use types.Run.{OneOf}
 use borrow.Author.Tests.{eqb-true, eqb-false, leb-true}
 use Rattle.codec.specs.Lists.{first, select}
 use Rattle.codec.specs.Image.{stored}
@@ -44,13 +42,12 @@ use Rattle.joint.specs.declared.events.Step.{Step}
 use Rattle.joint.specs.declared.events.Step.TheVariants as steps
 use Rattle.joint.specs.declared.restarts.Restarted.{Restarted}
 use Rattle.joint.specs.declared.run.Run.{Run}
-use Rattle.joint.specs.contracts.answers.Answer.{the_type}
 use Rattle.joint.proofs.Base.Lists.{select-take, among}
 use Rattle.joint.proofs.Base.History.{refusal-acts}
 use Rattle.joint.proofs.Base.Plans.{All, site_of}
 use Rattle.joint.proofs.Base.Forces.{held-sum, none-forced, event-forces}
 use Rattle.joint.proofs.Base.Placed.{run_path, acting-counted}
-use Rattle.joint.proofs.Engine.Reads.{site_at, getD-within, site_read, counts_stored, site-stored}
+use Rattle.joint.proofs.Engine.Reads.{site_at, get_or-within, site_read, counts_stored, site-stored}
 use Rattle.joint.proofs.Engine.Sites.{log-counted}
 use Rattle.joint.proofs.Engine.Refused.{answer_case, refused-number, refused_by, refuse-seen}
 use Rattle.joint.proofs.Engine.Rows.{forgotten_if, row_happens}
@@ -118,7 +115,7 @@ turned_at run next x n p parsed z low own d m counted forces e = (e, adds)
 
         go : (b : Bool) → eqb z s ≡ b → totals.held (get_or next.forces s 0) ≡ totals.held (totals.held (get_or run.forces s 0) + forces_at s (happened (run_in run) x))
         go true q =
-            rw (there, q, counted, ← eqb-true z s q, get_or-set_same run.forces z _ 0 low, getD-within run.forces z 0 d low, held-sum)
+            rw (there, q, counted, ← eqb-true z s q, get_or-set_same run.forces z _ 0 low, get_or-within run.forces z 0 d low, held-sum)
             (unfold totals.held totals.highest in omega arith)
         go false q = rw (there, q, counted, get_or-set_other run.forces z s _ 0 (λ h. eqb-false z s q (sym h)), held-sum) (unfold totals.held totals.highest in omega arith)
 
@@ -272,7 +269,7 @@ module _ (r : Run) (f : Full r) (s : ℕ) (low : s ≤ 8) (d : Site) (e : Record
       (λ i. record { answer = answer_in c.answer; run = record { site = site-stored r.sites r.records s c.log.site f.nine low c.log.records f.logs i; transaction = transactions_in c.transactions } })
       ∙ restarts
 
-  pub restart-refused : OneOf (1 ∷ 2 ∷ 3 ∷ 4 ∷ 5 ∷ 6 ∷ 7 ∷ 8 ∷ 9 ∷ []) (tag_of the_type c.answer) → ◌≡◌ {A = Seen} (record { answer = answer_in c.answer; run = run_in r }) (taken (run_in r) ev cut)
+  pub restart-refused : ((n : Counts) → c.answer ≡ answer.Accepted n → ⊥) → ◌≡◌ {A = Seen} (record { answer = answer_in c.answer; run = run_in r }) (taken (run_in r) ev cut)
   unfolding restarted_in
   restart-refused k =
       let n = refused-number c.answer k in

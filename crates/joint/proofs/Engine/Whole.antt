@@ -44,11 +44,9 @@ run-whole r vs p i d h =
     let l = p.1.1.1.0 in
     let e = l.1.0.1 in
     let n : length r.records ≡ 9 = search length-shown in
-    let R = Struct (shape records.the_type) in
-    let to = (records.the_type).to in
-    let one = one_of R.Denot R.own_val (map to r.records) l.0 l.1.1 i (simp length-map (omega (arith, h, n))) (to d) in
-    records-whole (get_or r.records i d) (one.0 ∷ [])
-    (subst (λ x. shadow (R.own_val x (one.0 ∷ []))) (get_or-map to r.records i d) one.1)
+    let R = records.the_row in
+    let one = one_of R.Denot R.own_val r.records l.0 l.1.1 i (omega (arith, h, n)) d in
+    records-whole (get_or r.records i d) (one.0 ∷ []) one.1
 
 pub run-held : (r : Run) (vs : List Val) → Is (row run.the_type) r vs → (s : ℕ) → get_or r.forces s 0 ≡ held (get_or r.forces s 0)
 unfolding held highest
@@ -57,8 +55,8 @@ run-held r vs p s = go (ltb s (length r.forces)) refl
     go : (b : Bool) → ltb s (length r.forces) ≡ b → get_or r.forces s 0 ≡ held (get_or r.forces s 0)
     go true h =
         let l = p.1.1.1.1.1.0 in
-        let one = one_of ℕ u64.own_val (map (λ v. v) r.forces) l.0 l.1.1 s (simp length-map (ltb-true s _ h)) 0 in
-        omega (arith, one.1.1, get_or-map (λ (v : ℕ). v) r.forces s 0)
+        let one = one_of u64.Denot u64.own_val r.forces l.0 l.1.1 s (ltb-true s _ h) 0 in
+        omega (arith, one.1.1)
     go false h = rw (get_or_past r.forces s 0 (ltb-false s _ h)) refl
 
 -- the stable records of a site, by its counts

@@ -193,6 +193,16 @@ module _ {t : ℕ} {m : Stage} {n : ℕ} {v : View} where
           ≡ site_with v.transaction.cohort 0 t (suc n) (is_up l.status) (stable_kinds l.status) (unforced_kinds l.status)
       at_status = λ a. site_with v.transaction.cohort 0 t (suc n) (l.reached.up a) (l.reached.stable a) (l.reached.unforced a)
 
+  carried_by : (i : Input) (x : Here true t m n v) → T (heard i (sent_in v (suc n))) → (f : ParticipantPhase → Part → Part) (g : View → View)
+      → (row : Row ParticipantPhase) → AllProper v.transaction.cohort (suc n) row.effects → ((y : Part) (u : View) → Reached t (suc n) v y u → Reached t (suc n) v (f row.phase y) (g u))
+      → T (row_test (presumption_of v.transaction.cohort (suc n)) (v.transaction.marked (suc n)) i x.status f row)
+      → (w : View) → Carried t (suc n) row.effects g v w → Elsewhere (suc n) v w × Here true t m n w
+  carried_by i x d f g row h reach k w whole =
+      member-after i x d (row-whole _ (v.transaction.marked (suc n)) i x.status f row k) (reach _ _ (reach_effects t (suc n) v row.effects h (from_member x)))
+  carried_by i x d f g row h reach k w (cut_after a b) =
+      member-after i x d (row_cut _ (v.transaction.marked (suc n)) i x.status f row k a b)
+      (reach_down t n v b (reach_effects t (suc n) v (take a row.effects) (each_take _ a row.effects h) (from_member x)))
+
   -- a row of the member, whole or cut
   pub member_carried : {w : View} {row : Row ParticipantPhase} (i : Input) (x : Here true t m n v) → T (heard i (sent_in v (suc n)))
       → AllProper v.transaction.cohort (suc n) row.effects
@@ -200,11 +210,7 @@ module _ {t : ℕ} {m : Stage} {n : ℕ} {v : View} where
       → ((y : Part) (u : View) → Reached t (suc n) v y u → Reached t (suc n) v (f row.phase y) (g u))
       → T (row_test (presumption_of v.transaction.cohort (suc n)) (v.transaction.marked (suc n)) i x.status f row)
       → Carried t (suc n) row.effects g v w → Elsewhere (suc n) v w × Here true t m n w
-  member_carried {row} i x d h f g reach k whole =
-      member-after i x d (row-whole _ (v.transaction.marked (suc n)) i x.status f row k) (reach _ _ (reach_effects t (suc n) v row.effects h (from_member x)))
-  member_carried {row} i x d h f g reach k (cut_after a b) =
-      member-after i x d (row_cut _ (v.transaction.marked (suc n)) i x.status f row k a b)
-      (reach_down t n v b (reach_effects t (suc n) v (take a row.effects) (each_take _ a row.effects h) (from_member x)))
+  member_carried {w = w} {row = row} i x d h f g reach k c = carried_by i x d f g row h reach k w c
 
   -- in front of each effect of it
   pub member_middle : (row : Row ParticipantPhase) (i : Input) (x : Here true t m n v) → AllProper v.transaction.cohort (suc n) row.effects

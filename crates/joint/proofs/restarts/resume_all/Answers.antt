@@ -1,0 +1,64 @@
+use Prim.Native.Nat.{ℕ, ◌-◌, ◌<◌}
+use mathlib.Core.Path.{◌≡◌, sym, ap, ◌∙◌}
+use mathlib.Core.Bool.{Bool, not}
+use mathlib.Core.List.{List, map}
+use lib.ListN.{length, take, get_or}
+use native.Mathlib.Omega.{arith}
+use borrow.Author.Rules.{rules}
+use Rattle.codec.specs.Sets.{empty}
+use Rattle.codec.specs.Answers.{record_in}
+use Rattle.site.specs.Answers.{effects_in}
+use Rattle.joint.specs.State as plain
+use Rattle.joint.specs.Answers.{transaction_in, transactions_in, no_transaction}
+use Rattle.joint.specs.Inside.{transaction_after, then_transaction, resumed_in}
+use Rattle.joint.specs.declared.transactions.Transaction.{Transaction}
+use Rattle.joint.proofs.Engine.Arrays.{length-shown}
+use Rattle.joint.proofs.Engine.Effects.{row-sends}
+use Rattle.joint.proofs.Engine.Transactions.{read_any}
+use Rattle.joint.proofs.Engine.Resuming.{Resuming, resuming_starts, resuming-row, resuming_passed, resuming_ends}
+use Rattle.joint.proofs.restarts.resume_all.Goals as goal
+
+pub loop-i-init : goal.loop-i-init
+loop-i-init c = resuming_starts _ _ _ _ _ (search length-shown)
+
+-- transaction i is read, and whether it is opened
+read : (l : List Transaction) (i : ℕ) (d : Transaction) → i < length l → transaction_in (get_or l i d) ≡ transactions_in l i
+read l i d h = ap transaction_in (read_any l i d no_transaction h)
+
+is_opened : (l : List Transaction) (i : ℕ) (d : Transaction) (o b : Bool) → i < length l → o ≡ not (empty (transaction_in (get_or l i d)).cohort.members) → o ≡ b
+    → not (empty (transactions_in l i).cohort.members) ≡ b
+is_opened l i d o b h w e = ap (λ (x : plain.Transaction). not (empty x.cohort.members)) (sym (read l i d h)) ∙ sym w ∙ e
+
+pub overflow_add-sends : goal.overflow_add-sends
+overflow_add-sends c =
+    let below : c.loop-i.i < 8 = omega arith in
+    record { fits = omega (arith, c.sends-sends.ensures.1, c.loop-i.invariant.few, below) }
+
+pub loop-i-preserved-then-opened : goal.loop-i-preserved-then-opened
+loop-i-preserved-then-opened c =
+    let l = c.loop-i in
+    let below : l.i < 8 = omega arith in
+    let within : l.i < length l.transactions = omega (arith, below, l.invariant.size) in
+    let a = c.args in
+    let hs = effects_in l.i c.cut-happened.result in
+    resuming-row a.site a.cut a.kinds.of _ a.transactions _ l.left l.sends l.i l.invariant below (is_opened l.transactions l.i _ c.opened.result _ within c.opened.ensures c.if-opened.true)
+    c.restart-row.result hs c.settle.result c.less-left.result c.sends-sends.result
+    (λ x e. c.restart-row.ensures x (read l.transactions l.i _ within ∙ e))
+    c.cut-happened.ensures
+    (c.settle.ensures ∙ ap (then_transaction a.site c.restart-row.result.then) (c.after-after.ensures l.i ∙ ap (transaction_after a.site hs) (read l.transactions l.i _ within)))
+    (c.less-left.ensures ∙ ap (λ (k : ℕ). l.left - k) (c.count.ensures l.i))
+    (c.sends-sends.ensures.0 l.i ∙ sym (row-sends l.i c.cut-happened.result))
+    c.sends-sends.ensures.1
+
+pub loop-i-preserved : goal.loop-i-preserved
+loop-i-preserved c =
+    let l = c.loop-i in
+    let below : l.i < 8 = omega arith in
+    let within : l.i < length l.transactions = omega (arith, below, l.invariant.size) in
+    resuming_passed _ _ _ _ _ _ l.left l.sends l.i l.invariant below (is_opened l.transactions l.i _ c.opened.result _ within c.opened.ensures c.if-opened.false)
+
+pub returns : goal.returns
+unfolding resumed_in
+returns c =
+    let w = c.loop-i in
+    resuming_ends _ _ _ _ _ w.transactions w.left w.sends w.i w.invariant c.loop-i-test.false

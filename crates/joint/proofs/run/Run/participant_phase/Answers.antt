@@ -1,0 +1,9 @@
+use mathlib.Core.Path.{ap, ◌∙◌}
+use borrow.Author.Rules.{rules}
+use Rattle.joint.specs.State as plain
+use Rattle.joint.proofs.run.Run.participant_phase.Goals as goal
+
+pub returns : goal.returns
+returns c =
+    let a = c.args in
+    c.participant_phase.ensures ∙ ap (λ (x : plain.Transaction). x.participant a.participant) c.transaction-found.ensures

@@ -1,0 +1,13 @@
+use mathlib.Core.Path.{refl}
+use Rattle.site.specs.Step.{given}
+use Rattle.joint.specs.Inside.{site_after}
+use borrow.Author.Rules.{rules}
+use Rattle.joint.proofs.sites.Site.force_if.Goals as goal
+
+pub returns-then-forced : goal.returns-then-forced
+unfolding given site_after
+returns-then-forced c = λ rs t all. rw c.if-forced.true (c.force.ensures rs all)
+
+pub returns : goal.returns
+unfolding given site_after
+returns c = λ rs t all. rw c.if-forced.false refl

@@ -1,0 +1,6 @@
+use Rattle.joint.proofs.Engine.Sites.{may_keep_lem}
+use borrow.Author.Rules.{rules}
+use Rattle.joint.proofs.sites.Site.may_keep.Goals as goal
+
+pub returns : goal.returns
+returns c = λ rs all. rw c.unforced_count.ensures (may_keep_lem c.args.self rs all c.args.keep)

@@ -1,0 +1,13 @@
+use mathlib.Core.Path.{◌≡◌}
+use lib.ListN.{length}
+use native.Mathlib.Omega.{arith}
+use Rattle.joint.proofs.Engine.Arrays.{length-shown}
+use Rattle.joint.proofs.Engine.Transactions.{phase-stored}
+use borrow.Author.Rules.{rules}
+use Rattle.joint.proofs.transactions.Transaction.with_participant.Goals as goal
+
+pub returns : goal.returns
+returns c =
+    let a = c.args in
+    let n : length a.self.participants ≡ 9 = search length-shown in
+    phase-stored a.self a.participant (omega arith) a.phase
