@@ -175,5 +175,5 @@ answered input start buffer len x h k e =
     record {
       few = omega arith;
       room = rw held (omega (arith, length-stored 0 (bytes_told es) start (omega arith)));
-      text = rw (n, held, ap (λ (y : Replayed). y.run) all, ap (λ (y : Replayed). y.totals) all, back);
+      text = ap (λ (y : Replayed). text_of y.count y.buffer y.run y.totals) all ∙ rw back refl;
     }

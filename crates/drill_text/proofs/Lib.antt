@@ -2,3 +2,4 @@ mod Stored
 mod Texts
 mod Digits
 mod Drilled
+mod FourNumbers
