@@ -3,11 +3,13 @@
 #![tactic(auto)]
 
 ghost use Rattle.std.specs.Prelude.{◌≡◌, ◌≤◌, length, take};
+ghost use Rattle.std.specs.Io.{ReadsAtMost};
 ghost use Rattle.io.specs.Counts.{IsPrefixLen};
 ghost use Rattle.joint.specs.Drill as drill;
 
 use drill_text::drill::drill;
-use libc::{STDIN_FILENO, STDOUT_FILENO};
+use std::io;
+use std::io::{Read, Write};
 
 // The lines of the drill, all of them, at the front of a text that is long enough: 10,000 lines of at most 22
 // bytes, 8 of 21, and 9 of at most 84.
@@ -19,10 +21,25 @@ fn lines(input: &[u8], text: &mut [u8]) -> usize
     drill(input, text)
 }
 
-fn main() {
+// Reads until the buffer is full or the input ends, and gives how many bytes it put at the start.
+fn read_full<R: Read>(input: &mut R, buffer: &mut [u8]) -> io::Result<usize>
+    ensures { ReadsAtMost result buffer.new }
+{
+    let mut done = 0;
+    while done < buffer.len() {
+        let n = input.read(&mut buffer[done..])?;
+        if n == 0 {
+            break;
+        }
+        done += n;
+    }
+    Ok(done)
+}
+
+fn main(rt: HostRuntime) -> io::Result<()> {
     let mut input = [0u8; 60000];
-    let read = io::read_full(STDIN_FILENO, &mut input);
+    let read = read_full(&mut rt.stdin(), &mut input)?;
     let mut text = [0u8; 220924];
     let size = lines(&input[..read], &mut text);
-    io::write_all(STDOUT_FILENO, &text[..size]);
+    rt.stdout().write_all(&text[..size])
 }

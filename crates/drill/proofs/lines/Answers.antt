@@ -1,20 +1,15 @@
 -- A text of 220,924 bytes is long enough for every drill, so what is counted is the drill. Assumes nothing.
-use Prim.Native.Nat.{ℕ, ◌+◌, ◌≤◌}
-use mathlib.Core.Path.{◌≡◌, sym, ap}
-use mathlib.Core.Bool.{true}
-use mathlib.Core.List.{List, ◌++◌}
+use Rattle.std.proofs.Common.{◌≡◌, ◌≤◌, length, take, ℕ, ◌+◌, true, List, ◌++◌, sym, ap}
+use Rattle.std.specs.Prelude.{drop}
+use Rattle.std.proofs.lemmas.Bool.{le-leb}
+use Rattle.std.proofs.lemmas.List.{length-append, take_at}
+use Rattle.std.proofs.Math.Dec.{leb}
 use native.Mathlib.Omega.{arith}
-use lib.Dec.{leb}
-use lib.ListN.{length, take, drop, length-append}
-use lib.Seq.{take_at}
-use borrow.Author.Rules.{rules}
-use borrow.Author.Tests.{le-leb}
 use Rattle.io.specs.Counts.{IsPrefixLen}
 use Rattle.codec.specs.Image.{stored, Written}
 use Rattle.codec.specs.Answers.{written}
 use Rattle.joint.specs.Drill.{drill, text_into, drill_into}
-use Rattle.drill.proofs.lines.Statement.{statement}
-use Rattle.drill.proofs.lines.Tie as tie
+use Rattle.drill.proofs.lines.Goals as goal
 
 whole : (input buffer text : List ℕ) (r : ℕ) → 220924 ≤ length buffer → length (drill input) ≤ 220924 → written r text ≡ drill_into input buffer
     → IsPrefixLen r text × (take r text ≡ drill input)
@@ -29,10 +24,10 @@ whole input buffer text r h k e =
     let room : r ≤ length text = rw (n, held, length-append) (omega arith) in
     ((room, rw front n), front)
 
-returns : tie.Need-returns
-returns c =
-    let d = c.before.before in
-    whole d.before.before.before.before.args.input.now _ _ _ d.before.before.before.before.requires d.drill.ensures.1 d.drill.ensures.0
+pub returns-clause-prefix_len : goal.returns-clause-prefix_len
+returns-clause-prefix_len c =
+    (whole c.args.input.now c.args.text.now c.drill.new.text c.drill.result c.requires c.drill.ensures.input_len_bound c.drill.ensures.text_after).0
 
-pub lines-spec : {M : Type 1} → statement M
-lines-spec = tie.close (tie.spec (λ c κs. tt) (λ c. search rules) returns)
+pub returns-clause-text_after : goal.returns-clause-text_after
+returns-clause-text_after c =
+    (whole c.args.input.now c.args.text.now c.drill.new.text c.drill.result c.requires c.drill.ensures.input_len_bound c.drill.ensures.text_after).1
