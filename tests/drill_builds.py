@@ -1,5 +1,5 @@
 """When bin/drill builds the drill, and what it says then."""
-import os, select, signal, subprocess, time
+import os, re, select, signal, subprocess, time
 from drill_runs import DRILL, LIMIT, executable, expect, stoppable, text_of, unheard
 
 
@@ -11,31 +11,29 @@ def on_builds(folder):
         os.makedirs(os.path.join(place, name))
     copy = executable(os.path.join(place, "bin", "drill"), text_of(DRILL).decode())
     sources = {name: os.path.join(place, "crates", name, "src", "lib.rt") for name in names}
-    calls, fail, wait = (os.path.join(place, name) for name in ("calls", "fail", "wait"))
-    # the i-th crate takes 11 * i seconds; it is proved where its source or that of one before it has changed
+    calls, fail, wait, slow = (os.path.join(place, name) for name in ("calls", "fail", "wait", "slow"))
+    # a crate is proved where its source or that of one before it has changed; rt's lines come on standard error, and the program that it runs writes too
     executable(os.path.join(place, "path", "rt"), f'''#!/bin/sh
 echo "$PWD $*" >>"{calls}"
 cat
-if [ -e "{fail}" ]; then i=0; while [ $i -lt 99 ]; do i=$((i + 1)); echo "line $i"; done; exit 1; fi
-mkdir -p target/bin target/stamp
-took=0 all=
+if [ -e "{fail}" ]; then i=0; while [ $i -lt 99 ]; do i=$((i + 1)); echo "line $i" >&2; done; exit 1; fi
+cd ../..
+mkdir -p crates/drill/out stamp
+all=
 for name in {" ".join(names)}; do
-  took=$((took + 11)) all="$all $(cat crates/$name/src/lib.rt)"
-  if [ "$all" = "$(cat target/stamp/$name 2>&1)" ]; then
-    echo "rt: $name proved (unchanged since it was last proved)"
-    continue
-  fi
-  printf '#!/bin/sh\\necho built; cat\\n' >target/bin/$name && chmod +x target/bin/$name
-  echo "$all" >target/stamp/$name
-  echo "fn $name::f: proved"
-  echo "rt: $name proved ($took s)"
+  all="$all $(cat crates/$name/src/lib.rt)"
+  [ "$all" != "$(cat stamp/$name 2>&1)" ] || [ $name = drill -a ! -e crates/drill/out/drill ] || continue
+  [ $name != joint -o ! -e "{slow}" ] || sleep 2
+  if [ $name = drill ]; then printf '#!/bin/sh\\necho built; cat\\n' >crates/drill/out/drill; chmod +x crates/drill/out/drill; fi
+  echo "$all" >stamp/$name
+  printf '%s\\n' "rt: chose --jobs 2 for $name" "fn $name::f: proved" "library core: modules loaded=1 checked=0" "crate $name: modules loaded=1 checked=1" "logic=proved functions=1" >&2
   while [ -e "{wait}" ]; do sleep 0.05; done
 done
-echo "rt: drill ran, and wrote what its file 'stdout' has (0 s)"
-echo "rt: ok, 5 crates proved"
+echo "rt: running out/drill" >&2
+crates/drill/out/drill
 ''')
     with open(os.path.join(place, "crates.txt"), "w") as f:
-        f.write("# drill: other\nother:\ncodec:\ncodec_cases: codec check\nsite: codec\njoint: site codec\ndrill_text: joint\ndrill: drill_text io libc\n")
+        f.write("# drill: other\nother:\ncodec:\ncodec_cases: codec check\ncodec_c staticlib: codec\nsite: codec\njoint: site codec\ndrill_text: joint\ndrill: drill_text io\n")
     for path in sources.values():
         with open(path, "w") as f:
             f.write("one\n")
@@ -45,15 +43,19 @@ echo "rt: ok, 5 crates proved"
     right = (0, b"built\nABCDEF")
 
     def proved(first, last=5):
-        return begins + "".join(f"bin/drill: proved {names[i - 1]} in {11 * i} s ({i} of 5)\n" for i in range(first, last + 1))
+        return begins + "".join(f"bin/drill: proved {names[i - 1]} in N s ({i} of 5)\n" for i in range(first, last + 1))
+
+    def untimed(said):
+        return re.sub(r" in \d+ s ", " in N s ", said.decode())
 
     def run(label, builds, said, wanted=right):
         with open(calls, "w"):
             pass
         got = subprocess.run([copy, "-x"], input=b"41 42 43 44 45 46", capture_output=True, timeout=LIMIT, env=env, cwd="/")
         expect(f"{label}: output", (got.returncode, got.stdout), wanted)
-        expect(f"{label}: builds", text_of(calls).decode(), f"{place} check drill\n" * builds)
-        expect(f"{label}: messages", got.stderr.decode(), said)
+        expect(f"{label}: builds", text_of(calls).decode(), f"{place}/crates/drill run\n" * builds)
+        expect(f"{label}: messages", untimed(got.stderr), said)
+        return [int(seconds) for seconds in re.findall(r" in (\d+) s ", got.stderr.decode())]
 
     def touch(path, seconds):
         os.utime(path, (time.time() + seconds, time.time() + seconds))
@@ -63,7 +65,11 @@ echo "rt: ok, 5 crates proved"
             f.write("more\n")
         touch(os.path.join(place, "target", "drill.mark"), -5)
 
-    run("first", 1, proved(1))
+    with open(slow, "w"):
+        pass
+    seconds = run("first", 1, proved(1))
+    expect("first: seconds of joint, of which it sleeps two", len(seconds) == 5 and 2 <= seconds[2] < LIMIT, True)
+    os.remove(slow)
     run("again", 0, "")
     change("drill")
     run("the last source changed", 1, proved(5))
@@ -74,7 +80,7 @@ echo "rt: ok, 5 crates proved"
     run("a source that is newer and the same", 1, begins)
     touch(sources["drill"], -5)
     run("a source that is older", 0, "")
-    os.remove(os.path.join(place, "target", "bin", "drill"))
+    os.remove(os.path.join(place, "crates", "drill", "out", "drill"))
     run("a program that is missing", 1, proved(5))
     run("again", 0, "")
 
@@ -92,7 +98,7 @@ echo "rt: ok, 5 crates proved"
     os.killpg(halted.pid, signal.SIGINT)  # the group of this run alone
     os.remove(wait)
     out, _ = halted.communicate(timeout=LIMIT)
-    expect("a build that is stopped: messages so far", said.decode(), proved(1, 1))
+    expect("a build that is stopped: messages so far", untimed(said), proved(1, 1))
     expect("a build that is stopped: status and output", (halted.returncode != 0, out), (True, b""))
     run("behind a build that was stopped", 1, proved(2))
 
@@ -108,7 +114,7 @@ echo "rt: ok, 5 crates proved"
     touch(os.path.join(place, "target", "drill.mark"), -50)
     with open(fail, "w"):
         pass
-    told = begins + "".join(f"line {i}\n" for i in range(80, 100)) + "bin/drill: 'rt check drill' failed; target/drill.log has what it said\n"
+    told = begins + "".join(f"line {i}\n" for i in range(80, 100)) + "bin/drill: 'rt run' in crates/drill failed; target/drill.log has what it said\n"
     run("a build that fails", 1, told, (1, b""))
     run("it fails again", 1, told, (1, b""))
     os.remove(fail)

@@ -3,7 +3,7 @@ import os, random, re, signal, subprocess
 
 TOP = os.path.dirname(os.path.dirname(os.path.abspath(__file__)))
 DRILL = os.path.join(TOP, "bin", "drill")
-PROGRAM = os.environ.get("DPR_DRILL") or os.path.join(TOP, "target", "bin", "drill")
+PROGRAM = os.environ.get("DPR_DRILL") or os.path.join(TOP, "crates", "drill", "out", "drill")
 LIMIT = 20  # seconds for one run
 MOST = 60000
 # what bin/drill says behind the name of an input
