@@ -2,8 +2,8 @@
  * firmware.
  *
  * Link libcodec.a for dpr_image_check, dpr_image_copy and dpr_message_parts, libsite.a for dpr_site_step, and
- * libdrill_text.a for dpr_drill and dpr_bill; none needs another. `rt staticlib codec`, `rt staticlib site` and
- * `rt staticlib drill_text` write them to target/staticlib.
+ * libdrill_text.a for dpr_drill and dpr_bill; none needs another. `bin/staticlib codec`, `bin/staticlib site` and
+ * `bin/staticlib drill_text` write them to target/staticlib.
  * They are compiled for x86-64, and need nothing of the C library but, at most, memcpy, memmove, memset, memcmp and bcmp.
  *
  * dpr_image_copy and dpr_message_parts return a number: DPR_ACCEPTED, or the number of a refusal. A refusal leaves the

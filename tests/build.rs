@@ -1,5 +1,5 @@
 //! Where the library of a package is, libcodec.a of codec-tests and so on: the folder that DPR_STATICLIB names, else the
-//! one that `rt staticlib` writes it to.
+//! one that `bin/staticlib` writes it to.
 
 fn main() {
     let home = std::env::var("CARGO_MANIFEST_DIR").unwrap();
