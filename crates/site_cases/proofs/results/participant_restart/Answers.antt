@@ -1,0 +1,4 @@
+use Rattle.site_cases.proofs.results.participant_restart.Goals as goal
+
+pub returns : goal.returns
+returns c = rw (c.participant_result.ensures 0, c.restart.ensures 0)
