@@ -2,7 +2,6 @@
 use mathlib.Core.Path.{◌≡◌, refl, ap, sym, ◌∙◌}
 use mathlib.Core.Bool.{Bool, true, false, cond, not, and-eq-true_iff}
 use mathlib.Core.List.{List, [], ◌∷◌, ◌++◌, map}
-use mathlib.Core.Logic.{⊎_elim}
 use Prim.Native.Nat.{ℕ, zero, suc, ◌+◌, ◌<◌, ◌≤◌}
 use native.Mathlib.Numerals.{add-one}
 use native.Mathlib.Omega.{arith}
@@ -17,9 +16,6 @@ use Rattle.codec.specs.Inside.{may_follow, answer_to, answer_on}
 use Rattle.codec.specs.declared.record.Record.{Record}
 use Rattle.codec.specs.declared.record.RecordAnswer.{RecordAnswer}
 use Rattle.codec.specs.declared.record.RecordAnswer.TheVariants.{Accepted, WrongKind, WrongTransaction, WrongField, OutOfSequence}
-use denote.Enum.Declared.{tag_of}
-use types.Run.{OneOf}
-use Rattle.codec.specs.contracts.record.RecordAnswer.{the_type}
 use Rattle.codec.specs.Laws.Refusals.{or_else, sound, tests_or}
 use Rattle.codec.proofs.Kept.{Kept, kept_none, kept_next, in_sequence_lem}
 

@@ -14,7 +14,7 @@ use Rattle.site.specs.Cohort.{Cohort, presumption_of}
 use Rattle.site.specs.Step.{prepare, read_only, coordinator_of}
 use Rattle.site.specs.Coordinator.{CoordinatorPhase, Coordinator}
 use Rattle.joint.specs.State.{Run, Site, fresh, coordinator_at, holds}
-use Rattle.joint.specs.Run.{event, after}
+use Rattle.joint.specs.Run.{after}
 use Rattle.joint.specs.Safety.{Moment, happened, history, along, is_entry, is_entry_at, is_vote, is_reply, in_doubt, commit_stable, outcome, steps, is_taking_out, taken_out, Happens, Safe, Demand3}
 use Rattle.joint.proofs.Base.Booleans.{or_left, or_right}
 use Rattle.joint.proofs.Base.History.{history_snoc}

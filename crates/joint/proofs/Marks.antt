@@ -19,7 +19,7 @@ use Rattle.joint.specs.State.{Run, Site, fresh, opened, holds}
 use Rattle.joint.specs.Event.{delivery, Parsed}
 use Rattle.joint.specs.Refusals.{refusals}
 use Rattle.joint.specs.Plan.{Plan}
-use Rattle.joint.specs.Run.{Result, refuse, event, after}
+use Rattle.joint.specs.Run.{Result, refuse, after}
 use Rattle.joint.specs.Safety.{Moment, history, steps, is_entry, is_vote, is_sending, Happens, accepts, is_taking_out, taken_out, marked, commit_stable, Marks, EveryMark}
 use Rattle.joint.proofs.Base.Booleans.{or-either, or_map, is_false}
 use Rattle.site.specs.Laws.Lists.{select-append}

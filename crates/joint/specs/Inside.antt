@@ -6,7 +6,7 @@ use Rattle.codec.specs.Sets.{member}
 use Rattle.codec.specs.Image.{stored}
 use Rattle.codec.specs.Records.{LogRecord, of_transaction}
 use Rattle.codec.specs.declared.record.Record.{Record}
-use Rattle.site.specs.Step.{prepare, messages, receiver, Effect, append}
+use Rattle.site.specs.Step.{prepare, messages, receiver, Effect}
 use Rattle.site.specs.Participant.{ParticipantPhase}
 use Rattle.site.specs.Numbers.{input_of, receives}
 use Rattle.site.specs.Answers.{effects_in, participant_in, has_kind}

@@ -6,7 +6,6 @@ use mathlib.Core.Logic.{inl, inr}
 use Prim.Native.Nat.{ℕ, zero, suc, ◌<◌, ◌≤◌}
 use native.Mathlib.Omega.{arith}
 use lib.ListN.{get_or-eq_default}
-use denote.Enum.Declared.{tag_of}
 use types.Run.{OneOf}
 use Rattle.site.specs.Presumption.{commit, abort}
 use Rattle.codec.specs.Sets.{empty, part}
@@ -18,7 +17,6 @@ use Rattle.site.specs.Numbers.{waiting_set, coordinator_from, participant_from, 
 use Rattle.site.specs.Answers.{coordinator_in, has_kind}
 use Rattle.site.specs.declared.phases.CoordinatorPhase.{CoordinatorPhase}
 use Rattle.site.specs.declared.phases.CoordinatorPhase.TheVariants.{Open, Collecting, Committing, Aborting, Unknown}
-use Rattle.site.specs.contracts.phases.CoordinatorPhase.{the_type}
 
 pub last-coordinator : (phase w : ℕ) → 4 ≤ phase → coordinator_from phase w ≡ coordinator.unknown
 unfolding coordinator_from

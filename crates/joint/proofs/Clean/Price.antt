@@ -8,7 +8,7 @@ use lib.ListN.{length, length-append}
 use lib.Dec.{T, eqb}
 use borrow.Author.Tests.{eqb-true}
 use Rattle.codec.specs.Lists.{select}
-use Rattle.codec.specs.Sets.{participants, member, empty, those, part, listed}
+use Rattle.codec.specs.Sets.{participants, member, empty, part, listed}
 use Rattle.codec.specs.Laws.Tests.{below_at, true_of}
 use Rattle.codec.specs.Laws.Masks.{those-below}
 use Rattle.site.specs.Presumption.{commit, presumedAbort, presumedCommit, acks}

@@ -1,7 +1,7 @@
 -- 02's own words: a list without timer, crash, cut, force and discard, and without a mark of t, does not disturb it.
 use Prim.Native.Nat.{ℕ}
 use mathlib.Core.Path.{◌≡◌, refl, sym, ap, ap₂, ◌∙◌}
-use mathlib.Core.Bool.{true, false, not, ◌||◌, and-false, true≢false}
+use mathlib.Core.Bool.{true, false, ◌||◌, and-false, true≢false}
 use mathlib.Core.List.{List, [], ◌∷◌}
 use native.Mathlib.Omega.{arith}
 use lib.ListN.{take, get_or}

@@ -19,7 +19,7 @@ use Rattle.site.specs.Cohort.{Cohort, writes_init, owing}
 use Rattle.site.specs.Coordinator.{CoordinatorPhase, preparing, on_begin, leaving, leaving_if, coordinator_step}
 use Rattle.site.specs.Step.{Message, prepare, voteYes, voteNo, read_only, tell, ack, messages, message_kind, coordinator_of, receiver}
 use Rattle.joint.specs.State.{Run, fresh, opened, takes_part, with_coordinator}
-use Rattle.joint.specs.Event.{opening, beginning, delivery, event_length, event_of, ranges, bytes_in_range, cut_in_range, cut_at, cut_of, parse}
+use Rattle.joint.specs.Event.{beginning, delivery, event_length, event_of, ranges, bytes_in_range, cut_in_range, cut_at, cut_of, parse}
 use Rattle.joint.specs.Refusals.{unopened, stranger, is_down, refusals}
 use Rattle.joint.specs.Plan.{row_plan, planned, step, plan}
 use Rattle.joint.specs.Run.{event, after}

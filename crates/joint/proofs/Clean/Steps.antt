@@ -1,7 +1,6 @@
 -- One event of a clean run: where it leaves the members and the coordinator, and what it pays.
 use Prim.Native.Nat.{ℕ, ◌+◌, ◌<◌}
 use mathlib.Core.Path.{◌≡◌, refl, sym, ap, ap₂, ◌∙◌, subst}
-use mathlib.Core.Logic.{◌≢◌}
 use mathlib.Core.Bool.{Bool, true, false, cond, not, ◌&&◌, ◌||◌, true≢false}
 use mathlib.Core.List.{List, [], ◌∷◌}
 use native.Mathlib.Omega.{arith}
@@ -16,7 +15,7 @@ use Rattle.site.specs.Step.{Message, prepare, voteYes, voteNo, read_only, tell, 
 use Rattle.joint.specs.State.{Run, Site, Transaction, Act, names, at_site, at_transaction, appended, forced, perform, perform_all}
 use Rattle.joint.specs.Plan.{acting}
 use Rattle.joint.specs.Run.{Result, is_append, is_force, is_send, count, answer_of}
-use Rattle.joint.specs.Laws.Effects.{transaction_after, counted}
+use Rattle.joint.specs.Laws.Effects.{transaction_after}
 use Rattle.joint.proofs.Base.Booleans.{or_not}
 use Rattle.joint.proofs.Base.Updates.{update_same, update-keeps}
 use Rattle.joint.proofs.Base.Placed.{performed, acting-counted}

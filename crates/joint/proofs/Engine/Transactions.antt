@@ -9,7 +9,7 @@ use lib.Dec.{eqb, leb, ltb, eqb→eq}
 use native.Mathlib.Omega.{arith}
 use borrow.Author.Tests.{eqb-true, eqb-false, ltb-true, ltb-false, lt-ltb, le-ltb, le-leb, leb-true}
 use Rattle.codec.specs.Lists.{any}
-use Rattle.codec.specs.Sets.{participants, member, either}
+use Rattle.codec.specs.Sets.{member, either}
 use Rattle.codec.specs.Laws.Tests.{below_at}
 use Rattle.codec.specs.Laws.Masks.{those-below, in_those}
 use Rattle.codec.specs.Laws.Members.{no_participant, numbered, no_member}

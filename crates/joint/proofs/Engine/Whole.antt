@@ -1,9 +1,9 @@
 -- What owning a run tells of its arrays: each site has 24 records, and a counter of 64 bits.
 use Prim.Native.Nat.{ℕ, zero, suc, ◌≤◌, ◌<◌}
-use mathlib.Core.Path.{◌≡◌, refl, ap, ◌∙◌, subst}
+use mathlib.Core.Path.{◌≡◌, refl, ap, ◌∙◌}
 use mathlib.Core.Bool.{Bool, true, false}
 use mathlib.Core.List.{List, [], ◌∷◌, map}
-use lib.ListN.{length, take, get_or, length-map, get_or-map}
+use lib.ListN.{length, take, get_or}
 use native.Mathlib.Omega.{arith}
 use mir.Val.{Val}
 use base.Fml.{Fml}
@@ -13,8 +13,7 @@ use denote.Array.{each}
 use denote.Builtin.{u64}
 use lib.Dec.{ltb}
 use borrow.Author.Tests.{ltb-true, ltb-false}
-use denote.Struct.Struct.{Struct}
-use denote.Struct.Declared.{row, shape}
+use denote.Struct.Declared.{row}
 use Rattle.codec.specs.Answers.{record_in}
 use Rattle.joint.specs.State as plain
 use Rattle.joint.specs.Totals.{highest, held}

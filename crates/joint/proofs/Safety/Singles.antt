@@ -20,7 +20,6 @@ use Rattle.joint.proofs.View.Carries.{after-forces}
 use Rattle.joint.proofs.Safety.Tables.{Status, unforced_kinds}
 use Rattle.joint.proofs.Safety.Finite.{at_status}
 use Rattle.joint.proofs.Safety.Invariant.{waiting, resting, down, Standing, never, initial, collecting, decided, kind_if, unforced_at, Place, Mid, Inv, cohort_of}
-use Rattle.joint.proofs.Safety.Participant.Rows.{single}
 use Rattle.joint.proofs.Safety.Participant.Local.{Local}
 use Rattle.joint.proofs.Safety.Participant.Places.{Middle}
 use Rattle.joint.proofs.Safety.Participant.Participants.{row_middle, return_middle}

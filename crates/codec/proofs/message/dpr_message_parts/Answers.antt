@@ -1,7 +1,6 @@
 use mathlib.Core.Path.{sym, ap, ◌∙◌}
 use Rattle.codec.specs.Answers.{parts_values}
 use Rattle.codec.proofs.Numbered.{parts_written_lem, parts_refused, refused-values}
-use borrow.Author.Rules.{rules}
 use Rattle.codec.proofs.message.dpr_message_parts.Goals as goal
 
 pub returns-in_default : goal.returns-in_default

@@ -2,7 +2,6 @@ use mathlib.Core.Path.{ap, ◌∙◌}
 use Rattle.codec.specs.Image.{read_image, check_image}
 use Rattle.codec.specs.Answers.{Values, image_values}
 use Rattle.codec.specs.Laws.Readings.{values-number, values-index}
-use borrow.Author.Rules.{rules}
 use Rattle.codec.proofs.reader.dpr_image_check.Goals as goal
 
 pub returns : goal.returns

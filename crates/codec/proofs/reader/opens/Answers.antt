@@ -1,8 +1,7 @@
 use mathlib.Core.Path.{sym, ◌∙◌}
-use Prim.Native.Nat.{◌-◌}
 use native.Mathlib.Omega.{arith}
 use Rattle.codec.specs.Image.{magic}
-use Rattle.codec.proofs.Opened.{Opening, opening-start, opening_next, opening_differs, opening_end, too_short, opens_by}
+use Rattle.codec.proofs.Opened.{opening-start, opening_next, opening_differs, opening_end, too_short, opens_by}
 use Rattle.codec.proofs.reader.opens.Goals as goal
 
 pub returns-then-bytes-lt-FIXED : goal.returns-then-bytes-lt-FIXED

@@ -1,12 +1,7 @@
 use mathlib.Core.Path.{◌≡◌, sym, ap, ◌∙◌}
-use mathlib.Core.Bool.{true, false, not, ◌||◌}
-use Prim.Native.Nat.{◌≤◌}
+use mathlib.Core.Bool.{false}
 use native.Mathlib.Omega.{arith}
-use borrow.Author.Tests.{not-true, not-false}
-use lib.Dec.{ltb}
-use lib.ListN.{length, take}
-use Rattle.codec.specs.Lists.{same}
-use Rattle.codec.specs.Image.{magic, site_in, count_in, over_limit}
+use Rattle.codec.specs.Image.{site_in, count_in, over_limit}
 use Rattle.codec.specs.Answers.{values}
 use Rattle.codec.proofs.Opened.{few-records, opens_long, not_opened, over, not-exact, by_records}
 use Rattle.codec.proofs.reader.read_image.Goals as goal

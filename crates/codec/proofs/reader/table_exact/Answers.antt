@@ -1,10 +1,8 @@
 use mathlib.Core.Path.{refl, sym, ◌∙◌}
-use Prim.Native.Nat.{◌-◌}
 use native.Mathlib.Omega.{arith}
-use borrow.Author.Rules.{rules}
 use borrow.Author.Tests.{lt-leb}
 use Rattle.codec.specs.Image.{head_length, count_in, table_exact}
-use Rattle.codec.specs.Laws.Pairs.{Exact, exact-start, exact_next, not-exact, exact_end}
+use Rattle.codec.specs.Laws.Pairs.{exact-start, exact_next, not-exact, exact_end}
 use Rattle.codec.proofs.reader.table_exact.Goals as goal
 
 pub bounds-bytes-5 : goal.bounds-bytes-5

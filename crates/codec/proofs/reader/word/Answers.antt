@@ -1,7 +1,6 @@
 use mathlib.Core.Path.{refl}
 use native.Mathlib.Omega.{arith}
 use Prim.Native.Nat.{◌+◌}
-use borrow.Author.Rules.{rules}
 use Rattle.codec.proofs.reader.word.Goals as goal
 
 pub overflow_mul-result : goal.overflow_mul-result

@@ -1,6 +1,5 @@
 use mathlib.Core.Path.{sym}
 use native.Mathlib.Omega.{arith}
-use borrow.Author.Rules.{rules}
 use Rattle.codec.specs.Laws.Masks.{minus_and}
 use Rattle.codec.proofs.sets.minus.Goals as goal
 

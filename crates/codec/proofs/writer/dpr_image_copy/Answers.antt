@@ -1,6 +1,5 @@
 use mathlib.Core.Path.{sym, ◌∙◌}
 use Rattle.codec.proofs.Copied.{copy_refused, copy_accepted, read_passed}
-use borrow.Author.Rules.{rules}
 use Rattle.codec.proofs.writer.dpr_image_copy.Goals as goal
 
 pub returns-then-answer-ne0 : goal.returns-then-answer-ne0

@@ -1,7 +1,7 @@
 use mathlib.Core.Path.{◌≡◌, ap, ◌∙◌}
 use Prim.Native.Nat.{◌≤◌}
 use native.Mathlib.Omega.{arith}
-use lib.ListN.{length, length-map, length-take, length-drop}
+use lib.ListN.{length, length-take, length-drop}
 use Rattle.codec.specs.Lists.{first}
 use Rattle.codec.specs.Image.{image, log_refusals}
 use Rattle.codec.specs.declared.log.Log.{Log}

@@ -1,12 +1,9 @@
-use mathlib.Core.Path.{◌≡◌, refl, ap}
+use mathlib.Core.Path.{◌≡◌}
 use mathlib.Core.List.{flatten}
 use Prim.Native.Nat.{◌+◌, ◌-◌}
-use native.Mathlib.Nat.{le_refl}
-use native.Mathlib.Omega.{arith}
-use lib.ListN.{length, length-append}
-use Rattle.codec.specs.Image.{head_length}
+use lib.ListN.{length}
 use Rattle.codec.specs.Inside.{bytes_in}
-use Rattle.codec.proofs.InTurn.{Counted, bytes_from, bytes_end, flat_next, counted_start, counted_next, head_fits, index_below, place_fits, next_fits, next_less, sum_fits}
+use Rattle.codec.proofs.InTurn.{Counted, bytes_from}
 use Rattle.codec.proofs.writer.size_of.Given as goal
 
 abbrev pub invariant-loop-i : goal.invariant-loop-i

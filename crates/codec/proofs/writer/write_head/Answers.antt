@@ -1,11 +1,10 @@
 use lib.ListN.{length-set}
 use mathlib.Core.Path.{◌≡◌, refl}
-use mathlib.Core.List.{◌∷◌, [], ◌++◌}
-use Prim.Native.Nat.{◌-◌, ◌≤◌, ◌<◌}
+use Prim.Native.Nat.{◌≤◌, ◌<◌}
 use native.Mathlib.Omega.{arith}
-use lib.ListN.{length, drop}
+use lib.ListN.{length}
 use Rattle.codec.specs.Image.{magic}
-use Rattle.codec.specs.Laws.Stored.{Left, left_front, left_next, left_end, set-stored, two-stored, next_last}
+use Rattle.codec.specs.Laws.Stored.{left_front, left_next, left_end, set-stored, two-stored, next_last}
 use Rattle.codec.proofs.Stored.{byte_next}
 use Rattle.codec.proofs.writer.write_head.Goals as goal
 use Rattle.codec.proofs.writer.write_head.Goals.{After-loop-i}

@@ -1,12 +1,8 @@
-use lib.ListN.{length-set}
-use mathlib.Core.Path.{◌≡◌, refl}
 use mathlib.Core.List.{◌∷◌, [], ◌++◌}
-use Prim.Native.Nat.{◌-◌, ◌≤◌, ◌<◌}
-use native.Mathlib.Omega.{arith}
-use lib.ListN.{length, drop}
+use Prim.Native.Nat.{◌-◌, ◌≤◌}
+use lib.ListN.{drop}
 use Rattle.codec.specs.Image.{magic}
-use Rattle.codec.specs.Laws.Stored.{Left, left_front, left_next, left_end, set-stored, two-stored, next_last}
-use Rattle.codec.proofs.Stored.{byte_next}
+use Rattle.codec.specs.Laws.Stored.{Left}
 use Rattle.codec.proofs.writer.write_head.Given as goal
 
 abbrev pub invariant-loop-i : goal.invariant-loop-i

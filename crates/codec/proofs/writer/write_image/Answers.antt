@@ -1,5 +1,4 @@
 use Rattle.codec.specs.Laws.Refusals.{write_refused}
-use borrow.Author.Rules.{rules}
 use Rattle.codec.proofs.writer.write_image.Goals as goal
 
 pub returns-then-refusal-ne0 : goal.returns-then-refusal-ne0

@@ -3,7 +3,6 @@ use mathlib.Core.List.{◌++◌}
 use lib.ListN.{length-set}
 use lib.Seq.{sets-eq}
 use Rattle.codec.specs.Image.{word, stored}
-use borrow.Author.Rules.{rules}
 use Rattle.codec.proofs.writer.write_pair.Goals as goal
 
 pub bounds-out-1 : goal.bounds-out-1

@@ -1,7 +1,6 @@
 use mathlib.Core.Path.{◌≡◌, ap, ◌∙◌}
 use mathlib.Core.List.{List}
 use Prim.Native.Nat.{ℕ}
-use mathlib.Core.Logic.{⊎_elim}
 use native.Mathlib.Omega.{arith}
 use lib.ListN.{length, set, length-set}
 use Rattle.codec.specs.Laws.Fields.{bytes_length, length_most}
@@ -13,7 +12,7 @@ use Rattle.codec.proofs.writer.write_record.Goals.{Then-size-gt3, then-size-gt2,
 kept : (c : Then-size-gt3) → length c.if-size-gt2.out ≡ length c.args.out.now
 kept c =
     elim c.if-size-gt2.branch [
-        then-size-gt2 w ↦ ap length w.out-is ∙ simp length-set
+      | then-size-gt2 w ↦ ap length w.out-is ∙ simp length-set
       | else-size-gt2 w ↦ ap length w.out-is ∙ simp length-set
     ]
 
@@ -33,7 +32,7 @@ pub returns-then-size-gt3 : goal.returns-then-size-gt3
 returns-then-size-gt3 c =
     let a = c.args in
     elim c.if-size-gt2.branch [
-        then-size-gt2 w ↦ ap (λ (l : List ℕ). set l 3 a.x.second) w.out-is ∙ stored_record a.x 2 a.out.now c.requires (omega (arith, bytes_length a.x, length_most a.x.kind))
+      | then-size-gt2 w ↦ ap (λ (l : List ℕ). set l 3 a.x.second) w.out-is ∙ stored_record a.x 2 a.out.now c.requires (omega (arith, bytes_length a.x, length_most a.x.kind))
       | else-size-gt2 w ↦ absurd (omega arith)
     ]
 
@@ -41,6 +40,6 @@ pub returns-else-size-gt3 : goal.returns-else-size-gt3
 returns-else-size-gt3 c =
     let a = c.args in
     elim c.if-size-gt2.branch [
-        then-size-gt2 w ↦ w.out-is ∙ stored_record a.x 1 a.out.now c.requires (omega arith)
+      | then-size-gt2 w ↦ w.out-is ∙ stored_record a.x 1 a.out.now c.requires (omega arith)
       | else-size-gt2 w ↦ w.out-is ∙ stored_record a.x 0 a.out.now c.requires (omega (arith, bytes_length a.x))
     ]

@@ -1,10 +1,8 @@
-use mathlib.Core.Path.{ap}
 use mathlib.Core.List.{flatten}
-use Prim.Native.Nat.{◌+◌, ◌-◌, zero-le}
-use native.Mathlib.Nat.{le_refl, le_trans, le-add_right}
+use Prim.Native.Nat.{◌-◌}
 use Rattle.codec.specs.Inside.{bytes_in}
-use Rattle.codec.specs.Laws.Stored.{Left, left_front, left_end, left-part, left_put}
-use Rattle.codec.proofs.InTurn.{Counted, bytes_from, bytes_end, flat_next, counted_start, counted_next, index_below, place_fits, next_fits, next_less, sum_fits}
+use Rattle.codec.specs.Laws.Stored.{Left}
+use Rattle.codec.proofs.InTurn.{Counted, bytes_from}
 use Rattle.codec.proofs.writer.write_records.Given as goal
 
 abbrev pub invariant-loop-i : goal.invariant-loop-i

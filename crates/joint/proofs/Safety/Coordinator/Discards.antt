@@ -14,7 +14,7 @@ use Rattle.joint.specs.State.{Site, forced}
 use Rattle.joint.specs.Plan.{closes, newest, closed}
 use Rattle.joint.proofs.Base.Booleans.{both_ways}
 use Rattle.joint.proofs.View.View.{View, view_at}
-use Rattle.joint.proofs.View.Turn.{whole, Up, Opened, trimmed_view, view_forget, view_discard}
+use Rattle.joint.proofs.View.Turn.{Up, Opened, trimmed_view, view_forget, view_discard}
 use Rattle.joint.proofs.Safety.Tables.{has}
 use Rattle.joint.proofs.Safety.Invariant.{Log, l0, l1, l12, l2, l123, l23, l3, l14, l4, kinds_in, class_of, waiting, resting, down, Standing, never, initial, collecting, decided, out_of, stage_of, has_decided, SetsFit, awaits_commit, init_log, stable_at, between, record_for, site_with, Mid, PhaseAs, Inv, cohort_of, log_fits}
 use Rattle.joint.proofs.Safety.Coordinator.Logs.{with_end, older, unended, resting_down, commit_record, waiting_unended, ending_unended, closed_fits, closed_kinds, closed_proper, may_close, older_fits, older_kinds, older_proper, end_unwritten}

@@ -18,7 +18,7 @@ use Rattle.joint.proofs.Base.Updates.{update_other}
 use Rattle.joint.proofs.View.View.{View, view_at, view_settle, view_perform}
 use Rattle.joint.proofs.Safety.Tables.{Status, has, Stage, is_counted, Fine, passes, ack_sent, may_send}
 use Rattle.joint.proofs.Safety.Coordinator.Passes.{pass_fine, send_fine}
-use Rattle.joint.proofs.Safety.Invariant.{Standing, never, out_of, stage_of, has_decided, standing_fits, proper_log, awaits_commit, SetsFit, Remains, standing_up, stable_at, unforced_at, is_never, site_with, sent_in, Place, Edge, Votes, Sound, Mid, cohort_of, Log, kinds_in, Pace, decided, waiting, resting}
+use Rattle.joint.proofs.Safety.Invariant.{Standing, out_of, stage_of, has_decided, standing_fits, proper_log, awaits_commit, SetsFit, Remains, standing_up, stable_at, unforced_at, is_never, site_with, sent_in, Place, Edge, Votes, Sound, Mid, cohort_of, Log, kinds_in, Pace, decided, waiting, resting}
 use Rattle.joint.proofs.Safety.Outcomes.{same_outcome_lem}
 use Rattle.joint.proofs.Safety.Sets.{belongs, not-empty}
 

@@ -1,5 +1,5 @@
 use Rattle.joint.proofs.Engine.Reads.{get_or-within}
-use Prim.Native.Nat.{ℕ, ◌-◌, ◌≤◌}
+use Prim.Native.Nat.{ℕ, ◌≤◌}
 use mathlib.Core.Path.{◌≡◌, sym, ap, ap₂, ◌∙◌}
 use mathlib.Core.Bool.{Bool, not, ◌&&◌}
 use mathlib.Core.List.{List}
@@ -9,7 +9,7 @@ use borrow.Author.Rules.{rules}
 use Rattle.joint.specs.Answers.{no_site}
 use Rattle.joint.specs.declared.sites.Site.{Site}
 use Rattle.joint.proofs.Engine.Arrays.{length-shown}
-use Rattle.joint.proofs.Engine.Ups.{Reached, first-down, reach_starts, one_down, reach_next, reach_ends}
+use Rattle.joint.proofs.Engine.Ups.{first-down, reach_starts, one_down, reach_next, reach_ends}
 use Rattle.joint.proofs.changes.all_up.Goals as goal
 
 read : (l : List Site) (i : ℕ) (d : Site) → length l ≡ 9 → i ≤ 8 → not (get_or l i no_site).up ≡ not (get_or l i d).up

@@ -1,10 +1,8 @@
 use mathlib.Core.Path.{sym, ◌∙◌}
 use native.Mathlib.Omega.{arith}
-use borrow.Author.Tests.{not-true, not-false}
 use Rattle.joint.specs.Answers.{answer_in}
 use Rattle.joint.specs.Inside.{change_in}
 use Rattle.joint.proofs.Engine.Changes.{carried_whole, cut_beyond, keep_beyond, carried_cut, may_keep_after}
-use borrow.Author.Rules.{rules}
 use Rattle.joint.proofs.changes.carry.Goals as goal
 
 pub returns-then-cut-eq-NO_CUT : goal.returns-then-cut-eq-NO_CUT

@@ -3,7 +3,6 @@ use borrow.Author.Tests.{not-true, not-false}
 use Rattle.joint.specs.Answers.{answer_in}
 use Rattle.joint.specs.Inside.{change_in}
 use Rattle.joint.proofs.Engine.Changes.{up_here, may_keep_here, crash-down, crash_beyond, crash_stops}
-use borrow.Author.Rules.{rules}
 use Rattle.joint.proofs.changes.crash.Goals as goal
 
 pub returns-then-not-site : goal.returns-then-not-site

@@ -4,17 +4,15 @@ use Prim.Native.Nat.{ℕ}
 use mathlib.Core.List.{List}
 use lib.ListN.{length}
 use lib.Dec.{eqb}
-use borrow.Author.Tests.{not-true, not-false}
 use Rattle.codec.specs.declared.record.Record.{Record}
 use Rattle.joint.specs.declared.sites.Site.{Site as ProgramSite}
 use Rattle.joint.specs.State as plain
 use Rattle.joint.specs.State.{Site}
 use Rattle.joint.specs.Plan.{may_discard}
-use Rattle.joint.specs.Answers.{site_from, transaction_in, answer_in}
+use Rattle.joint.specs.Answers.{site_from, answer_in}
 use Rattle.joint.specs.Inside.{change_in}
 use Rattle.joint.proofs.Engine.Arrays.{length-shown}
 use Rattle.joint.proofs.Engine.Changes.{site_struck, struck_by, may_discard_lem, still_remembers, discard-refused, discard_unallowed, discard_drops}
-use borrow.Author.Rules.{rules}
 use Rattle.joint.proofs.changes.discard.Goals as goal
 
 -- the site is up in the run as in the program

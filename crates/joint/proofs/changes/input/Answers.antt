@@ -1,14 +1,11 @@
-use Prim.Native.Nat.{ℕ}
 use mathlib.Core.Path.{◌≡◌, refl, sym, ap, ◌∙◌}
 use mathlib.Core.Bool.{not, ◌&&◌}
 use lib.Dec.{leb}
 use native.Mathlib.Omega.{arith}
 use Rattle.joint.specs.Answers.{transaction_in, answer_in}
-use Rattle.joint.specs.State as plain
-use Rattle.joint.specs.Inside.{change_in, found_in, Here, cut_from}
+use Rattle.joint.specs.Inside.{change_in, found_in, cut_from}
 use Rattle.joint.proofs.Engine.InputEvents.{input_struck, input_received}
 use Rattle.joint.proofs.Engine.Changes.{up_here, struck_by, input_refused, input_carried, input_fits, input_unallowed, input_nothing, nothing_fits}
-use borrow.Author.Rules.{rules}
 use Rattle.joint.proofs.changes.input.Goals as goal
 
 pub returns-then-not-opened : goal.returns-then-not-opened

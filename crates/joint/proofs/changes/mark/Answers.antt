@@ -1,15 +1,13 @@
-use Prim.Native.Nat.{ℕ}
 use mathlib.Core.Path.{◌≡◌, refl, sym, ap, ◌∙◌}
-use mathlib.Core.Bool.{Bool, true, false}
+use mathlib.Core.Bool.{false}
 use Rattle.site.specs.Answers.{participant_in}
 use Rattle.site.specs.declared.phases.ParticipantPhase.{ParticipantPhase}
 use Rattle.site.specs.declared.phases.ParticipantPhase.TheVariants as phases
 use Rattle.joint.specs.State as plain
 use Rattle.joint.specs.Plan.{is_working}
-use Rattle.joint.specs.Answers.{transaction_in, answer_in}
-use Rattle.joint.specs.Inside.{change_in, Here}
+use Rattle.joint.specs.Answers.{answer_in}
+use Rattle.joint.specs.Inside.{change_in}
 use Rattle.joint.proofs.Engine.Changes.{up_here, site_struck, struck_by, mark-refused, mark_unallowed, mark_marks}
-use borrow.Author.Rules.{rules}
 use Rattle.joint.proofs.changes.mark.Goals as goal
 
 not_working : (p : ParticipantPhase) → (p ≡ phases.Working → ⊥) → is_working (participant_in p) ≡ false

@@ -5,7 +5,6 @@ use Rattle.joint.specs.Inside.{change_in, then_in}
 use Rattle.joint.proofs.Engine.Changes.{one_down, open_before, open_down, open_opens}
 use Rattle.joint.specs.State.{opened}
 use Rattle.joint.specs.declared.rows.Then.TheVariants as follows
-use borrow.Author.Rules.{rules}
 use Rattle.joint.proofs.changes.open.Goals as goal
 
 pub returns-then-opened : goal.returns-then-opened

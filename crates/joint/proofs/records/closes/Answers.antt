@@ -10,7 +10,6 @@ use Rattle.codec.specs.Answers.{record_in}
 use Rattle.codec.specs.Laws.Tests.{alike, alike_eq, below, below_at}
 use Rattle.codec.specs.declared.record.Record.{Record}
 use Rattle.joint.specs.Plan.{closes}
-use borrow.Author.Rules.{rules}
 use Rattle.joint.proofs.records.closes.Goals as goal
 
 commit_closes : (x : Record) → x.kind ≡ 2 → not (awaits_acks (record_in x)) ≡ closes (record_in x)

@@ -1,5 +1,4 @@
 use Rattle.joint.proofs.Engine.Kinds.{one_more_bit}
-use borrow.Author.Rules.{rules}
 use Rattle.joint.proofs.records.with_bit.Goals as goal
 
 pub returns : goal.returns

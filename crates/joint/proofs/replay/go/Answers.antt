@@ -1,11 +1,10 @@
-use Prim.Native.Nat.{ℕ, suc, ◌+◌, ◌-◌, ◌*◌, ◌≤◌, ◌<◌, min}
+use Prim.Native.Nat.{ℕ, ◌+◌, ◌-◌, ◌*◌, ◌≤◌, ◌<◌, min}
 use mathlib.Core.Path.{◌≡◌, refl, sym, ap, ◌∙◌, subst}
 use mathlib.Core.Bool.{true}
 use mathlib.Core.List.{List, []}
 use mathlib.Core.Option.{none, some}
 use lib.ListN.{length, take, drop, get_or, set, length-set}
 use native.Mathlib.Omega.{arith}
-use borrow.Author.Rules.{rules}
 use Rattle.codec.specs.Lists.{select}
 use Rattle.codec.specs.Image.{stored}
 use Rattle.site.specs.Answers.{effects_in}
@@ -19,12 +18,10 @@ use Rattle.joint.specs.Drill.{answer_bytes}
 use Rattle.joint.specs.Totals.{forces_at}
 use Rattle.joint.specs.Program.{has_room, room_for}
 use Rattle.joint.specs.Answers.{site_from, no_records, transaction_in, transactions_in, run_in, forces_in, answer_in, refusal_number, seen}
-use Rattle.joint.specs.Inside.{step_in, step_site, step_transaction, StepInRange, event_in, change_in, cut_from, Here, taken, row_site, plan_in, Fits, then_transaction, transaction_after}
+use Rattle.joint.specs.Inside.{step_in, step_site, step_transaction, event_in, change_in, cut_from, Here, taken, row_site, plan_in, Fits, then_transaction, transaction_after}
 use Rattle.joint.specs.declared.answers.Answer.{Answer}
 use Rattle.joint.specs.declared.answers.Answer.TheVariants as variants
-use Rattle.joint.specs.declared.changes.Change.{Change}
 use Rattle.joint.specs.declared.events.Step.{Step}
-use Rattle.joint.specs.declared.rows.Row.{Row}
 use Rattle.joint.specs.declared.run.Run.{Run}
 use Rattle.joint.specs.declared.sites.Site.{Site}
 use Rattle.joint.specs.declared.transactions.Transaction.{Transaction}
@@ -33,7 +30,7 @@ use Rattle.joint.proofs.Engine.Arrays.{length-shown}
 use Rattle.joint.proofs.Engine.Reads.{site_at, site_read, transaction_read, transactions-stored}
 use Rattle.joint.proofs.Engine.Whole.{run-whole}
 use Rattle.joint.proofs.Engine.Refused.{refused-number}
-use Rattle.joint.proofs.Engine.Replays.{adds_none, ahead_start, ahead_ends, event_at_lem}
+use Rattle.joint.proofs.Engine.Replays.{adds_none, ahead_start, event_at_lem}
 use Rattle.joint.proofs.Engine.Turns.{Full, Going, Turned, going_next, turned_at, turned_refused, malformed_seen, parsed_seen, parsed_room, happens_seen, step_low, step-site, restart-stored, restart-refused, refused_change, decided_as, here, held, row_fits, log-stored, site_settled, whole-stored}
 use Rattle.joint.proofs.replay.go.Goals as goal
 use Rattle.joint.proofs.replay.go.Goals.{After-row_known-1, After-store-arg-in-Restart-1, Joined-writes, After-store-arg-in-Refused-1, then-rest-lt-EVENT_LENGTH, else-rest-lt-EVENT_LENGTH, in-Open, in-Input, in-Force, in-Discard, in-Crash, in-Mark, then-writes, else-writes}
@@ -47,7 +44,7 @@ piece bytes count size = take (6 * count + size - 6 * count) (drop (6 * count) b
 ended : (c : After-row_known-1) → 6 * c.loop-count.count + c.if-rest-lt-EVENT_LENGTH.size ≡ min (6 * c.loop-count.count + 6) (length c.args.bytes.now)
 ended c =
     elim c.if-rest-lt-EVENT_LENGTH.branch [
-        then-rest-lt-EVENT_LENGTH w ↦ omega (arith, w.size-is)
+      | then-rest-lt-EVENT_LENGTH w ↦ omega (arith, w.size-is)
       | else-rest-lt-EVENT_LENGTH w ↦ omega (arith, w.size-is)
     ]
 
@@ -342,15 +339,15 @@ module _ (c : After-store-arg-in-Refused-1) where
       let qs = c.site-s.ensures in
       let qt = c.transaction-t.ensures in
       elim c.match-step.branch [
-          in-Open w ↦ decided_as v w.in-Open.is qs qt w.change-is (w.open-change.ensures v (λ i. refl) (own_refused _ (qt ∙ ap step_transaction w.in-Open.is)))
+        | in-Open w ↦ decided_as v w.in-Open.is qs qt w.change-is (w.open-change.ensures v (λ i. refl) (own_refused _ (qt ∙ ap step_transaction w.in-Open.is)))
         | in-Input w ↦
-          decided_as v w.in-Input.is qs qt w.change-is
-          (w.input-change.ensures v (placed_refused _ w.in-Input.is) (own_refused _ (qt ∙ ap step_transaction w.in-Input.is))
-          (sym (ap (λ (e : Step). room_for v (step_in e).event) w.in-Input.is) ∙ parsed_room v x_refused _ parse_is_refused h))
+            decided_as v w.in-Input.is qs qt w.change-is
+            (w.input-change.ensures v (placed_refused _ w.in-Input.is) (own_refused _ (qt ∙ ap step_transaction w.in-Input.is))
+            (sym (ap (λ (e : Step). room_for v (step_in e).event) w.in-Input.is) ∙ parsed_room v x_refused _ parse_is_refused h))
         | in-Force w ↦ decided_as v w.in-Force.is qs qt w.change-is (w.force-change.ensures v _ _ (placed_refused _ w.in-Force.is))
         | in-Discard w ↦
-          decided_as v w.in-Discard.is qs qt w.change-is
-          (w.discard-change.ensures v (site_read run_refused number_refused _ _ full_refused.nine full_refused.logs low_refused ∙ ap v.site (qs ∙ ap step_site w.in-Discard.is)) (own_refused _ (qt ∙ ap step_transaction w.in-Discard.is)))
+            decided_as v w.in-Discard.is qs qt w.change-is
+            (w.discard-change.ensures v (site_read run_refused number_refused _ _ full_refused.nine full_refused.logs low_refused ∙ ap v.site (qs ∙ ap step_site w.in-Discard.is)) (own_refused _ (qt ∙ ap step_transaction w.in-Discard.is)))
         | in-Crash w ↦ decided_as v w.in-Crash.is qs qt w.change-is (w.crash-change.ensures v _ _ (placed_refused _ w.in-Crash.is))
         | in-Mark w ↦ decided_as v w.in-Mark.is qs qt w.change-is (w.mark-change.ensures v (placed_refused _ w.in-Mark.is) (own_refused _ (qt ∙ ap step_transaction w.in-Mark.is)))
       ]
@@ -398,15 +395,15 @@ module _ (c : Joined-writes) where
       let qs = c.site-s.ensures in
       let qt = c.transaction-t.ensures in
       elim c.match-step.branch [
-          in-Open w ↦ decided_as v w.in-Open.is qs qt w.change-is (w.open-change.ensures v (λ i. refl) (own _ (qt ∙ ap step_transaction w.in-Open.is)))
+        | in-Open w ↦ decided_as v w.in-Open.is qs qt w.change-is (w.open-change.ensures v (λ i. refl) (own _ (qt ∙ ap step_transaction w.in-Open.is)))
         | in-Input w ↦
-          decided_as v w.in-Input.is qs qt w.change-is
-          (w.input-change.ensures v (placed _ w.in-Input.is) (own _ (qt ∙ ap step_transaction w.in-Input.is))
-          (sym (ap (λ (e : Step). room_for v (step_in e).event) w.in-Input.is) ∙ parsed_room v x _ parse_is h))
+            decided_as v w.in-Input.is qs qt w.change-is
+            (w.input-change.ensures v (placed _ w.in-Input.is) (own _ (qt ∙ ap step_transaction w.in-Input.is))
+            (sym (ap (λ (e : Step). room_for v (step_in e).event) w.in-Input.is) ∙ parsed_room v x _ parse_is h))
         | in-Force w ↦ decided_as v w.in-Force.is qs qt w.change-is (w.force-change.ensures v _ _ (placed _ w.in-Force.is))
         | in-Discard w ↦
-          decided_as v w.in-Discard.is qs qt w.change-is
-          (w.discard-change.ensures v (site_read run number _ _ full.nine full.logs low ∙ ap v.site (qs ∙ ap step_site w.in-Discard.is)) (own _ (qt ∙ ap step_transaction w.in-Discard.is)))
+            decided_as v w.in-Discard.is qs qt w.change-is
+            (w.discard-change.ensures v (site_read run number _ _ full.nine full.logs low ∙ ap v.site (qs ∙ ap step_site w.in-Discard.is)) (own _ (qt ∙ ap step_transaction w.in-Discard.is)))
         | in-Crash w ↦ decided_as v w.in-Crash.is qs qt w.change-is (w.crash-change.ensures v _ _ (placed _ w.in-Crash.is))
         | in-Mark w ↦ decided_as v w.in-Mark.is qs qt w.change-is (w.mark-change.ensures v (placed _ w.in-Mark.is) (own _ (qt ∙ ap step_transaction w.in-Mark.is)))
       ]
@@ -465,7 +462,7 @@ module _ (c : Joined-writes) where
       ≡ update c.site-s.result (λ _. row_site c.transaction-t.result c.in-Happens.row ((run_in c.loop-count.run).site c.site-s.result)) (run_in c.loop-count.run).site
   site_put h =
       elim c.if-writes.branch [
-          then-writes w ↦ ap (λ (r : Run). site_at r.sites r.records) w.run-is ∙ log-stored run full number low _ transaction c.in-Happens.row _ _ w.after-log.ensures (fits h)
+        | then-writes w ↦ ap (λ (r : Run). site_at r.sites r.records) w.run-is ∙ log-stored run full number low _ transaction c.in-Happens.row _ _ w.after-log.ensures (fits h)
         | else-writes w ↦ ap (λ (r : Run). site_at r.sites r.records) w.run-is ∙ site_settled run full number low _ transaction c.in-Happens.row _ w.settle-else-writes.ensures
       ]
 
@@ -473,9 +470,9 @@ module _ (c : Joined-writes) where
   full_put =
       let f = full in
       elim c.if-writes.branch [
-          then-writes w ↦
-          let all : length w.after-log.result.records.of ≡ 24 = search length-shown in
-          rw w.run-is (record { nine = simp length-set f.nine; logs = simp length-set f.logs; whole = whole-stored run.records number _ f.logs low all f.whole; eight = simp length-set f.eight; counters = simp length-set f.counters })
+        | then-writes w ↦
+            let all : length w.after-log.result.records.of ≡ 24 = search length-shown in
+            rw w.run-is (record { nine = simp length-set f.nine; logs = simp length-set f.logs; whole = whole-stored run.records number _ f.logs low all f.whole; eight = simp length-set f.eight; counters = simp length-set f.counters })
         | else-writes w ↦ rw w.run-is (record { nine = simp length-set f.nine; logs = f.logs; whole = f.whole; eight = simp length-set f.eight; counters = simp length-set f.counters })
       ]
 

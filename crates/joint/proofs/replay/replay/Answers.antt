@@ -4,7 +4,6 @@ use Rattle.joint.specs.Run.{after}
 use Rattle.joint.specs.Drill.{events_of}
 use Rattle.joint.proofs.Engine.Replays.{replay_none, replay_all}
 use Rattle.joint.proofs.Engine.Rooms.{rooms}
-use borrow.Author.Rules.{rules}
 use Rattle.joint.proofs.replay.replay.Goals as goal
 
 pub returns-then-answers-events : goal.returns-then-answers-events

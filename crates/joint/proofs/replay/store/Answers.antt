@@ -1,8 +1,5 @@
-use native.Mathlib.Omega.{arith}
-use lib.ListN.{length-set}
 use Rattle.joint.specs.Answers.{answer_in}
 use Rattle.joint.proofs.Engine.Replays.{answer-stored}
-use borrow.Author.Rules.{rules}
 use Rattle.joint.proofs.replay.store.Goals as goal
 
 pub returns : goal.returns

@@ -1,8 +1,7 @@
-use Prim.Native.Nat.{ℕ, zero, suc, ◌-◌, ◌≤◌}
+use Prim.Native.Nat.{ℕ, zero, suc}
 use mathlib.Core.Path.{◌≡◌, sym, ap, ◌∙◌}
 use lib.ListN.{length}
 use native.Mathlib.Omega.{arith}
-use borrow.Author.Rules.{rules}
 use Rattle.site.specs.Answers.{participant_in}
 use Rattle.site.specs.Participant.{ParticipantPhase}
 use Rattle.joint.specs.State as plain
@@ -10,7 +9,7 @@ use Rattle.joint.specs.State.{update, forgotten, with_coordinator, with_particip
 use Rattle.joint.specs.Answers.{no_held, transaction_in, no_transaction}
 use Rattle.joint.specs.declared.transactions.Held.{Held}
 use Rattle.joint.specs.declared.transactions.Transaction.{Transaction}
-use Rattle.joint.proofs.Engine.Arrays.{length-shown, all-default, Passed, pass_starts, pass_stores, pass_ends}
+use Rattle.joint.proofs.Engine.Arrays.{length-shown, all-default, pass_starts, pass_stores, pass_ends}
 use Rattle.joint.proofs.Base.Placed.{update-own}
 use Rattle.joint.proofs.Engine.Transactions.{read_any}
 use Rattle.joint.proofs.restarts.forget_all.Goals as goal
@@ -23,10 +22,13 @@ none_forgotten s = go s
   where
     x : plain.Transaction
     x = transaction_in no_transaction
+
     unknown : (s : ℕ) → x.participant s ≡ ParticipantPhase.unknown
     unknown s = unfold transaction_in in ap (λ (h : Held). participant_in h.phase) (all-default 9 s no_held)
+
     same : (s : ℕ) → x.participant ≡ update s (λ _. ParticipantPhase.unknown) x.participant
     same s = sym (update-own s x.participant) ∙ ap (λ (c : ParticipantPhase). update s (λ _. c) x.participant) (unknown s)
+
     go : (s : ℕ) → x ≡ forgotten s x
     go zero = λ i. record { cohort = x.cohort; coordinator = x.coordinator; participant = same 0 i; marked = x.marked; sent = x.sent; entered = x.entered }
     go (suc n) = λ i. record { cohort = x.cohort; coordinator = x.coordinator; participant = same (suc n) i; marked = x.marked; sent = x.sent; entered = x.entered }

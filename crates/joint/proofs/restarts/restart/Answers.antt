@@ -1,10 +1,8 @@
 use Prim.Native.Nat.{ℕ}
 use mathlib.Core.Path.{◌≡◌, ap, ◌∙◌}
-use mathlib.Core.List.{List, map}
+use mathlib.Core.List.{map}
 use lib.ListN.{length, take}
-use borrow.Author.Rules.{rules}
 use Rattle.codec.specs.Answers.{record_in}
-use Rattle.codec.specs.declared.record.Record.{Record}
 use Rattle.joint.specs.State as plain
 use Rattle.joint.specs.State.{holds}
 use Rattle.joint.specs.Answers.{site_from, transactions_in, answer_in}

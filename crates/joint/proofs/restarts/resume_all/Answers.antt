@@ -1,12 +1,10 @@
 use Prim.Native.Nat.{ℕ, ◌-◌, ◌<◌}
 use mathlib.Core.Path.{◌≡◌, sym, ap, ◌∙◌}
 use mathlib.Core.Bool.{Bool, not}
-use mathlib.Core.List.{List, map}
-use lib.ListN.{length, take, get_or}
+use mathlib.Core.List.{List}
+use lib.ListN.{length, get_or}
 use native.Mathlib.Omega.{arith}
-use borrow.Author.Rules.{rules}
 use Rattle.codec.specs.Sets.{empty}
-use Rattle.codec.specs.Answers.{record_in}
 use Rattle.site.specs.Answers.{effects_in}
 use Rattle.joint.specs.State as plain
 use Rattle.joint.specs.Answers.{transaction_in, transactions_in, no_transaction}
@@ -15,7 +13,7 @@ use Rattle.joint.specs.declared.transactions.Transaction.{Transaction}
 use Rattle.joint.proofs.Engine.Arrays.{length-shown}
 use Rattle.joint.proofs.Engine.Effects.{row-sends}
 use Rattle.joint.proofs.Engine.Transactions.{read_any}
-use Rattle.joint.proofs.Engine.Resuming.{Resuming, resuming_starts, resuming-row, resuming_passed, resuming_ends}
+use Rattle.joint.proofs.Engine.Resuming.{resuming_starts, resuming-row, resuming_passed, resuming_ends}
 use Rattle.joint.proofs.restarts.resume_all.Goals as goal
 
 pub loop-i-init : goal.loop-i-init

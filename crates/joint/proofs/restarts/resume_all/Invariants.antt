@@ -1,21 +1,8 @@
-use Prim.Native.Nat.{ℕ, ◌-◌, ◌<◌}
-use mathlib.Core.Path.{◌≡◌, sym, ap, ◌∙◌}
-use mathlib.Core.Bool.{Bool, not}
+use Prim.Native.Nat.{◌-◌}
 use mathlib.Core.List.{map}
-use lib.ListN.{take, get_or}
-use native.Mathlib.Omega.{arith}
-use borrow.Author.Rules.{rules}
-use Rattle.codec.specs.Sets.{empty}
+use lib.ListN.{take}
 use Rattle.codec.specs.Answers.{record_in}
-use Rattle.site.specs.Answers.{effects_in}
-use Rattle.joint.specs.State as plain
-use Rattle.joint.specs.Answers.{transaction_in, transactions_in, no_transaction}
-use Rattle.joint.specs.Inside.{transaction_after, then_transaction, resumed_in}
-use Rattle.joint.specs.declared.transactions.Transaction.{Transaction}
-use Rattle.joint.proofs.Engine.Arrays.{length-shown}
-use Rattle.joint.proofs.Engine.Effects.{row-sends}
-use Rattle.joint.proofs.Engine.Transactions.{read_any}
-use Rattle.joint.proofs.Engine.Resuming.{Resuming, resuming_starts, resuming-row, resuming_passed, resuming_ends}
+use Rattle.joint.proofs.Engine.Resuming.{Resuming}
 use Rattle.joint.proofs.restarts.resume_all.Given as goal
 
 abbrev pub invariant-loop-i : goal.invariant-loop-i

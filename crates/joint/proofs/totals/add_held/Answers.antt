@@ -1,5 +1,4 @@
 use native.Mathlib.Omega.{arith}
-use borrow.Author.Rules.{rules}
 use Rattle.joint.specs.Totals.{highest, held}
 use Rattle.joint.proofs.totals.add_held.Goals as goal
 

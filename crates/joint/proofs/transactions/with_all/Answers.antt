@@ -1,5 +1,4 @@
 use native.Mathlib.Omega.{arith}
-use borrow.Author.Rules.{rules}
 use Rattle.joint.proofs.Engine.Transactions.{member-either}
 use Rattle.joint.proofs.transactions.with_all.Goals as goal
 

@@ -1,13 +1,12 @@
-use Prim.Native.Nat.{◌-◌, ◌<◌}
+use Prim.Native.Nat.{◌<◌}
 use mathlib.Core.Path.{sym, ◌∙◌}
 use mathlib.Core.Bool.{true, false}
-use mathlib.Core.Logic.{⊎_elim}
 use lib.ListN.{length, length-append}
 use lib.Seq.{take_all}
 use native.Mathlib.Omega.{arith}
 use Rattle.site.specs.Coordinator.{in_turn}
 use Rattle.site.specs.Laws.Order.{in_turn_adds, both-same}
-use Rattle.site.proofs.Turned.{Walked, walk_starts, goes_on, walk_on, walk_ends}
+use Rattle.site.proofs.Turned.{walk_starts, goes_on, walk_on, walk_ends}
 use Rattle.site.proofs.effects.first_in_turn.Goals as goal
 use Rattle.site.proofs.effects.first_in_turn.Goals.{In-loop-left, then-member, else-member}
 
@@ -34,7 +33,7 @@ pub loop-left-preserved : goal.loop-left-preserved
 loop-left-preserved c =
     let on = walk_on c.args.start c.args.mask (omega (arith, c.requires)) c.args.most c.loop-left.taken c.loop-left.left c.loop-left.i c.loop-left.invariant (omega (arith, c.loop-left-test.true)) in
     elim c.if-member.branch [
-        then-member o ↦ rw (o.taken-is, o.left-is, o.either-taken.ensures, o.only.ensures) (on true (sym c.member.ensures ∙ o.if-member.true))
+      | then-member o ↦ rw (o.taken-is, o.left-is, o.either-taken.ensures, o.only.ensures) (on true (sym c.member.ensures ∙ o.if-member.true))
       | else-member o ↦ rw (o.taken-is, o.left-is) (on false (sym c.member.ensures ∙ o.if-member.false))
     ]
 

@@ -1,13 +1,5 @@
-use Prim.Native.Nat.{◌-◌, ◌<◌}
-use mathlib.Core.Path.{sym, ◌∙◌}
-use mathlib.Core.Bool.{true, false}
-use mathlib.Core.Logic.{⊎_elim}
-use lib.ListN.{length, length-append}
-use lib.Seq.{take_all}
-use native.Mathlib.Omega.{arith}
-use Rattle.site.specs.Coordinator.{in_turn}
-use Rattle.site.specs.Laws.Order.{in_turn_adds, both-same}
-use Rattle.site.proofs.Turned.{Walked, walk_starts, goes_on, walk_on, walk_ends}
+use Prim.Native.Nat.{◌-◌}
+use Rattle.site.proofs.Turned.{Walked}
 use Rattle.site.proofs.effects.first_in_turn.Given as goal
 
 abbrev pub invariant-loop-left : goal.invariant-loop-left

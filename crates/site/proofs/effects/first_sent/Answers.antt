@@ -18,6 +18,7 @@ starts c = rw c.pick-start.ensures (by (ltb 7 t) refl)
   where
     t : ℕ
     t = c.args.transaction
+
     by : (b : Bool) → ltb 7 t ≡ b → (cond b 0 t ≤ 7) × ((x : ℕ) → in_turn t x ≡ in_turn (cond b 0 t) x)
     by true e = (omega arith, λ x. turn_beyond t x (ltb-true 7 t e))
     by false e = (omega (arith, ltb-false 7 t e), λ x. refl)

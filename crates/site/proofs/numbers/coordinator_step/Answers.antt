@@ -1,14 +1,11 @@
-use Prim.Native.Nat.{ℕ}
 use mathlib.Core.Bool.{Bool, true, false, not, ◌&&◌, ◌||◌, and-false}
 use mathlib.Core.Path.{◌≡◌, refl, sym, ap, ◌∙◌}
 use lib.Dec.{eqb}
-use borrow.Author.Rules.{rules}
-use borrow.Author.Tests.{not-true, not-false, lt-ltb, le-ltb, eq-eqb, ne_eqb}
+use borrow.Author.Tests.{lt-ltb, le-ltb, eq-eqb, ne_eqb}
 use Rattle.site.specs.Presumption.{presumption_number}
 use Rattle.site.specs.Cohort.{presumption_of}
 use Rattle.site.specs.Answers.{arguments_in}
 use Rattle.site.specs.Numbers.{packed, refusal, no_values}
-use Rattle.site.specs.Numbers as numbers
 use Rattle.site.proofs.Accepted.{named, fits, coordinator-refused, coordinator-taken}
 use Rattle.site.proofs.numbers.coordinator_step.Goals as goal
 

@@ -1,6 +1,5 @@
 use Rattle.site.specs.Numbers.{packed}
 use native.Mathlib.Omega.{arith}
-use borrow.Author.Rules.{rules}
 use Rattle.site.proofs.numbers.packed.Goals as goal
 
 pub returns : goal.returns

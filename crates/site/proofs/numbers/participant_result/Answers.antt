@@ -1,10 +1,8 @@
 use mathlib.Core.Path.{sym}
 use Rattle.site.specs.Step.{answer_number}
 use Rattle.site.specs.Numbers.{summary_behind, summary, packed, row_values, no_values, participant_values, participant_result}
-use native.Mathlib.Omega.{arith}
 use Rattle.site.specs.Answers.{summary_in}
 use Rattle.site.proofs.Summed.{fits}
-use borrow.Author.Rules.{rules}
 use Rattle.site.proofs.numbers.participant_result.Goals as goal
 
 pub packed-requires-in-Row : goal.packed-requires-in-Row

@@ -1,7 +1,6 @@
 use mathlib.Core.Path.{◌≡◌, sym}
-use mathlib.Core.Bool.{true, false, not, and-eq-true_iff}
+use mathlib.Core.Bool.{true, false, and-eq-true_iff}
 use native.Mathlib.Omega.{arith}
-use borrow.Author.Tests.{not-true, not-false}
 use Rattle.codec.specs.Sets.{member}
 use Rattle.site.specs.Answers.{arguments_in}
 use Rattle.site.specs.Numbers.{packed, refusal, no_values, is_member}

@@ -2,7 +2,6 @@ use mathlib.Core.Path.{refl, sym}
 use native.Mathlib.Omega.{arith}
 use Rattle.site.specs.Answers.{has_kind}
 use Rattle.site.proofs.Phased.{no_kind}
-use borrow.Author.Rules.{rules}
 use Rattle.site.proofs.record_kinds.has.Goals as goal
 
 pub returns-then-kind-gt-LAST : goal.returns-then-kind-gt-LAST

@@ -1,10 +1,10 @@
 use mathlib.Core.Path.{◌≡◌, ap, sym, ◌∙◌}
 use mathlib.Core.List.{List, []}
 use mathlib.Core.Bool.{false}
-use Prim.Native.Nat.{ℕ, ◌-◌, ◌≤◌}
+use Prim.Native.Nat.{ℕ, ◌≤◌}
 use native.Mathlib.Omega.{arith}
 use borrow.Author.Rules.{rules}
-use lib.ListN.{length, get_or, length-map}
+use lib.ListN.{length, get_or}
 use Rattle.codec.specs.Lists.{first}
 use Rattle.codec.specs.Records.{record_refusals}
 use Rattle.codec.specs.Image.{over_limit, log_refusals}
@@ -13,7 +13,7 @@ use Rattle.codec.specs.Answers.{log_in, no_record, record_in, record_number}
 use Rattle.codec.specs.Inside.{bytes_in, answer_on}
 use Rattle.codec.specs.declared.record.Record.{Record}
 use Rattle.codec.specs.declared.record.RecordAnswer.{RecordAnswer}
-use Rattle.codec.proofs.Passed.{Passed, passed_none, passed_all, not-accepted}
+use Rattle.codec.proofs.Passed.{passed_none, passed_all, not-accepted}
 use Rattle.codec.proofs.Opened.{few-records}
 use Rattle.codec.proofs.Held.{held-count, held_bytes}
 use Rattle.codec.proofs.Checked.{answer_for, records-length, refused_limit, refused_record, log-stopped, log_next}
@@ -54,7 +54,6 @@ loop-i-init c =
 
 pub returns-in_default : goal.returns-in_default
 returns-in_default c =
-
     let l = c.args.self in
     let number = ap record_number (answered _ _ _ _ _ c.judged-answer.ensures c.behind.ensures) in
     c.number.ensures ∙ number

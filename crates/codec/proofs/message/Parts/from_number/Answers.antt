@@ -2,7 +2,6 @@ use mathlib.Core.Path.{sym, ap}
 use Rattle.codec.specs.Messages.{message_answer}
 use Rattle.codec.specs.Answers.{parts_values}
 use Rattle.codec.proofs.Numbered.{no_message, parts_of, vote_of}
-use borrow.Author.Rules.{rules}
 use Rattle.codec.proofs.message.Parts.from_number.Goals as goal
 
 pub returns-then-number-gt-LAST : goal.returns-then-number-gt-LAST

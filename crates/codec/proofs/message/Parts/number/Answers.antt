@@ -1,7 +1,6 @@
 use mathlib.Core.Path.{sym}
 use Rattle.codec.specs.Answers.{parts_in, number_values}
 use Rattle.codec.proofs.Numbered.{wrong_parts, number_of_lem, participant_one, low_number, vote_number}
-use borrow.Author.Rules.{rules}
 use Rattle.codec.proofs.message.Parts.number.Goals as goal
 
 pub returns-then-wrong : goal.returns-then-wrong

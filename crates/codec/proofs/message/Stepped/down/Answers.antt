@@ -1,7 +1,5 @@
-use mathlib.Core.Logic.{⊎_elim}
-use Prim.Native.Nat.{◌-◌}
 use native.Mathlib.Omega.{arith}
-use Rattle.codec.proofs.Numbered.{Stepping, not_stepped, step-taken, step_left, stepped}
+use Rattle.codec.proofs.Numbered.{not_stepped, step-taken, step_left, stepped}
 use Rattle.codec.proofs.message.Stepped.down.Goals as goal
 use Rattle.codec.proofs.message.Stepped.down.Goals.{then-step-rest, else-step-rest}
 
@@ -21,7 +19,7 @@ pub loop-tried-preserved : goal.loop-tried-preserved
 loop-tried-preserved c =
     let again = c.loop-tried-test.true in
     elim c.if-step-rest.branch [
-        then-step-rest w ↦ rw (w.steps-is, w.rest-is) (step-taken c.loop-tried.invariant w.if-step-rest.true again)
+      | then-step-rest w ↦ rw (w.steps-is, w.rest-is) (step-taken c.loop-tried.invariant w.if-step-rest.true again)
       | else-step-rest w ↦ rw (w.steps-is, w.rest-is) (step_left c.loop-tried.invariant w.if-step-rest.false again)
     ]
 

@@ -1,7 +1,5 @@
-use mathlib.Core.Logic.{⊎_elim}
 use Prim.Native.Nat.{◌-◌}
-use native.Mathlib.Omega.{arith}
-use Rattle.codec.proofs.Numbered.{Stepping, not_stepped, step-taken, step_left, stepped}
+use Rattle.codec.proofs.Numbered.{Stepping}
 use Rattle.codec.proofs.message.Stepped.down.Given as goal
 
 abbrev pub invariant-loop-tried : goal.invariant-loop-tried

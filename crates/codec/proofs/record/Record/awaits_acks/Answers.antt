@@ -25,9 +25,11 @@ module _ (x : Record) where
   with_two : length_of x.kind ≡ 4 → awaits_acks (record_in x) ≡ not (eqb (minus x.first x.second) 0)
   unfolding record_in awaits_acks members_in presume_commit_in empty
   with_two e = rw e
+
   with-one : x.kind ≡ 5 → x.first < 256 → awaits_acks (record_in x) ≡ not (eqb x.first 0)
   unfolding record_in awaits_acks members_in presume_commit_in empty length_of lengths
   with-one e h = rw (e, minus-none x.first h)
+
   with_none : length_of x.kind ≤ 2 → awaits_acks (record_in x) ≡ false
   unfolding record_in awaits_acks members_in presume_commit_in empty
   with_none h = let none : length_of x.kind - 2 ≡ 0 = omega arith in rw (none, minus-none 0 (omega arith))

@@ -1,7 +1,6 @@
 use mathlib.Core.Path.{sym}
 use native.Mathlib.Omega.{arith}
 use Rattle.codec.specs.Laws.Fields.{fields_init, fields_commit, fields_prepared, fields_other, fields-zero, fields_high}
-use borrow.Author.Rules.{rules}
 use Rattle.codec.proofs.record.Record.fields_in_range.Goals as goal
 
 pub returns-in-1 : goal.returns-in-1

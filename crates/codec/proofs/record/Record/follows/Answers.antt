@@ -1,7 +1,6 @@
 use mathlib.Core.Path.{sym, ◌∙◌}
 use Rattle.codec.specs.Inside.{next_kinds}
 use Rattle.codec.proofs.Behind.{newest_no_kind, next_no_kind, commit_behind_init, end_behind_commit, follows_is}
-use borrow.Author.Rules.{rules}
 use Rattle.codec.proofs.record.Record.follows.Goals as goal
 
 pub returns-then-before-gt-LAST_KIND : goal.returns-then-before-gt-LAST_KIND

@@ -1,5 +1,4 @@
 use Rattle.codec.specs.Inside.{record_from}
-use borrow.Author.Rules.{rules}
 use Rattle.codec.proofs.record.Record.from_bytes.Goals as goal
 
 pub returns : goal.returns

@@ -1,7 +1,5 @@
-use mathlib.Core.Path.{◌≡◌, sym, ◌∙◌}
-use mathlib.Core.Bool.{true}
-use borrow.Author.Tests.{not-true, not-false, lt-ltb, le-ltb}
-use Rattle.codec.specs.Records.{record_kind_at}
+use mathlib.Core.Path.{sym, ◌∙◌}
+use borrow.Author.Tests.{lt-ltb, le-ltb}
 use Rattle.codec.specs.Answers.{record_in}
 use Rattle.codec.specs.Inside.{answer_to}
 use Rattle.codec.specs.Laws.Fields.{judged_by}

@@ -1,6 +1,5 @@
 use native.Mathlib.Omega.{arith}
 use Rattle.codec.specs.Laws.Fields.{bytes_length}
-use borrow.Author.Rules.{rules}
 use Rattle.codec.proofs.record.Record.length.Goals as goal
 
 pub returns-then-length-lt2 : goal.returns-then-length-lt2

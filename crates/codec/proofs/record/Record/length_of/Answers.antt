@@ -1,9 +1,6 @@
 use mathlib.Core.Path.{sym, refl}
-use native.Mathlib.Omega.{arith}
 use lib.ListN.{get_or-eq_default}
 use Rattle.codec.specs.Records.{lengths, length_of}
-use Rattle.codec.specs.Laws.Fields.{length_most}
-use borrow.Author.Rules.{rules}
 use Rattle.codec.proofs.record.Record.length_of.Goals as goal
 
 pub returns-then-kind-gt-LAST_KIND : goal.returns-then-kind-gt-LAST_KIND

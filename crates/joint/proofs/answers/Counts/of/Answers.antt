@@ -1,6 +1,5 @@
 use mathlib.Core.Path.{refl, sym, ◌∙◌}
 use Rattle.joint.proofs.Engine.Effects.{row-records, row-forces, row-sends}
-use borrow.Author.Rules.{rules}
 use Rattle.joint.proofs.answers.Counts.of.Goals as goal
 
 pub returns : goal.returns

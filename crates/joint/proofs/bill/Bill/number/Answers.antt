@@ -1,5 +1,4 @@
 use native.Mathlib.Omega.{arith}
-use borrow.Author.Rules.{rules}
 use Rattle.joint.specs.Bill.{bill_number}
 use Rattle.joint.specs.Answers.{bill_in, refusal_number}
 use Rattle.joint.proofs.bill.Bill.number.Goals as goal

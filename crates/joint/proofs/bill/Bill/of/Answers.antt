@@ -1,6 +1,6 @@
 use Prim.Native.Nat.{◌≤◌}
 use mathlib.Core.Path.{◌≡◌, sym}
-use mathlib.Core.Bool.{true, false}
+use mathlib.Core.Bool.{false}
 use native.Mathlib.Omega.{arith}
 use Rattle.codec.specs.Laws.Listed.{size-most}
 use Rattle.joint.specs.Answers.{bill_in}

@@ -1,7 +1,6 @@
-use Prim.Native.Nat.{ℕ, ◌≤◌}
-use mathlib.Core.Path.{◌≡◌, refl, ap}
+use Prim.Native.Nat.{◌≤◌}
+use mathlib.Core.Path.{refl, ap}
 use mathlib.Core.Bool.{not, and-false}
-use mathlib.Core.List.{List}
 use native.Mathlib.Omega.{arith}
 use lib.ListN.{get_or}
 use borrow.Author.Rules.{rules}
@@ -9,7 +8,7 @@ use borrow.Author.Tests.{ne_eqb}
 use Rattle.codec.specs.Lists.{any, only_if}
 use Rattle.joint.specs.Event.{ranges, event_of, cut_at, cut_of}
 use Rattle.joint.specs.Inside.{event_in, step_in, input_event, begins, times}
-use Rattle.joint.proofs.Engine.EventRanges.{none_below, parse_by, Accepted, accepted}
+use Rattle.joint.proofs.Engine.EventRanges.{parse_by, accepted}
 use Rattle.joint.proofs.Engine.Inputs.{message-event, message_asks}
 use Rattle.joint.proofs.events.Event.read.Goals as goal
 

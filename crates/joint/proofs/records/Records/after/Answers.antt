@@ -1,16 +1,12 @@
 use mathlib.Core.Path.{◌≡◌, ap, ◌∙◌}
-use Prim.Native.Nat.{ℕ}
-use mathlib.Core.List.{List, [], ◌∷◌}
 use lib.ListN.{length}
 use Rattle.site.specs.Answers.{effects_in}
 use Rattle.joint.specs.State.{stopped}
 use Rattle.joint.specs.Plan.{trimmed}
 use Rattle.joint.specs.Answers.{site_from}
-use Rattle.joint.specs.Inside.{site_after, then_site, row_site, Fits}
+use Rattle.joint.specs.Inside.{site_after, then_site, row_site}
 use Rattle.joint.proofs.Engine.Arrays.{length-shown}
-use Rattle.joint.proofs.Engine.Sites.{row-length}
 use Rattle.joint.proofs.Engine.RowSites.{unmoved, unchanged}
-use borrow.Author.Rules.{rules}
 use Rattle.joint.proofs.records.Records.after.Goals as goal
 
 pub returns-in-Discarded : goal.returns-in-Discarded

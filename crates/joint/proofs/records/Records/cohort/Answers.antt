@@ -1,8 +1,6 @@
 use mathlib.Core.Path.{◌≡◌}
 use mathlib.Core.Bool.{cond}
-use lib.ListN.{length}
 use native.Mathlib.Omega.{arith}
-use borrow.Author.Rules.{rules}
 use Rattle.joint.proofs.Engine.Arrays.{length-shown}
 use Rattle.joint.proofs.Engine.Walks.{none_recorded, masks_recorded}
 use Rattle.joint.proofs.records.Records.cohort.Goals as goal
@@ -12,7 +10,7 @@ use Rattle.joint.proofs.records.Records.cohort.Goals.{Joined-commit, then-commit
 kind : (j : Joined-commit) → j.if-commit.kind ≡ cond j.args.commit 2 1
 kind j =
     elim j.if-commit.branch [
-        then-commit w ↦ rw w.if-commit.true w.kind-is
+      | then-commit w ↦ rw w.if-commit.true w.kind-is
       | else-commit w ↦ rw w.if-commit.false w.kind-is
     ]
 

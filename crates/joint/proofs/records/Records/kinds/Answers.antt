@@ -1,15 +1,14 @@
-use Prim.Native.Nat.{◌≤◌, ◌+◌, ◌-◌}
+use Prim.Native.Nat.{◌≤◌, ◌+◌}
 use mathlib.Core.Path.{◌≡◌, refl}
 use mathlib.Core.Bool.{true, ◌&&◌, and-eq-true_iff}
 use native.Mathlib.Omega.{arith}
-use borrow.Author.Rules.{rules}
 use borrow.Author.Tests.{leb-true}
 use lib.ListN.{length, get_or, length-set}
 use lib.Dec.{leb}
 use Rattle.codec.specs.Answers.{no_record}
 use Rattle.codec.specs.declared.record.Record.{Record}
 use Rattle.joint.proofs.Engine.Arrays.{length-shown}
-use Rattle.joint.proofs.Engine.Walks.{Collected, collect_starts, collect_more, collect_none}
+use Rattle.joint.proofs.Engine.Walks.{collect_starts, collect_more, collect_none}
 use Rattle.joint.proofs.records.Records.kinds.Goals as goal
 
 -- transaction and kind are asked for

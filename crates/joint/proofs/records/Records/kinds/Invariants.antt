@@ -1,14 +1,7 @@
-use Prim.Native.Nat.{◌≤◌, ◌+◌, ◌-◌}
-use mathlib.Core.Path.{◌≡◌, refl}
-use mathlib.Core.Bool.{and-eq-true_iff}
-use native.Mathlib.Omega.{arith}
-use borrow.Author.Rules.{rules}
-use borrow.Author.Tests.{leb-true}
-use lib.ListN.{length, get_or, length-set}
-use lib.Dec.{leb}
-use Rattle.codec.specs.Answers.{no_record}
-use Rattle.joint.proofs.Engine.Arrays.{length-shown}
-use Rattle.joint.proofs.Engine.Walks.{Collected, collect_starts, collect_more, collect_none}
+use Prim.Native.Nat.{◌≤◌, ◌-◌}
+use mathlib.Core.Path.{◌≡◌}
+use lib.ListN.{length}
+use Rattle.joint.proofs.Engine.Walks.{Collected}
 use Rattle.joint.proofs.records.Records.kinds.Given as goal
 
 abbrev pub invariant-loop-i : goal.invariant-loop-i

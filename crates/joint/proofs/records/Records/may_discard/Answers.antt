@@ -1,11 +1,9 @@
-use Prim.Native.Nat.{◌≤◌, ◌-◌}
+use Prim.Native.Nat.{◌-◌}
 use mathlib.Core.Path.{◌≡◌, refl, sym, ◌∙◌}
-use mathlib.Core.List.{map}
 use native.Mathlib.Omega.{arith}
-use borrow.Author.Rules.{rules}
-use lib.ListN.{length, take, get_or}
+use lib.ListN.{length, get_or}
 use Rattle.codec.specs.Records.{of_transaction}
-use Rattle.codec.specs.Answers.{record_in, no_record}
+use Rattle.codec.specs.Answers.{no_record}
 use Rattle.codec.specs.Lists.{select}
 use Rattle.joint.specs.Plan.{closes, newest}
 use Rattle.joint.proofs.Engine.Arrays.{length-shown}

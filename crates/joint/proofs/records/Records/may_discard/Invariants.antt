@@ -1,15 +1,11 @@
-use Prim.Native.Nat.{◌≤◌, ◌-◌}
-use mathlib.Core.Path.{◌≡◌, refl, sym, ◌∙◌}
+use Prim.Native.Nat.{◌≤◌}
+use mathlib.Core.Path.{◌≡◌}
 use mathlib.Core.List.{map}
-use native.Mathlib.Omega.{arith}
-use borrow.Author.Rules.{rules}
-use lib.ListN.{length, take, get_or}
+use lib.ListN.{length, take}
 use Rattle.codec.specs.Records.{of_transaction}
-use Rattle.codec.specs.Answers.{record_in, no_record}
+use Rattle.codec.specs.Answers.{record_in}
 use Rattle.codec.specs.Lists.{select}
 use Rattle.joint.specs.Plan.{closes, newest}
-use Rattle.joint.proofs.Engine.Arrays.{length-shown}
-use Rattle.joint.proofs.Engine.Walks.{of_it, of_another, newest_here, newest-before}
 use Rattle.joint.proofs.records.Records.may_discard.Given as goal
 
 abbrev pub invariant-loop-i : goal.invariant-loop-i

@@ -1,9 +1,7 @@
-use Prim.Native.Nat.{suc, ◌≤◌, ◌+◌, ◌-◌}
+use Prim.Native.Nat.{suc, ◌+◌}
 use mathlib.Core.Path.{◌≡◌, refl, sym}
-use mathlib.Core.List.{map}
 use native.Mathlib.Omega.{arith}
-use borrow.Author.Rules.{rules}
-use lib.ListN.{length, take}
+use lib.ListN.{length}
 use Rattle.codec.specs.Records.{of_transaction}
 use Rattle.codec.specs.Answers.{record_in}
 use Rattle.joint.specs.Inside.{oldest_at, sought}

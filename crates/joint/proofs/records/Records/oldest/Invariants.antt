@@ -1,14 +1,9 @@
-use Prim.Native.Nat.{suc, ◌≤◌, ◌+◌, ◌-◌}
-use mathlib.Core.Path.{◌≡◌, refl, sym}
+use Prim.Native.Nat.{◌≤◌, ◌-◌}
+use mathlib.Core.Path.{◌≡◌}
 use mathlib.Core.List.{map}
-use native.Mathlib.Omega.{arith}
-use borrow.Author.Rules.{rules}
 use lib.ListN.{length, take}
-use Rattle.codec.specs.Records.{of_transaction}
 use Rattle.codec.specs.Answers.{record_in}
 use Rattle.joint.specs.Inside.{oldest_at, sought}
-use Rattle.joint.proofs.Engine.Arrays.{length-shown}
-use Rattle.joint.proofs.Engine.Walks.{oldest_here, oldest_later}
 use Rattle.joint.proofs.records.Records.oldest.Given as goal
 
 abbrev pub invariant-loop-i : goal.invariant-loop-i

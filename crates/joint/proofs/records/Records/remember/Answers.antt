@@ -6,7 +6,6 @@ use Rattle.codec.specs.Records.{of_transaction}
 use Rattle.codec.specs.Answers.{record_in}
 use Rattle.joint.proofs.Engine.Arrays.{length-shown}
 use Rattle.joint.proofs.Engine.Walks.{any_kind, any_oldest}
-use borrow.Author.Rules.{rules}
 use Rattle.joint.proofs.records.Records.remember.Goals as goal
 
 pub returns : goal.returns

@@ -1,12 +1,9 @@
-use Prim.Native.Nat.{◌+◌, ◌-◌, ◌≤◌}
+use Prim.Native.Nat.{◌-◌}
 use mathlib.Core.Path.{◌≡◌}
-use mathlib.Core.List.{map}
 use native.Mathlib.Omega.{arith}
-use borrow.Author.Rules.{rules}
 use lib.ListN.{length}
-use Rattle.codec.specs.Answers.{record_in}
 use Rattle.joint.proofs.Engine.Arrays.{length-shown}
-use Rattle.joint.proofs.Engine.Survives.{kept, Passing, passing_starts, passing_next, passing_ends}
+use Rattle.joint.proofs.Engine.Survives.{passing_starts, passing_next, passing_ends}
 use Rattle.joint.proofs.records.Records.stop.Goals as goal
 
 pub loop-left-init : goal.loop-left-init

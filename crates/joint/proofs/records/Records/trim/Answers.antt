@@ -1,8 +1,7 @@
-use Prim.Native.Nat.{ℕ, ◌≤◌, ◌+◌, ◌-◌}
+use Prim.Native.Nat.{ℕ, ◌+◌, ◌-◌}
 use mathlib.Core.Path.{◌≡◌, ap, ◌∙◌}
 use mathlib.Core.List.{List, map}
 use native.Mathlib.Omega.{arith}
-use borrow.Author.Rules.{rules}
 use lib.ListN.{length, take, length-map}
 use Rattle.codec.specs.Records.{of_transaction}
 use Rattle.codec.specs.Answers.{record_in}
@@ -12,7 +11,7 @@ use Rattle.joint.specs.declared.sites.Site.{Site}
 use Rattle.joint.specs.Inside.{count_of, stable_of, oldest_at, sought}
 use Rattle.joint.proofs.Engine.Arrays.{length-shown}
 use Rattle.joint.proofs.Engine.Sites.{stable-taken, stable-counted}
-use Rattle.joint.proofs.Engine.Trims.{Shifted, shift_starts, shift_records, trim_nothing, trim_stands}
+use Rattle.joint.proofs.Engine.Trims.{shift_starts, shift_records, trim_nothing, trim_stands}
 use Rattle.joint.proofs.Engine.Walks.{any_kind}
 use Rattle.joint.proofs.records.Records.trim.Goals as goal
 

@@ -1,17 +1,9 @@
-use Prim.Native.Nat.{◌≤◌, ◌+◌, ◌-◌}
-use mathlib.Core.Path.{◌≡◌, ap, ◌∙◌}
+use Prim.Native.Nat.{◌≤◌, ◌-◌}
+use mathlib.Core.Path.{◌≡◌}
 use mathlib.Core.List.{map}
-use native.Mathlib.Omega.{arith}
-use borrow.Author.Rules.{rules}
-use lib.ListN.{length, length-map}
-use Rattle.codec.specs.Records.{of_transaction}
+use lib.ListN.{length}
 use Rattle.codec.specs.Answers.{record_in}
-use Rattle.joint.specs.Answers.{site_from}
-use Rattle.joint.specs.Inside.{count_of, oldest_at}
-use Rattle.joint.proofs.Engine.Arrays.{length-shown}
-use Rattle.joint.proofs.Engine.Sites.{stable-taken, stable-counted}
-use Rattle.joint.proofs.Engine.Trims.{Shifted, shift_starts, shift_records, trim_nothing, trim_stands}
-use Rattle.joint.proofs.Engine.Walks.{any_kind}
+use Rattle.joint.proofs.Engine.Trims.{Shifted}
 use Rattle.joint.proofs.records.Records.trim.Given as goal
 
 abbrev pub invariant-loop-i : goal.invariant-loop-i

@@ -7,7 +7,6 @@ use Rattle.codec.specs.Records.{LogRecord}
 use Rattle.codec.specs.Image.{write_image}
 use Rattle.codec.specs.Answers.{record_in, log_in}
 use Rattle.codec.specs.declared.record.Record.{Record}
-use borrow.Author.Rules.{rules}
 use Rattle.joint.proofs.records.Records.write_log.Goals as goal
 
 held : (rs : List Record) (s n : ℕ) → n ≤ 24 → log_in (record { site = s; count = n; records = rs }) ≡ take n (map record_in rs)

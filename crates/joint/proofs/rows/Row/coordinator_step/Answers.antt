@@ -5,7 +5,6 @@ use Rattle.joint.specs.Plan.{planned, row_plan}
 use Rattle.joint.specs.Answers.{transaction_in}
 use Rattle.joint.specs.Inside.{found_in, then_in}
 use Rattle.joint.proofs.Engine.Rows.{no_coordinator-row, coordinator_found}
-use borrow.Author.Rules.{rules}
 use Rattle.joint.proofs.rows.Row.coordinator_step.Goals as goal
 
 pub returns-in_default : goal.returns-in_default

@@ -1,6 +1,5 @@
 use mathlib.Core.Path.{refl, ap, ◌∙◌}
 use Rattle.site.specs.Cohort.{Cohort, presumption_of}
-use borrow.Author.Rules.{rules}
 use Rattle.joint.proofs.rows.Row.participant.Goals as goal
 
 pub returns : goal.returns

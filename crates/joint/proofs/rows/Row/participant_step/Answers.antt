@@ -4,7 +4,6 @@ use Rattle.joint.specs.State.{with_participant}
 use Rattle.joint.specs.Plan.{planned, row_plan}
 use Rattle.joint.specs.Inside.{found_in, then_in}
 use Rattle.joint.proofs.Engine.Rows.{no_participant-row, participant_found}
-use borrow.Author.Rules.{rules}
 use Rattle.joint.proofs.rows.Row.participant_step.Goals as goal
 
 pub returns-in_default : goal.returns-in_default

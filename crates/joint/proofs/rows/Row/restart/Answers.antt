@@ -8,7 +8,6 @@ use Rattle.joint.specs.State.{recorded_cohort, with_participant}
 use Rattle.joint.specs.Plan.{planned, row_plan}
 use Rattle.joint.specs.Inside.{then_in}
 use Rattle.joint.proofs.Engine.Rows.{no_participant-row, coordinator_restarts, participant_restarts, some-none, some_same}
-use borrow.Author.Rules.{rules}
 use Rattle.joint.proofs.rows.Row.restart.Goals as goal
 
 pub returns-then-site-eq0 : goal.returns-then-site-eq0

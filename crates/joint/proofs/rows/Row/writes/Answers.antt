@@ -1,8 +1,6 @@
 use mathlib.Core.Path.{refl}
-use mathlib.Core.List.{[], ◌∷◌}
 use Rattle.joint.specs.Inside.{writes_log, moves}
 use Rattle.joint.proofs.Engine.RowSites.{unmoved}
-use borrow.Author.Rules.{rules}
 use Rattle.joint.proofs.rows.Row.writes.Goals as goal
 
 pub returns-then-effects : goal.returns-then-effects

@@ -1,5 +1,4 @@
 use mathlib.Core.Path.{ap, ◌∙◌}
-use borrow.Author.Rules.{rules}
 use Rattle.site.specs.Answers.{outcome_in}
 use Rattle.joint.specs.State as plain
 use Rattle.joint.proofs.run.Run.entered.Goals as goal

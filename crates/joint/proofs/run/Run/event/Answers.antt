@@ -3,7 +3,6 @@ use Rattle.joint.specs.Answers.{run_in, forces_in, next_in, answer_in, refusal_n
 use Rattle.joint.specs.declared.answers.Answer.TheVariants as answer
 use Rattle.joint.proofs.Engine.Turns.{turned_refused, malformed_seen}
 use Rattle.joint.proofs.Engine.Replays.{parse_short, one_event}
-use borrow.Author.Rules.{rules}
 use Rattle.joint.proofs.run.Run.event.Goals as goal
 
 pub returns-then-event-ne-EVENT_LENGTH : goal.returns-then-event-ne-EVENT_LENGTH

@@ -2,7 +2,6 @@ use Rattle.joint.proofs.Engine.Reads.{get_or-within}
 use mathlib.Core.Path.{◌≡◌, refl, sym, ap, ◌∙◌}
 use lib.ListN.{length}
 use native.Mathlib.Omega.{arith}
-use borrow.Author.Rules.{rules}
 use Rattle.joint.specs.Totals.{highest, held}
 use Rattle.joint.specs.Answers.{forces_in}
 use Rattle.joint.proofs.Engine.Arrays.{length-shown, get_or_past}

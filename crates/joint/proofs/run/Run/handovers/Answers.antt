@@ -1,16 +1,12 @@
-use Prim.Native.Nat.{ℕ, ◌+◌, ◌-◌, ◌≤◌, ◌<◌}
-use mathlib.Core.Path.{◌≡◌, refl, sym, ap, ap₂, ◌∙◌}
-use mathlib.Core.Bool.{Bool, true, false, not, ◌&&◌}
-use mathlib.Core.List.{List}
+use Prim.Native.Nat.{◌<◌}
+use mathlib.Core.Path.{◌≡◌, sym, ap, ap₂, ◌∙◌}
+use mathlib.Core.Bool.{true, false, not, ◌&&◌}
 use native.Mathlib.Omega.{arith}
-use lib.ListN.{length, drop, drop_of_length-le}
-use Rattle.codec.specs.Lists.{select}
 use Rattle.codec.specs.Sets.{empty}
 use Rattle.joint.specs.State as plain
 use Rattle.joint.specs.State.{opened, takes_part}
-use Rattle.joint.specs.Plan.{transactions}
 use Rattle.joint.specs.Answers.{run_in, handovers_in}
-use Rattle.joint.proofs.Engine.Handovers.{is_with, left, next, none}
+use Rattle.joint.proofs.Engine.Handovers.{is_with, next, none}
 use Rattle.joint.proofs.run.Run.handovers.Goals as goal
 use Rattle.joint.proofs.run.Run.handovers.Goals.{Joined-opened-takes_part, then-opened-takes_part, else-opened-takes_part}
 
@@ -33,7 +29,7 @@ loop-i-preserved c =
     let a = c.args in
     let test : c.loop-i.i < 8 = omega (arith, c.loop-i-test.true) in
     elim c.if-opened-takes_part.branch [
-        then-opened-takes_part w ↦ (omega arith, (omega arith, omega (arith, c.loop-i.invariant.1.1, next (run_in a.self) a.site c.loop-i.i test true (sym (tested c) ∙ w.if-opened-takes_part.true))))
+      | then-opened-takes_part w ↦ (omega arith, (omega arith, omega (arith, c.loop-i.invariant.1.1, next (run_in a.self) a.site c.loop-i.i test true (sym (tested c) ∙ w.if-opened-takes_part.true))))
       | else-opened-takes_part w ↦ (omega arith, (omega arith, omega (arith, c.loop-i.invariant.1.1, next (run_in a.self) a.site c.loop-i.i test false (sym (tested c) ∙ w.if-opened-takes_part.false))))
     ]
 

@@ -3,7 +3,6 @@ use mathlib.Core.Path.{◌≡◌, refl, ap, ap₂, ◌∙◌, fun_ext}
 use mathlib.Core.Bool.{false}
 use lib.ListN.{replicate}
 use native.Mathlib.Omega.{arith}
-use borrow.Author.Rules.{rules}
 use Rattle.codec.specs.Sets.{member}
 use Rattle.codec.specs.Laws.Members.{high_bits, none_in}
 use Rattle.site.specs.Presumption.{Outcome, commit, abort}

@@ -1,5 +1,4 @@
 use mathlib.Core.Path.{ap}
-use borrow.Author.Rules.{rules}
 use Rattle.joint.specs.State as plain
 use Rattle.joint.specs.Answers.{transaction_in}
 use Rattle.joint.proofs.run.Run.presume_commit.Goals as goal

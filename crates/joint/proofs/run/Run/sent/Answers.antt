@@ -1,5 +1,4 @@
 use mathlib.Core.Path.{ap, ◌∙◌}
-use borrow.Author.Rules.{rules}
 use Rattle.joint.specs.State as plain
 use Rattle.joint.proofs.run.Run.sent.Goals as goal
 

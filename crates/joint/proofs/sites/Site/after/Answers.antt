@@ -13,7 +13,6 @@ use Rattle.joint.specs.Answers.{site_from}
 use Rattle.joint.specs.Inside.{size, count_of, put_at, put_row, site_after}
 use Rattle.joint.proofs.Engine.Effects.{room, site-row, size-first}
 use Rattle.joint.proofs.Engine.Sites.{put_length, log-counted}
-use borrow.Author.Rules.{rules}
 use Rattle.joint.proofs.sites.Site.after.Goals as goal
 
 pub returns : goal.returns

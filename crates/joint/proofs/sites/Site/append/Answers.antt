@@ -6,7 +6,6 @@ use lib.Dec.{eqb, leb}
 use Rattle.codec.specs.Laws.Tests.{or_none}
 use Rattle.joint.specs.Inside.{count_of}
 use Rattle.joint.proofs.Engine.Sites.{kept_stands, put_stands}
-use borrow.Author.Rules.{rules}
 use Rattle.joint.proofs.sites.Site.append.Goals as goal
 use Rattle.joint.proofs.sites.Site.append.Goals.{After-struct_known-1}
 

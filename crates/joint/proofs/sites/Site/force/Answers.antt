@@ -1,5 +1,4 @@
 use Rattle.joint.proofs.Engine.Sites.{force_stands}
-use borrow.Author.Rules.{rules}
 use Rattle.joint.proofs.sites.Site.force.Goals as goal
 
 pub returns : goal.returns

@@ -1,7 +1,6 @@
 use mathlib.Core.Path.{refl}
 use Rattle.site.specs.Step.{given}
 use Rattle.joint.specs.Inside.{site_after}
-use borrow.Author.Rules.{rules}
 use Rattle.joint.proofs.sites.Site.force_if.Goals as goal
 
 pub returns-then-forced : goal.returns-then-forced

@@ -1,5 +1,4 @@
 use Rattle.joint.proofs.Engine.Sites.{may_keep_lem}
-use borrow.Author.Rules.{rules}
 use Rattle.joint.proofs.sites.Site.may_keep.Goals as goal
 
 pub returns : goal.returns

@@ -1,10 +1,8 @@
 use mathlib.Core.Path.{◌≡◌, ap, ◌∙◌}
-use mathlib.Core.List.{[], ◌∷◌}
 use Rattle.joint.specs.State.{stopped}
 use Rattle.joint.specs.Answers.{site_from}
 use Rattle.joint.specs.Inside.{then_site, row_site}
 use Rattle.joint.proofs.Engine.RowSites.{unkept, recordless, unchanged}
-use borrow.Author.Rules.{rules}
 use Rattle.joint.proofs.sites.Site.settle.Goals as goal
 
 pub returns-in-Down : goal.returns-in-Down

@@ -1,7 +1,5 @@
 use Prim.Native.Nat.{ℕ, zero, suc, ◌/◌, ◌%◌}
 use mathlib.Core.Path.{◌≡◌, refl}
-use native.Mathlib.Omega.{arith}
-use borrow.Author.Rules.{rules}
 use Rattle.joint.specs.Totals as plain
 use Rattle.joint.specs.Totals.{totals_of}
 use Rattle.joint.specs.Answers.{totals_seen}

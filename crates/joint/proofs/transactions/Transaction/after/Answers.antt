@@ -3,7 +3,6 @@ use Rattle.site.specs.Answers.{sending}
 use Rattle.joint.specs.Answers.{transaction_in}
 use Rattle.joint.specs.Inside.{transaction_after}
 use Rattle.joint.proofs.Engine.Effects.{transaction-row}
-use borrow.Author.Rules.{rules}
 use Rattle.joint.proofs.transactions.Transaction.after.Goals as goal
 
 pub returns : goal.returns

@@ -4,7 +4,6 @@ use Rattle.site.specs.Numbers.{entry_of}
 use Rattle.joint.specs.State as plain
 use Rattle.joint.specs.Inside.{transaction_after}
 use Rattle.joint.proofs.Engine.Transactions.{commit_entered, abort_entered}
-use borrow.Author.Rules.{rules}
 use Rattle.joint.proofs.transactions.Transaction.enter.Goals as goal
 
 nothing_entered : (s : ℕ) (x : plain.Transaction) (n : ℕ) → (n ≡ 1 → ⊥) → (n ≡ 2 → ⊥) → transaction_after s (entry_of n) x ≡ x

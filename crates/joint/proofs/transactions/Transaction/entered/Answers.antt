@@ -1,5 +1,4 @@
 use Rattle.joint.specs.Answers.{transaction_in, entered_in}
-use borrow.Author.Rules.{rules}
 use Rattle.joint.proofs.transactions.Transaction.entered.Goals as goal
 
 pub returns-in-Commit : goal.returns-in-Commit

@@ -1,5 +1,4 @@
 use mathlib.Core.Path.{sym, ap, ◌∙◌}
-use borrow.Author.Rules.{rules}
 use Rattle.joint.specs.State.{unknown_part, forgotten, with_coordinator}
 use Rattle.joint.proofs.Engine.Transactions.{forgotten-participant}
 use Rattle.joint.proofs.transactions.Transaction.forget.Goals as goal

@@ -1,4 +1,3 @@
-use borrow.Author.Rules.{rules}
 use Rattle.joint.specs.Answers.{transaction_in}
 use Rattle.joint.proofs.transactions.Transaction.marked.Goals as goal
 

@@ -1,14 +1,12 @@
-use Prim.Native.Nat.{◌≤◌, ◌<◌, ◌-◌}
+use Prim.Native.Nat.{◌<◌}
 use mathlib.Core.Path.{◌≡◌, sym, ap, ◌∙◌}
 use lib.ListN.{length, length-set}
 use native.Mathlib.Omega.{arith}
-use borrow.Author.Rules.{rules}
 use Rattle.site.specs.Participant.{working}
 use Rattle.site.specs.declared.phases.ParticipantPhase.TheVariants as phases
 use Rattle.joint.specs.State.{with_participant}
-use Rattle.joint.specs.Answers.{transaction_in}
 use Rattle.joint.proofs.Engine.Arrays.{length-shown}
-use Rattle.joint.proofs.Engine.Transactions.{phase-stored, opening, working_below, none_working, next_working, next_left, all_working}
+use Rattle.joint.proofs.Engine.Transactions.{phase-stored, opening, none_working, next_working, next_left, all_working}
 use Rattle.joint.proofs.transactions.Transaction.open.Goals as goal
 use Rattle.joint.proofs.transactions.Transaction.open.Goals.{then-member, else-member}
 
@@ -25,18 +23,18 @@ loop-i-preserved c =
     let lt : l.i < length l.participants = omega arith in
     let known = c.member.ensures in
     elim c.if-member.branch [
-        then-member w ↦ (
+      | then-member w ↦ (
+        omega arith,
+        (
           omega arith,
-          (
-            omega arith,
-            rw w.participants-is (
-              simp length-set l.invariant.1.1.0,
-              phase-stored (opening a.self a.members a.presume_commit l.participants) l.i lt phases.Working
-                  ∙ ap (with_participant l.i working) l.invariant.1.1.1
-                  ∙ next_working a.members _ l.i (sym known ∙ w.if-member.true),
-            ),
+          rw w.participants-is (
+            simp length-set l.invariant.1.1.0,
+            phase-stored (opening a.self a.members a.presume_commit l.participants) l.i lt phases.Working
+                ∙ ap (with_participant l.i working) l.invariant.1.1.1
+                ∙ next_working a.members _ l.i (sym known ∙ w.if-member.true),
           ),
-        )
+        ),
+      )
       | else-member w ↦ (omega arith, (omega arith, rw w.participants-is (l.invariant.1.1.0, l.invariant.1.1.1 ∙ next_left a.members _ l.i (sym known ∙ w.if-member.false))))
     ]
 

@@ -6,7 +6,6 @@ use Rattle.joint.specs.Answers.{transaction_in, no_held}
 use Rattle.joint.specs.declared.transactions.Held.{Held}
 use Rattle.joint.proofs.Engine.Arrays.{length-shown, get_or_past}
 use Rattle.joint.proofs.Engine.Transactions.{read_any}
-use borrow.Author.Rules.{rules}
 use Rattle.joint.proofs.transactions.Transaction.participant_phase.Goals as goal
 
 pub returns-then-participant-gt-LAST_SITE : goal.returns-then-participant-gt-LAST_SITE

@@ -1,7 +1,6 @@
 use mathlib.Core.Path.{refl}
 use Rattle.joint.specs.Inside.{then_transaction}
 use Rattle.joint.proofs.Engine.Rows.{kept_transaction}
-use borrow.Author.Rules.{rules}
 use Rattle.joint.proofs.transactions.Transaction.settle.Goals as goal
 
 pub returns-then-last : goal.returns-then-last

@@ -1,5 +1,4 @@
 use mathlib.Core.Path.{refl, sym, ◌∙◌}
-use borrow.Author.Rules.{rules}
 use Rattle.joint.specs.Answers.{transaction_in}
 use Rattle.joint.specs.State.{takes_part}
 use Rattle.joint.proofs.Engine.Transactions.{part-member}

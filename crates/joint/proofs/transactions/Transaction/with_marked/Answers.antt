@@ -1,4 +1,3 @@
-use borrow.Author.Rules.{rules}
 use Rattle.joint.proofs.Engine.Transactions.{mark-stored}
 use Rattle.joint.proofs.transactions.Transaction.with_marked.Goals as goal
 

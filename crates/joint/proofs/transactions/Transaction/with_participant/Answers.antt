@@ -3,7 +3,6 @@ use lib.ListN.{length}
 use native.Mathlib.Omega.{arith}
 use Rattle.joint.proofs.Engine.Arrays.{length-shown}
 use Rattle.joint.proofs.Engine.Transactions.{phase-stored}
-use borrow.Author.Rules.{rules}
 use Rattle.joint.proofs.transactions.Transaction.with_participant.Goals as goal
 
 pub returns : goal.returns

@@ -1,5 +1,5 @@
 use mathlib.Core.Bool.{◌&&◌}
-use mathlib.Core.Logic.{inl, inr, ⊎_elim}
+use mathlib.Core.Logic.{inl, inr}
 use lib.Dec.{eqb}
 use Rattle.site.specs.Answers.{effects_in, sending}
 use Rattle.site.specs.Numbers.{appending, entry_of}

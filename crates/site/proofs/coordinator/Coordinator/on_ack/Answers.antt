@@ -2,7 +2,6 @@ use Rattle.site.specs.Presumption.{same_outcome}
 use Rattle.site.specs.Step.{answered}
 use Rattle.site.specs.Coordinator.{leaving_if, on_ack, acked_if}
 use Rattle.site.proofs.NoRow.{no_commit_ack, no_abort_ack}
-use borrow.Author.Rules.{rules}
 use Rattle.site.proofs.coordinator.Coordinator.on_ack.Goals as goal
 
 pub returns-in-Committing : goal.returns-in-Committing

@@ -2,7 +2,6 @@ use Rattle.site.specs.Step.{answered}
 use Rattle.site.specs.Coordinator.{leaving_if, on_begin}
 use Rattle.site.specs.Answers.{cohort_in}
 use Rattle.site.proofs.NoRow.{no_begin}
-use borrow.Author.Rules.{rules}
 use Rattle.site.proofs.coordinator.Coordinator.on_begin.Goals as goal
 
 pub returns-in-Open : goal.returns-in-Open

@@ -4,7 +4,6 @@ use Rattle.site.specs.Step.{answered}
 use Rattle.site.specs.Coordinator.{on_no, leaving_if}
 use Rattle.site.specs.Answers.{cohort_in}
 use Rattle.site.proofs.NoRow.{no_no}
-use borrow.Author.Rules.{rules}
 use Rattle.site.proofs.coordinator.Coordinator.on_no.Goals as goal
 
 pub returns-then-member : goal.returns-then-member

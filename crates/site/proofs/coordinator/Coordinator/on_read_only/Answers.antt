@@ -4,7 +4,6 @@ use Rattle.site.specs.Step.{answered}
 use Rattle.site.specs.Coordinator.{taking_out, on_read_only, leaving_if}
 use Rattle.site.specs.Answers.{cohort_in}
 use Rattle.site.proofs.NoRow.{no_read_only}
-use borrow.Author.Rules.{rules}
 use Rattle.site.proofs.coordinator.Coordinator.on_read_only.Goals as goal
 
 pub returns-then-member : goal.returns-then-member

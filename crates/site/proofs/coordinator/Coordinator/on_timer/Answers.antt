@@ -3,7 +3,6 @@ use Rattle.site.specs.Step.{answered}
 use Rattle.site.specs.Coordinator.{coordinator_timer, leaving_if}
 use Rattle.site.specs.Answers.{cohort_in}
 use Rattle.site.proofs.NoRow.{no_timer}
-use borrow.Author.Rules.{rules}
 use Rattle.site.proofs.coordinator.Coordinator.on_timer.Goals as goal
 
 pub returns-in-Collecting : goal.returns-in-Collecting

@@ -5,10 +5,8 @@ use Rattle.site.specs.Presumption.{commit, abort}
 use Rattle.site.specs.Step.{answered}
 use Rattle.site.specs.Coordinator.{telling, on_yes, leaving_if}
 use Rattle.site.specs.Answers.{cohort_in, outcome_in}
-use Rattle.site.specs.Laws.Sets.{Numbered}
 use Rattle.site.proofs.Sent.{member_numbered}
 use Rattle.site.proofs.Rows.{tell_one}
-use borrow.Author.Rules.{rules}
 use Rattle.site.proofs.coordinator.Coordinator.on_yes.Goals as goal
 
 pub returns-then-member : goal.returns-then-member

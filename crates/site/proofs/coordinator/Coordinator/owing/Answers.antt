@@ -1,6 +1,5 @@
 use Rattle.site.specs.Laws.Sets.{owing_commit, owing_abort}
 use Rattle.site.specs.Answers.{cohort_in}
-use borrow.Author.Rules.{rules}
 use Rattle.site.proofs.coordinator.Coordinator.owing.Goals as goal
 
 pub returns-in-Commit : goal.returns-in-Commit

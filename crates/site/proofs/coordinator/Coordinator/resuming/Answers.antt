@@ -1,4 +1,4 @@
-use mathlib.Core.Logic.{inl, inr, ⊎_elim}
+use mathlib.Core.Logic.{inl, inr}
 use Rattle.site.specs.Numbers.{appending}
 use Rattle.site.specs.Answers.{outcome_in, cohort_in, effects_in, closing}
 use Rattle.site.specs.Step.{tell, given}

@@ -1,6 +1,4 @@
-use native.Mathlib.Omega.{arith}
 use Rattle.site.proofs.Cut.{count_law}
-use borrow.Author.Rules.{rules}
 use Rattle.site.proofs.effects.Effects.count.Goals as goal
 
 pub returns : goal.returns

@@ -4,7 +4,6 @@ use native.Mathlib.Omega.{arith}
 use lib.Seq.{take_all}
 use Rattle.site.specs.Answers.{effects_in}
 use Rattle.site.proofs.Cut.{cut_law}
-use borrow.Author.Rules.{rules}
 use Rattle.site.proofs.effects.Effects.cut.Goals as goal
 
 -- all of them happen

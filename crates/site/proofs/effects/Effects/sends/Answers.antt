@@ -2,7 +2,6 @@ use mathlib.Core.Path.{◌∙◌, sym}
 use native.Mathlib.Omega.{arith}
 use Rattle.codec.specs.Laws.Listed.{size-most}
 use Rattle.site.proofs.Cut.{no_sends, sending-length}
-use borrow.Author.Rules.{rules}
 use Rattle.site.proofs.effects.Effects.sends.Goals as goal
 
 pub returns-then-self-gt-LAST_KIND : goal.returns-then-self-gt-LAST_KIND

@@ -1,6 +1,6 @@
 use Prim.Native.Nat.{◌<◌}
 use mathlib.Core.Path.{◌∙◌}
-use mathlib.Core.Logic.{inl, inr, ⊎_elim}
+use mathlib.Core.Logic.{inl, inr}
 use native.Mathlib.Omega.{arith}
 use Rattle.site.proofs.Summed.{summed, looked_last}
 use Rattle.site.proofs.effects.Effects.summary.Goals as goal

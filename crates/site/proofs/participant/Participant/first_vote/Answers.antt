@@ -1,4 +1,3 @@
-use native.Mathlib.Omega.{arith}
 use Rattle.site.specs.Step.{messages}
 use Rattle.site.specs.Participant.{first_vote}
 use Rattle.site.proofs.participant.Participant.first_vote.Goals as goal

@@ -1,4 +1,3 @@
-use native.Mathlib.Omega.{arith}
 use Rattle.site.specs.Step.{messages, answered}
 use Rattle.site.specs.Participant.{on_prepare}
 use borrow.Author.Rules.{rules}

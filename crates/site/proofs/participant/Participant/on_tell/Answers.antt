@@ -1,7 +1,6 @@
 use Rattle.site.specs.Presumption.{same_outcome}
 use Rattle.site.specs.Step.{answered}
 use Rattle.site.specs.Participant.{on_tell, acking_if}
-use borrow.Author.Rules.{rules}
 use Rattle.site.proofs.participant.Participant.on_tell.Goals as goal
 
 pub returns-in-Commit : goal.returns-in-Commit

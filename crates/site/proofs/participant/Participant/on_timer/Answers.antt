@@ -1,4 +1,3 @@
-use native.Mathlib.Omega.{arith}
 use Rattle.site.specs.Answers.{effects_in, closing, sending}
 use Rattle.site.specs.Numbers.{appending, entry_of}
 use Rattle.site.specs.Step.{messages, given, answered}
@@ -6,7 +5,6 @@ use Rattle.site.specs.Answers.{presumption_in}
 use Rattle.site.specs.Participant.{participant_timer}
 use Rattle.site.specs.Laws.Order.{ordered-none}
 use Rattle.site.proofs.NoRow.{no_own_timer}
-use borrow.Author.Rules.{rules}
 use Rattle.site.proofs.participant.Participant.on_timer.Goals as goal
 
 pub returns-in-Working : goal.returns-in-Working

@@ -1,13 +1,10 @@
-use Prim.Native.Nat.{ℕ, ◌≤◌}
-use mathlib.Core.Path.{◌≡◌, refl}
-use mathlib.Core.Bool.{true}
+use mathlib.Core.Path.{refl}
 use native.Mathlib.Omega.{arith}
 use Rattle.codec.specs.Lists.{any}
 use Rattle.codec.specs.Laws.Members.{numbered}
-use Rattle.site.specs.Step.{messages, answered}
+use Rattle.site.specs.Step.{messages}
 use Rattle.site.specs.Participant.{participant_step}
-use Rattle.site.specs.Numbers.{kinds_received, receives, input_of, participant_answer}
-use Rattle.site.specs.Answers.{presumption_in, participant_in}
+use Rattle.site.specs.Numbers.{kinds_received, receives, input_of}
 use Rattle.site.proofs.ByKind.{no_participant_lem, participant_takes, participant_never}
 use Rattle.site.proofs.participant.Participant.step.Goals as goal
 

@@ -1,4 +1,3 @@
-use borrow.Author.Rules.{rules}
 use Rattle.site.proofs.phases.CoordinatorPhase.awaiting.Goals as goal
 
 pub returns-in-Commit : goal.returns-in-Commit

@@ -1,7 +1,6 @@
 use mathlib.Core.Path.{sym}
 use Rattle.site.specs.Numbers.{waiting_set}
 use Rattle.site.proofs.Phased.{waits_for_none}
-use borrow.Author.Rules.{rules}
 use Rattle.site.proofs.phases.CoordinatorPhase.waiting.Goals as goal
 
 pub returns-in-Collecting : goal.returns-in-Collecting

@@ -1,4 +1,3 @@
-use borrow.Author.Rules.{rules}
 use Rattle.site.proofs.phases.ParticipantPhase.decided.Goals as goal
 
 pub returns-in-Commit : goal.returns-in-Commit

@@ -1,5 +1,4 @@
 use Rattle.site.specs.Coordinator.{end_record}
-use borrow.Author.Rules.{rules}
 use Rattle.site.proofs.presumption.Outcome.end_record.Goals as goal
 
 pub returns-in-Commit : goal.returns-in-Commit

@@ -1,5 +1,4 @@
 use Rattle.site.specs.Step.{message_kind}
-use borrow.Author.Rules.{rules}
 use Rattle.site.proofs.presumption.Outcome.message.Goals as goal
 
 pub returns-in-Commit : goal.returns-in-Commit

@@ -1,5 +1,4 @@
 use Rattle.site.specs.Numbers.{outcome_number}
-use borrow.Author.Rules.{rules}
 use Rattle.site.proofs.presumption.Outcome.number.Goals as goal
 
 pub returns-in-Commit : goal.returns-in-Commit

@@ -1,5 +1,4 @@
 use Rattle.site.specs.Presumption.{acks}
-use borrow.Author.Rules.{rules}
 use Rattle.site.proofs.presumption.Presumption.acks.Goals as goal
 
 pub returns-in-Commit-outcome : goal.returns-in-Commit-outcome

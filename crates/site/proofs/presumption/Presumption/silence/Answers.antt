@@ -1,5 +1,4 @@
 use Rattle.site.specs.Presumption.{silence}
-use borrow.Author.Rules.{rules}
 use Rattle.site.proofs.presumption.Presumption.silence.Goals as goal
 
 pub returns-in-Abort : goal.returns-in-Abort
