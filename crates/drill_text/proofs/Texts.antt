@@ -8,8 +8,8 @@ use native.Mathlib.Numerals.{add-one}
 use native.Mathlib.Omega.{arith}
 use lib.ListN.{length, get_or, drop, length-append, drop_of_length-le, get_or-map}
 use lib.Seq.{append_snoc, drop-drop, get_or-drop, drop-cons}
-use lib.Dec.{eqb, ltb}
-use borrow.Author.Tests.{lt-ltb, le-ltb, ltb-true, ltb-false, eqb-true, eq-eqb, ne_eqb}
+use lib.Dec.{ltb}
+use borrow.Author.Tests.{lt-ltb, le-ltb, ltb-true, ltb-false, eq-eqb, ne_eqb}
 use Rattle.codec.specs.Lists.{select}
 use Rattle.codec.specs.Sets.{participants, empty}
 use Rattle.joint.specs.Laws.Numbered.{numbered_at, numbered_from}

@@ -1,9 +1,7 @@
 use Prim.Native.Nat.{min}
-use mathlib.Core.Path.{◌≡◌, sym}
-use mathlib.Core.Logic.{⊎_elim}
+use mathlib.Core.Path.{◌≡◌}
 use native.Mathlib.Omega.{arith}
 use lib.ListN.{length, length-take}
-use borrow.Author.Rules.{rules}
 use Rattle.joint.specs.Drill.{drill_into}
 use Rattle.joint.specs.Answers.{run_in, totals_in}
 use Rattle.drill_text.proofs.Drilled.{Answered, answered}
@@ -14,7 +12,7 @@ use Rattle.drill_text.proofs.drill.drill.Goals.{After-answers-3-1, Joined-input-
 most : (c : Joined-input-gt-MOST) → c.if-input-gt-MOST.len ≡ min 60000 (length c.args.input.now)
 most c =
     elim c.if-input-gt-MOST.branch [
-        then-input-gt-MOST w ↦ omega arith
+      | then-input-gt-MOST w ↦ omega arith
       | else-input-gt-MOST w ↦ omega arith
     ]
 

@@ -1,11 +1,7 @@
-use Prim.Native.Nat.{ℕ, ◌+◌, ◌-◌, ◌*◌, ◌≤◌}
+use Prim.Native.Nat.{◌+◌, ◌*◌, ◌≤◌}
 use mathlib.Core.Path.{◌≡◌, sym, ap, ◌∙◌}
-use mathlib.Core.List.{List}
-use mathlib.Core.Logic.{⊎_elim}
 use native.Mathlib.Omega.{arith}
 use lib.ListN.{length, take, length-take, length-drop}
-use borrow.Author.Rules.{rules}
-use Rattle.codec.specs.Image.{stored}
 use Rattle.codec.specs.Laws.Stored.{length-stored}
 use Rattle.drill_text.specs.Inside.{lines_of, sites, site_lines}
 use Rattle.joint.specs.Answers.{run_in, totals_in}
@@ -36,7 +32,7 @@ room : (c : After-write_lines-arg-1) → let a = c.args in
     → length (lines_of a.count a.answers.now) + 21 * c.opened_count-opened.result + c.write_sites-sites.result ≤ length a.text.now
 room c short =
     elim c.if-text-count.branch [
-        then-text-count+else-text-lines_size w ↦ omega (arith, w.lines_size.ensures, w.if-text-lines_size.false, short)
+      | then-text-count+else-text-lines_size w ↦ omega (arith, w.lines_size.ensures, w.if-text-lines_size.false, short)
       | else-text-count w ↦ omega (arith, w.if-text-count.false, short)
     ]
 

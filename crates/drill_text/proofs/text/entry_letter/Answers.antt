@@ -1,5 +1,4 @@
 use mathlib.Core.Path.{◌∙◌}
-use borrow.Author.Rules.{rules}
 use Rattle.joint.specs.Drill.{entry_letter}
 use Rattle.drill_text.proofs.text.entry_letter.Goals as goal
 

@@ -1,6 +1,5 @@
-use Prim.Native.Nat.{◌-◌, ◌*◌, ◌≤◌}
 use native.Mathlib.Omega.{arith}
-use Rattle.drill_text.proofs.Texts.{Lined, lined_start, lined_next, lined_end}
+use Rattle.drill_text.proofs.Texts.{lined_start, lined_next, lined_end}
 use Rattle.drill_text.proofs.text.lines_size.Goals as goal
 
 pub loop-i-init : goal.loop-i-init

@@ -1,6 +1,5 @@
 use Prim.Native.Nat.{◌-◌, ◌*◌, ◌≤◌}
-use native.Mathlib.Omega.{arith}
-use Rattle.drill_text.proofs.Texts.{Lined, lined_start, lined_next, lined_end}
+use Rattle.drill_text.proofs.Texts.{Lined}
 use Rattle.drill_text.proofs.text.lines_size.Given as goal
 
 abbrev pub invariant-loop-i : goal.invariant-loop-i

@@ -1,11 +1,9 @@
-use Prim.Native.Nat.{◌+◌, ◌-◌, ◌≤◌, ◌<◌}
-use mathlib.Core.Path.{◌≡◌, ap, ◌∙◌, sym}
-use mathlib.Core.Logic.{⊎_elim}
+use Prim.Native.Nat.{◌<◌}
+use mathlib.Core.Path.{ap, ◌∙◌, sym}
 use native.Mathlib.Omega.{arith}
 use lib.ListN.{length}
-use Rattle.drill_text.specs.Inside.{opened_in}
 use Rattle.joint.specs.Answers.{run_in}
-use Rattle.drill_text.proofs.Texts.{opened_from, opened_next, opened_skip, opened_end}
+use Rattle.drill_text.proofs.Texts.{opened_next, opened_skip, opened_end}
 use Rattle.drill_text.proofs.text.opened_count.Goals as goal
 use Rattle.drill_text.proofs.text.opened_count.Goals.{then-members-ne0, else-members-ne0}
 
@@ -18,7 +16,7 @@ loop-i-preserved c =
     let members = c.members.ensures in
     let test : c.loop-i.i < 8 = omega (arith, c.loop-i-test.true) in
     elim c.if-members-ne0.branch [
-        then-members-ne0 w ↦ (omega arith, (omega arith, omega (arith, c.loop-i.invariant.1.1, ap length (opened_next r c.loop-i.i test (λ e. w.if-members-ne0.true (members ∙ e))))))
+      | then-members-ne0 w ↦ (omega arith, (omega arith, omega (arith, c.loop-i.invariant.1.1, ap length (opened_next r c.loop-i.i test (λ e. w.if-members-ne0.true (members ∙ e))))))
       | else-members-ne0 w ↦ (omega arith, (omega arith, omega (arith, c.loop-i.invariant.1.1, ap length (opened_skip r c.loop-i.i test (sym members ∙ w.if-members-ne0.false)))))
     ]
 

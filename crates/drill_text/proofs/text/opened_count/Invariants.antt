@@ -1,11 +1,9 @@
-use Prim.Native.Nat.{◌+◌, ◌-◌, ◌≤◌, ◌<◌}
-use mathlib.Core.Path.{◌≡◌, ap, ◌∙◌, sym}
-use mathlib.Core.Logic.{⊎_elim}
-use native.Mathlib.Omega.{arith}
+use Prim.Native.Nat.{◌+◌, ◌-◌, ◌≤◌}
+use mathlib.Core.Path.{◌≡◌}
 use lib.ListN.{length}
 use Rattle.drill_text.specs.Inside.{opened_in}
 use Rattle.joint.specs.Answers.{run_in}
-use Rattle.drill_text.proofs.Texts.{opened_from, opened_next, opened_skip, opened_end}
+use Rattle.drill_text.proofs.Texts.{opened_from}
 use Rattle.drill_text.proofs.text.opened_count.Given as goal
 
 abbrev pub invariant-loop-i : goal.invariant-loop-i

@@ -1,8 +1,6 @@
-use Prim.Native.Nat.{◌-◌, ◌≤◌}
 use mathlib.Core.Path.{refl}
 use native.Mathlib.Omega.{arith}
-use lib.ListN.{length}
-use Rattle.drill_text.proofs.Stored.{Upto, upto_start, upto_room, upto_next, upto_end}
+use Rattle.drill_text.proofs.Stored.{upto_start, upto_room, upto_next, upto_end}
 use Rattle.drill_text.proofs.text.write_bytes.Goals as goal
 
 pub loop-i-init : goal.loop-i-init

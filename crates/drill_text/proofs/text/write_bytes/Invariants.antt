@@ -1,8 +1,6 @@
 use Prim.Native.Nat.{◌-◌, ◌≤◌}
-use mathlib.Core.Path.{refl}
-use native.Mathlib.Omega.{arith}
 use lib.ListN.{length}
-use Rattle.drill_text.proofs.Stored.{Upto, upto_start, upto_room, upto_next, upto_end}
+use Rattle.drill_text.proofs.Stored.{Upto}
 use Rattle.drill_text.proofs.text.write_bytes.Given as goal
 
 abbrev pub invariant-loop-i : goal.invariant-loop-i

@@ -1,6 +1,5 @@
 use mathlib.Core.Path.{◌≡◌, refl, ap}
 use mathlib.Core.List.{[], ◌∷◌, ◌++◌}
-use borrow.Author.Rules.{rules}
 use Rattle.joint.specs.Drill.{decimal}
 use Rattle.drill_text.proofs.Texts.{shown}
 use Rattle.drill_text.proofs.text.write_counted.Goals as goal

@@ -1,12 +1,7 @@
-use Prim.Native.Nat.{◌-◌, ◌≤◌, ◌<◌}
-use mathlib.Core.Path.{◌∙◌}
-use native.Mathlib.Omega.{arith}
-use lib.ListN.{length}
-use borrow.Author.Rules.{rules}
+use Prim.Native.Nat.{◌-◌, ◌≤◌}
 use Rattle.drill_text.specs.Inside.{letters}
 use Rattle.joint.specs.Answers.{run_in}
-use Rattle.drill_text.proofs.Stored.{Upto, upto_start, upto_room, upto_next, upto_end}
-use Rattle.drill_text.proofs.Texts.{letters-length, letter_at}
+use Rattle.drill_text.proofs.Stored.{Upto}
 use Rattle.drill_text.proofs.text.write_letters.Given as goal
 
 abbrev pub invariant-loop-site : goal.invariant-loop-site

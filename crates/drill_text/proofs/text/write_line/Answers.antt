@@ -3,7 +3,6 @@ use mathlib.Core.Path.{refl}
 use mathlib.Core.List.{[], ◌∷◌}
 use native.Mathlib.Omega.{arith}
 use lib.ListN.{get_or}
-use borrow.Author.Rules.{rules}
 use Rattle.joint.specs.Drill.{line}
 use Rattle.drill_text.specs.Inside.{line_at}
 use Rattle.codec.specs.Laws.Stored.{Left, next_last, left-start, left_end, left_room, left_next}

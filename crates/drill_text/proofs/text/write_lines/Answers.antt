@@ -1,11 +1,9 @@
-use Prim.Native.Nat.{◌-◌, ◌≤◌}
 use mathlib.Core.Path.{ap}
 use native.Mathlib.Omega.{arith}
 use lib.ListN.{length}
 use borrow.Author.Rules.{rules}
-use Rattle.drill_text.specs.Inside.{lines_of, Shows}
-use Rattle.codec.specs.Laws.Stored.{Left, left-start, left_end, left_room, left_next}
-use Rattle.drill_text.proofs.Texts.{lines_from, lines_start, lines_next, lines_end}
+use Rattle.codec.specs.Laws.Stored.{left-start, left_end, left_room, left_next}
+use Rattle.drill_text.proofs.Texts.{lines_start, lines_next, lines_end}
 use Rattle.drill_text.proofs.text.write_lines.Goals as goal
 
 pub loop-i-init : goal.loop-i-init

@@ -1,11 +1,7 @@
 use Prim.Native.Nat.{◌-◌, ◌≤◌}
-use mathlib.Core.Path.{ap}
-use native.Mathlib.Omega.{arith}
-use lib.ListN.{length}
-use borrow.Author.Rules.{rules}
 use Rattle.drill_text.specs.Inside.{lines_of, Shows}
-use Rattle.codec.specs.Laws.Stored.{Left, left-start, left_end, left_room, left_next}
-use Rattle.drill_text.proofs.Texts.{lines_from, lines_start, lines_next, lines_end}
+use Rattle.codec.specs.Laws.Stored.{Left}
+use Rattle.drill_text.proofs.Texts.{lines_from}
 use Rattle.drill_text.proofs.text.write_lines.Given as goal
 
 abbrev pub invariant-loop-i : goal.invariant-loop-i

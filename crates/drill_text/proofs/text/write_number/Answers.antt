@@ -1,7 +1,6 @@
 use Prim.Native.Nat.{◌/◌, ◌+◌}
 use mathlib.Core.Path.{◌∙◌}
 use native.Mathlib.Omega.{arith}
-use borrow.Author.Rules.{rules}
 use Rattle.codec.specs.Laws.Stored.{Left}
 use Rattle.joint.specs.Drill.{decimal}
 use Rattle.drill_text.specs.Inside.{two}

@@ -2,7 +2,6 @@ use Prim.Native.Nat.{◌+◌}
 use mathlib.Core.Path.{◌≡◌, refl, ap}
 use native.Mathlib.Omega.{arith}
 use lib.ListN.{length}
-use borrow.Author.Rules.{rules}
 use Rattle.codec.specs.Laws.Stored.{set-stored}
 use Rattle.joint.specs.Drill.{decimal}
 use Rattle.drill_text.specs.Inside.{two}

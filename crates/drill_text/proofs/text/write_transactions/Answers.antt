@@ -1,12 +1,11 @@
-use Prim.Native.Nat.{◌-◌, ◌+◌, ◌≤◌, ◌<◌}
+use Prim.Native.Nat.{◌+◌, ◌≤◌, ◌<◌}
 use mathlib.Core.Path.{sym, ap, ◌∙◌}
-use mathlib.Core.Logic.{⊎_elim}
 use native.Mathlib.Omega.{arith}
 use lib.ListN.{length}
-use Rattle.drill_text.specs.Inside.{opened_in, transaction_lines}
+use Rattle.drill_text.specs.Inside.{opened_in}
 use Rattle.joint.specs.Answers.{run_in}
-use Rattle.codec.specs.Laws.Stored.{Left, left-start, left_end, left_room, left_next}
-use Rattle.drill_text.proofs.Texts.{text_from, text_length, text_next, text_skip, text_end, transaction-length}
+use Rattle.codec.specs.Laws.Stored.{left-start, left_end, left_room, left_next}
+use Rattle.drill_text.proofs.Texts.{text_length, text_next, text_skip, text_end, transaction-length}
 use Rattle.drill_text.proofs.text.write_transactions.Goals as goal
 use Rattle.drill_text.proofs.text.write_transactions.Goals.{After-write_transaction-arg-1, then-members-ne0, else-members-ne0}
 
@@ -35,9 +34,9 @@ loop-i-preserved c =
     let left = c.loop-i.invariant.1 in (
       omega arith,
       elim c.if-members-ne0.branch [
-          then-members-ne0 w ↦
-          left_next left (text_next r c.loop-i.i test (λ e. w.if-members-ne0.true (members ∙ e)))
-          c.if-members-ne0.at (w.at-is ∙ ap (c.loop-i.at +◌) (sym (transaction-length r c.loop-i.i))) c.if-members-ne0.out (w.out-is ∙ w.write_transaction.ensures)
+        | then-members-ne0 w ↦
+            left_next left (text_next r c.loop-i.i test (λ e. w.if-members-ne0.true (members ∙ e)))
+            c.if-members-ne0.at (w.at-is ∙ ap (c.loop-i.at +◌) (sym (transaction-length r c.loop-i.i))) c.if-members-ne0.out (w.out-is ∙ w.write_transaction.ensures)
         | else-members-ne0 w ↦ rw (w.at-is, w.out-is, ← text_skip r c.loop-i.i test (sym members ∙ w.if-members-ne0.false)) left
       ],
     )

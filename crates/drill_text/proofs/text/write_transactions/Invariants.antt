@@ -1,12 +1,8 @@
-use Prim.Native.Nat.{◌-◌, ◌+◌, ◌≤◌, ◌<◌}
-use mathlib.Core.Path.{sym, ap, ◌∙◌}
-use mathlib.Core.Logic.{⊎_elim}
-use native.Mathlib.Omega.{arith}
-use lib.ListN.{length}
-use Rattle.drill_text.specs.Inside.{opened_in, transaction_lines}
+use Prim.Native.Nat.{◌-◌, ◌≤◌}
+use Rattle.drill_text.specs.Inside.{transaction_lines}
 use Rattle.joint.specs.Answers.{run_in}
-use Rattle.codec.specs.Laws.Stored.{Left, left-start, left_end, left_room, left_next}
-use Rattle.drill_text.proofs.Texts.{text_from, text_length, text_next, text_skip, text_end, transaction-length}
+use Rattle.codec.specs.Laws.Stored.{Left}
+use Rattle.drill_text.proofs.Texts.{text_from}
 use Rattle.drill_text.proofs.text.write_transactions.Given as goal
 
 abbrev pub invariant-loop-i : goal.invariant-loop-i

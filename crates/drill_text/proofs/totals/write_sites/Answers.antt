@@ -1,12 +1,8 @@
-use Prim.Native.Nat.{◌+◌, ◌-◌, ◌≤◌, ◌<◌}
-use mathlib.Core.Path.{sym, ap, ◌∙◌}
-use mathlib.Core.List.{List}
+use Prim.Native.Nat.{◌+◌}
+use mathlib.Core.Path.{ap}
 use native.Mathlib.Omega.{arith}
 use lib.ListN.{length, drop}
-use borrow.Author.Rules.{rules}
-use Rattle.codec.specs.Image.{stored}
-use Rattle.codec.specs.Laws.Stored.{Left, Next, left_front, left_end, left_room, left_next}
-use Rattle.joint.specs.Totals.{Totals}
+use Rattle.codec.specs.Laws.Stored.{Next, left_front, left_end, left_room, left_next}
 use Rattle.joint.specs.Drill.{totals_line}
 use Rattle.joint.specs.Answers.{totals_in, totals_seen}
 use Rattle.drill_text.specs.Inside.{sites, site_lines}

@@ -4,7 +4,6 @@ use mathlib.Core.List.{List}
 use native.Mathlib.Omega.{arith}
 use lib.ListN.{length, take, drop, length-append, length-drop}
 use lib.Seq.{take_all}
-use borrow.Author.Rules.{rules}
 use Rattle.codec.specs.Image.{stored}
 use Rattle.joint.specs.Drill.{decimal}
 use Rattle.drill_text.specs.declared.totals.Digits.{Digits}

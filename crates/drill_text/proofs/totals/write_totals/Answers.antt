@@ -1,16 +1,14 @@
-use Prim.Native.Nat.{ℕ, suc, ◌+◌, ◌-◌, ◌≤◌}
+use Prim.Native.Nat.{suc}
 use mathlib.Core.Path.{◌≡◌, refl, sym, ap, ◌∙◌}
-use mathlib.Core.List.{List, [], ◌∷◌, ◌++◌}
-use mathlib.Core.Logic.{⊎_elim}
+use mathlib.Core.List.{[], ◌∷◌, ◌++◌}
 use native.Mathlib.Numerals.{add-one}
 use native.Mathlib.Omega.{arith}
 use lib.ListN.{length, get_or, drop, length-drop, drop_of_length-le}
-use borrow.Author.Rules.{rules}
 use Rattle.joint.specs.Drill.{decimal, totals_line}
 use Rattle.joint.specs.Answers.{totals_seen}
-use Rattle.codec.specs.Laws.Stored.{Left, Next, left-start, left_end, left_room, left_next}
+use Rattle.codec.specs.Laws.Stored.{Next, left-start, left_end, left_room, left_next}
 use Rattle.drill_text.proofs.Texts.{fields, ending, ending_more, ending_none, fields_next}
-use Rattle.drill_text.proofs.FourNumbers.{numbers, Passed}
+use Rattle.drill_text.proofs.FourNumbers.{numbers}
 use Rattle.drill_text.proofs.totals.write_totals.Goals as goal
 use Rattle.drill_text.proofs.totals.write_totals.Goals.{After-write_total-arg-1, then-i-lt3, else-i-lt3}
 
@@ -24,7 +22,7 @@ ends c =
     let rest = drop (suc c.loop-i.i) (numbers c.args.x) in
     let size = length-drop (suc c.loop-i.i) (numbers c.args.x) in
     elim c.if-i-lt3.branch [
-        then-i-lt3 w ↦ w.end-is ∙ sym (ending_more rest (omega (arith, size, w.if-i-lt3.true)))
+      | then-i-lt3 w ↦ w.end-is ∙ sym (ending_more rest (omega (arith, size, w.if-i-lt3.true)))
       | else-i-lt3 w ↦ w.end-is ∙ sym (ending_none rest (omega (arith, size, w.if-i-lt3.false)))
     ]
 

@@ -1,9 +1,9 @@
 use Prim.Native.Nat.{◌-◌}
-use mathlib.Core.Path.{◌≡◌, refl, ◌∙◌}
+use mathlib.Core.Path.{refl, ◌∙◌}
 use lib.ListN.{length-set}
 use native.Mathlib.Omega.{arith}
 use borrow.Author.Rules.{rules}
-use Rattle.drill_text.proofs.Digits.{Ended, ended_start, ended_more, ended_next, ended_last}
+use Rattle.drill_text.proofs.Digits.{ended_start, ended_more, ended_next, ended_last}
 use Rattle.drill_text.proofs.totals.Digits.of.Goals as goal
 
 pub loop-rest-init : goal.loop-rest-init

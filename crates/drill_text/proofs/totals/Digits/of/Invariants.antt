@@ -1,9 +1,4 @@
-use Prim.Native.Nat.{◌-◌}
-use mathlib.Core.Path.{◌≡◌, refl, ◌∙◌}
-use lib.ListN.{length-set}
-use native.Mathlib.Omega.{arith}
-use borrow.Author.Rules.{rules}
-use Rattle.drill_text.proofs.Digits.{Ended, ended_start, ended_more, ended_next, ended_last}
+use Rattle.drill_text.proofs.Digits.{Ended}
 use Rattle.drill_text.proofs.totals.Digits.of.Given as goal
 
 abbrev pub invariant-loop-rest : goal.invariant-loop-rest
