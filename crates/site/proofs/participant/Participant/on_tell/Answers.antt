@@ -15,13 +15,13 @@ pub returns-in-Prepared : goal.returns-in-Prepared
 unfolding answered on_tell
 returns-in-Prepared c t = rw (c.finish-in-Prepared.ensures t, c.in-Prepared.is)
 
-pub returns-in-Commit-outcome : goal.returns-in-Commit-outcome
-unfolding answered on_tell acking_if same_outcome
-returns-in-Commit-outcome c t = rw (c.acknowledging.ensures t, c.in-Committed.is, c.in-Commit-outcome.is)
-
 pub returns-in-Abort-outcome : goal.returns-in-Abort-outcome
 unfolding answered on_tell acking_if same_outcome
 returns-in-Abort-outcome c t = rw (c.in-Committed.is, c.in-Abort-outcome.is)
+
+pub returns-in-Commit-outcome : goal.returns-in-Commit-outcome
+unfolding answered on_tell acking_if same_outcome
+returns-in-Commit-outcome c t = rw (c.acknowledging.ensures t, c.in-Committed.is, c.in-Commit-outcome.is)
 
 pub returns-in-Commit-outcome-2 : goal.returns-in-Commit-outcome-2
 unfolding answered on_tell acking_if same_outcome
