@@ -107,7 +107,7 @@ def refused(support, equations, edit=None, out=OUT):
     for label, claim, proof in equations:
         name = "v" + re.sub(r"\W", "-", label)
         labels[name] = label
-        root += f"\n{name} : {claim}\nunfolding codec_opens site-opens joint_opens {opened}\n{name} = {proof}\n"
+        root += f"\n{name} : {claim}\nunfolding codec_opens site_opens joint_opens {opened}\n{name} = {proof}\n"
     put(out, "crates/vectors/src/lib.rt", "// Equations alone.\n")
     put(out, "crates/vectors/specs/Lib.antt", root)
     proved, printed = check(out, list(CRATES) + ["vectors"])

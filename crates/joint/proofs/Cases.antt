@@ -12,7 +12,7 @@ use Rattle.joint.specs.State.{Run, fresh}
 use Rattle.joint.specs.Run.{after, site_image}
 use Rattle.joint.specs.Drill.{events_in, ascii, drill}
 use Rattle.codec.specs.Open.{codec_opens}
-use Rattle.site.specs.Open.{site-opens}
+use Rattle.site.specs.Open.{site_opens}
 use Rattle.joint.proofs.Open.{joint_opens}
 
 -- ---- hexadecimal text as bytes; what stands below '0' in ASCII only separates
@@ -168,5 +168,5 @@ expected c =
     (ascii c.output ++ ascii c.totals ++ flatten (replicate 7 (ascii c.others))) ∷ c.phases ∷ hex c.image_of_1 ∷ []
 
 pub cases_hold : map observed cases ≡ map expected cases
-unfolding codec_opens site-opens joint_opens cases phases_of observed expected
+unfolding codec_opens site_opens joint_opens cases phases_of observed expected
 cases_hold = refl

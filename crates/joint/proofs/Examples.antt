@@ -16,7 +16,7 @@ use Rattle.joint.specs.Drill.{events_in}
 use Rattle.joint.specs.Safety.{Moment, moments, happened, history, leaves, along, enters, sends, is_entry, is_entry_at, is_reply, is_vote, in_doubt, commit_stable, outcome, steps, accepts, collects, is_taking_out, taken_out, is_marking, marked, Happens}
 use Rattle.joint.specs.Bill.{opens_with, begins, delivers, serving}
 use Rattle.codec.specs.Open.{codec_opens}
-use Rattle.site.specs.Open.{site-opens}
+use Rattle.site.specs.Open.{site_opens}
 use Rattle.joint.proofs.Open.{joint_opens}
 use Rattle.joint.proofs.Cases.{hex}
 use Rattle.joint.proofs.Base.Moments.{any_placed}
@@ -24,7 +24,7 @@ use Rattle.joint.proofs.Demand3.{is_unknown}
 
 -- what the theorems by computation below open
 unfoldable safety_opens : Unit {0}
-unfolding codec_opens site-opens joint_opens is_entry_at moments happened history leaves along enters sends is_entry is_reply is_vote in_doubt commit_stable outcome steps accepts collects is_taking_out taken_out is_marking marked
+unfolding codec_opens site_opens joint_opens is_entry_at moments happened history leaves along enters sends is_entry is_reply is_vote in_doubt commit_stable outcome steps accepts collects is_taking_out taken_out is_marking marked
 safety_opens = tt
 
 -- ---- moments that pass a test

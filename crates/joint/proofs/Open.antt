@@ -1,5 +1,5 @@
--- What a theorem by computation opens: `unfolding codec_opens site-opens joint_opens` unfolds every definition that the plain run is made of
--- (`codec_opens` and `site-opens` stand in the specs of those crates).
+-- What a theorem by computation opens: `unfolding codec_opens site_opens joint_opens` unfolds every definition that the plain run is made of
+-- (`codec_opens` and `site_opens` stand in the specs of those crates).
 use Rattle.joint.specs.State.{fresh, update, at_site, at_transaction, opened, takes_part, holds, recorded_cohort, appended, forced, survivors, may_keep, stopped, started, with_coordinator, with_participant, with_marked, with_sent, with_entered, forgotten, down, perform, perform_all}
 use Rattle.joint.specs.Event.{event_length, event_of, ranges, bytes_in_range, cut_in_range, cut_at, cut_of, parse}
 use Rattle.joint.specs.Refusals.{unopened, stranger, is_down, refusals}

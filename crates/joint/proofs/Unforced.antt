@@ -17,7 +17,7 @@ use Rattle.joint.specs.Run.{Result, event, after, refuse, partly, carry, cut_sho
 use Rattle.joint.specs.Safety.{Moment, moments, happened, history, leaves, along}
 use Rattle.joint.specs.Unforced.{Passes, wanted, Named, Few, EveryMoment}
 use Rattle.codec.specs.Open.{codec_opens}
-use Rattle.site.specs.Open.{site-opens}
+use Rattle.site.specs.Open.{site_opens}
 use Rattle.joint.proofs.Open.{joint_opens}
 use Rattle.joint.proofs.Base.Lists.{Each, among, each_append, each_take, each_back}
 use Rattle.joint.proofs.Base.Ranges.{parse_range}
@@ -171,5 +171,5 @@ abbrev pub filling : List (List ℕ)
 filling = flatten (map aborting transactions) ++ map (λ t. 2 ∷ t ∷ 2 ∷ 6 ∷ 255 ∷ 0 ∷ []) transactions
 
 pub eight_reached : map (λ s. length ((after fresh filling).site s).unforced) (0 ∷ 1 ∷ []) ≡ 8 ∷ 8 ∷ []
-unfolding codec_opens site-opens joint_opens
+unfolding codec_opens site_opens joint_opens
 eight_reached = refl

@@ -1,33 +1,33 @@
 -- Each example by computation.
 use Rattle.std.proofs.Common.{eq-eqb}
 use Rattle.codec.specs.Open.{codec_opens}
-use Rattle.site.specs.Open.{site-opens}
+use Rattle.site.specs.Open.{site_opens}
 use Rattle.site_cases.proofs.participant_steps.Goals as goal
 
 pub expect-requires : goal.expect-requires
-unfolding codec_opens site-opens
+unfolding codec_opens site_opens
 expect-requires c = eq-eqb c.participant_step.result 65280 c.participant_step.ensures
 
 pub expect-requires-2 : goal.expect-requires-2
-unfolding codec_opens site-opens
+unfolding codec_opens site_opens
 expect-requires-2 c = eq-eqb c.participant_step-2.result 65280 c.participant_step-2.ensures
 
 pub expect-requires-3 : goal.expect-requires-3
-unfolding codec_opens site-opens
+unfolding codec_opens site_opens
 expect-requires-3 c = eq-eqb c.participant_step-3.result 65280 c.participant_step-3.ensures
 
 pub expect-requires-4 : goal.expect-requires-4
-unfolding codec_opens site-opens
+unfolding codec_opens site_opens
 expect-requires-4 c = eq-eqb c.participant_step-4.result 512 c.participant_step-4.ensures
 
 pub expect-requires-5 : goal.expect-requires-5
-unfolding codec_opens site-opens
+unfolding codec_opens site_opens
 expect-requires-5 c = eq-eqb c.participant_step-5.result 768 c.participant_step-5.ensures
 
 pub expect-requires-6 : goal.expect-requires-6
-unfolding codec_opens site-opens
+unfolding codec_opens site_opens
 expect-requires-6 c = eq-eqb c.participant_step-6.result 1 c.participant_step-6.ensures
 
 pub expect-requires-7 : goal.expect-requires-7
-unfolding codec_opens site-opens
+unfolding codec_opens site_opens
 expect-requires-7 c = eq-eqb c.participant_step-7.result 1 c.participant_step-7.ensures

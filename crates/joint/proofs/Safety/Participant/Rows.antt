@@ -10,7 +10,7 @@ use borrow.Author.Tests.{eqb-true, not-true}
 use Rattle.codec.specs.Lists.{any, same}
 use Rattle.codec.specs.Open.{codec_opens}
 use Rattle.codec.specs.Laws.Tests.{and_left, and_right, true_of, alike, alike_eq, same_list}
-use Rattle.site.specs.Open.{site-opens}
+use Rattle.site.specs.Open.{site_opens}
 use Rattle.site.specs.Presumption.{Outcome, commit, abort, same_outcome, Presumption}
 use Rattle.site.specs.Cohort.{Cohort}
 use Rattle.site.specs.Step.{Message, prepare, voteYes, read_only, message_kind, Input, begin, timer, received, Effect, append, force, enter, send, Row}
@@ -227,7 +227,7 @@ input_tests p q c k s =
     step_test c k p s begin && step_test c k p s timer && all_message (λ m. step_test c k p s (received m q))
 
 step_passes : (p q : ℕ) → T (all_kinds (input_tests p q))
-unfolding codec_opens site-opens has
+unfolding codec_opens site_opens has
 step_passes p q = tt
 
 pub step_at_lem : (c : Presumption) (k : Bool) (p : ℕ) (s : Status) (i : Input) → T (step_test c k p s i)
@@ -252,7 +252,7 @@ abbrev restart_test : ℕ → Presumption → Bool → Status → Bool
 restart_test p c k s = not (is_up s) ⇒ row_test c k timer s woken (participant_restart c p (λ j. has j (stable_kinds s)))
 
 restart_passes : (p : ℕ) → T (all_kinds (restart_test p))
-unfolding codec_opens site-opens has
+unfolding codec_opens site_opens has
 restart_passes p = tt
 
 pub restart_at : (c : Presumption) (k : Bool) (p : ℕ) (s : Status) → T (restart_test p c k s)
@@ -263,7 +263,7 @@ abbrev force_test : Presumption → Bool → Status → Bool
 force_test c k s = lands c k timer s (effect force (of_status s))
 
 force_passes : T (all_kinds force_test)
-unfolding codec_opens site-opens has
+unfolding codec_opens site_opens has
 force_passes = tt
 
 pub force_at : (c : Presumption) (k : Bool) (s : Status) → T (force_test c k s)
@@ -273,7 +273,7 @@ abbrev crash_test : Presumption → Bool → Status → Bool
 crash_test c k s = cut_test c k timer s (of_status s)
 
 crash_passes : T (all_kinds crash_test)
-unfolding codec_opens site-opens has
+unfolding codec_opens site_opens has
 crash_passes = tt
 
 pub crash_at : (c : Presumption) (k : Bool) (s : Status) (n : ℕ) → T (lands c k timer s (halted (survivors n (unforced_kinds s)) (of_status s)))
@@ -284,7 +284,7 @@ module _ (g : Cohort) (t p : ℕ) where
   discard_test c k s = is_up s ⇒ closed (map (record_for g 0 t p) (stable_kinds s)) ⇒ lands c k timer s (dropped (of_status s))
 
   discard_passes : T (all_kinds discard_test)
-  unfolding codec_opens site-opens has closed newest closes
+  unfolding codec_opens site_opens has closed newest closes
   discard_passes = tt
 
   pub discard_at : (c : Presumption) (k : Bool) (s : Status) → T (discard_test c k s)
