@@ -15,6 +15,8 @@ MODULES = {"specs/laws": "specs/Laws"} | {f"proofs/{m}": f"proofs/{m.capitalize(
 MODULES |= {"proofs/Safety/coordinator": "proofs/Safety/Coordinator", "proofs/Safety/participant": "proofs/Safety/Participant"}
 # a fact that was spelled as a word, in this crate
 FACTS = {("joint", "isMember"): "IsMember"}
+# names that stand several in a line, or before a level, and that SIGNATURE does not read
+MORE = "voteYes voteNo presumedAbort presumedCommit offVoted allFirst allSurvivors".split()
 # what port.py turned in crates/ because the library has a name of that spelling, or a word of the library itself
 TURNED = """
 add-at add-nothing adds-none after-kept alike-all alike-same all-map all-of-map all-rest all-up allOf and-both and-left and-right answerIn answerOf any-append any-found
@@ -99,7 +101,7 @@ def names(found):
                 plain |= set(SIGNATURE.findall(text))
     parts = {snake(w) for w in plain if "-" not in w} | {w for w in foreign if "-" not in w and w.islower()}
     new, taken = {}, collections.defaultdict(list)
-    for word in sorted(defined - foreign, key=lambda w: ("-" in w, w)):
+    for word in sorted((defined | set(MORE)) - foreign, key=lambda w: ("-" in w, w)):
         old = [snake(p) for p in word.split("-")]
         said = old[0]
         for a, b in zip(old, old[1:]):

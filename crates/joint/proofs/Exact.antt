@@ -11,7 +11,7 @@ use borrow.Author.Tests.{leb-true}
 use Rattle.codec.specs.Lists.{select}
 use Rattle.codec.specs.Sets.{participants}
 use Rattle.codec.specs.Laws.Tests.{every_at}
-use Rattle.site.specs.Step.{Message, prepare, voteYes, voteNo, read_only, tell, ack, receiver, coordinator_of, messages}
+use Rattle.site.specs.Step.{Message, prepare, vote_yes, vote_no, read_only, tell, ack, receiver, coordinator_of, messages}
 use Rattle.joint.specs.State.{Run, fresh}
 use Rattle.joint.specs.Event.{event_of, ranges, bytes_in_range, Parsed, parse}
 use Rattle.joint.specs.Run.{Answer, refuse, event_parsed, event, after, answers, answer_of, count}
@@ -59,8 +59,8 @@ stays es later s h =
 receiver_low : (m : Message) (p : ℕ) → p ≤ 8 → receiver m p ≤ 8
 unfolding receiver coordinator_of
 receiver_low prepare p h = h
-receiver_low voteYes p h = omega arith
-receiver_low voteNo p h = omega arith
+receiver_low vote_yes p h = omega arith
+receiver_low vote_no p h = omega arith
 receiver_low read_only p h = omega arith
 receiver_low (tell o) p h = h
 receiver_low (ack o) p h = omega arith

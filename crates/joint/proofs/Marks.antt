@@ -14,7 +14,7 @@ use Rattle.codec.specs.Records.{LogRecord, members_in, of_transaction}
 use Rattle.codec.specs.Laws.Tests.{true_of, of_true, every_at}
 use Rattle.site.specs.Presumption.{commit}
 use Rattle.site.specs.Cohort.{Cohort, remaining, masks_of, writes_init}
-use Rattle.site.specs.Step.{voteYes, read_only, message_kind}
+use Rattle.site.specs.Step.{vote_yes, read_only, message_kind}
 use Rattle.joint.specs.State.{Run, Site, fresh, opened, holds}
 use Rattle.joint.specs.Event.{delivery, Parsed}
 use Rattle.joint.specs.Refusals.{refusals}
@@ -109,13 +109,13 @@ module _ (t : ℕ) (es : List (List ℕ)) where
   unfolding view
   looked_marked n m u =
       subst T (marks_happened es t (suc n))
-      (marked_looked (mid.status n) (v.transaction.marked (suc n)) (sent_in v (suc n) voteYes) (sent_in v (suc n) read_only) (mid.fine n m).looked u)
+      (marked_looked (mid.status n) (v.transaction.marked (suc n)) (sent_in v (suc n) vote_yes) (sent_in v (suc n) read_only) (mid.fine n m).looked u)
 
-  yes_unmarked : (n : ℕ) → T (member (suc n) (cohort_of v).members) → T (sent_in v (suc n) voteYes) → marked es t (suc n) ≡ false
+  yes_unmarked : (n : ℕ) → T (member (suc n) (cohort_of v).members) → T (sent_in v (suc n) vote_yes) → marked es t (suc n) ≡ false
   unfolding view
   yes_unmarked n m u =
       sym (marks_happened es t (suc n))
-      ∙ unmarked_yes (mid.status n) (v.transaction.marked (suc n)) (sent_in v (suc n) voteYes) (sent_in v (suc n) read_only) (mid.fine n m).looked u
+      ∙ unmarked_yes (mid.status n) (v.transaction.marked (suc n)) (sent_in v (suc n) vote_yes) (sent_in v (suc n) read_only) (mid.fine n m).looked u
 
   -- ---- whom a record 2 names
 

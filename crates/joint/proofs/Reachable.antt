@@ -11,7 +11,7 @@ use Rattle.codec.specs.Sets.{member}
 use Rattle.codec.specs.Records.{LogRecord}
 use Rattle.codec.specs.Image.{most, accepted, read_image, log_refusals}
 use Rattle.codec.specs.Laws.RoundTrip.{reads_back}
-use Rattle.site.specs.Step.{voteYes, message_kind}
+use Rattle.site.specs.Step.{vote_yes, message_kind}
 use Rattle.site.specs.Coordinator.{Coordinator}
 use Rattle.site.specs.Numbers.{coordinator_phase, waiting_set, waiting_in_range, taken_out_in_range}
 use Rattle.joint.specs.State.{Run, fresh, opened}
@@ -78,7 +78,7 @@ module _ (es : List (List ℕ)) where
     where
       go : (b : Bool) → Here b t (stage_of (tracked t es).standing (suc n)) n (view t (history fresh es) r) → ⊥
       go true x = no_both x.status ((r.transaction t).marked (suc n)) ((r.transaction t).sent (suc n) 1) ((r.transaction t).sent (suc n) 7) (x.fine tt).looked y k
-      go false x = subst T (x.stands.sent voteYes) y
+      go false x = subst T (x.stands.sent vote_yes) y
 
   -- ---- logs
 

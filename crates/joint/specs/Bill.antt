@@ -5,7 +5,7 @@ use Rattle.codec.specs.Lists.{select, any, all, every, same}
 use Rattle.codec.specs.Sets.{member, empty, listed, part}
 use Rattle.site.specs.Presumption.{commit, abort}
 use Rattle.site.specs.Cohort.{Cohort, owing}
-use Rattle.site.specs.Step.{Message, prepare, voteYes, tell, ack, message_kind}
+use Rattle.site.specs.Step.{Message, prepare, vote_yes, tell, ack, message_kind}
 use Rattle.site.specs.Coordinator.{CoordinatorPhase}
 use Rattle.joint.specs.State.{Run, fresh, names, cohort_at, coordinator_at}
 use Rattle.joint.specs.Run.{event, after, Answer, answers}
@@ -145,7 +145,7 @@ serving t g =
     begins t
     ∷ flatten
     (map (delivers t prepare) everyone
-    ∷ map (delivers t voteYes) everyone
+    ∷ map (delivers t vote_yes) everyone
     ∷ map (delivers t (tell commit)) everyone
     ∷ map (delivers t (ack commit)) (listed (owing g commit))
     ∷ [])

@@ -5,7 +5,7 @@ use Rattle.codec.specs.Lists.{any, every, same}
 use Rattle.codec.specs.Sets.{member}
 use Rattle.codec.specs.Records.{LogRecord, members_in}
 use Rattle.site.specs.Presumption.{Outcome, commit, abort, same_outcome}
-use Rattle.site.specs.Step.{voteYes, read_only, tell, message_kind, coordinator_of, Effect, append, force, enter, send}
+use Rattle.site.specs.Step.{vote_yes, read_only, tell, message_kind, coordinator_of, Effect, append, force, enter, send}
 use Rattle.site.specs.Coordinator.{CoordinatorPhase}
 use Rattle.joint.specs.State.{Run, Act, fresh, coordinator_at, holds, perform}
 use Rattle.joint.specs.Run.{event, after}
@@ -78,7 +78,7 @@ is_vote t p m =
     every
     (eqb m.site p
     ∷ eqb m.act.transaction t
-    ∷ sends (message_kind voteYes) p m.act.effect
+    ∷ sends (message_kind vote_yes) p m.act.effect
     ∷ holds t 5 (m.before.site p).stable
     ∷ [])
 
@@ -86,7 +86,7 @@ is_vote t p m =
 unfoldable pub is_reply : ℕ → ℕ → Outcome → Moment → Bool
 is_reply t p o m =
     every
-    (same (take 4 m.event) (2 ∷ t ∷ p ∷ message_kind voteYes ∷ [])
+    (same (take 4 m.event) (2 ∷ t ∷ p ∷ message_kind vote_yes ∷ [])
     ∷ eqb m.site (coordinator_of p)
     ∷ eqb m.act.transaction t
     ∷ sends (message_kind (tell o)) p m.act.effect

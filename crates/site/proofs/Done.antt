@@ -13,7 +13,7 @@ use Rattle.codec.specs.Laws.Masks.{those-below}
 use Rattle.codec.specs.Laws.Listed.{weight}
 use Rattle.site.specs.Presumption.{Outcome, commit, abort, silence, same_outcome, Presumption, acks, presumption_number}
 use Rattle.site.specs.Cohort.{Cohort, remaining, masks_of, writes_init, presumption_of, owing}
-use Rattle.site.specs.Step.{Message, prepare, voteYes, voteNo, read_only, tell, ack, messages, message_kind, Effect, append, force, enter, send, given, Input, begin, timer, received, Row}
+use Rattle.site.specs.Step.{Message, prepare, vote_yes, vote_no, read_only, tell, ack, messages, message_kind, Effect, append, force, enter, send, given, Input, begin, timer, received, Row}
 use Rattle.site.specs.Coordinator.{CoordinatorPhase, Coordinator, ordered, tell_all, in_order, preparing, committing, aborting, telling, end_record, voted, counting, on_yes, on_no, taking_out, on_read_only, coordinator_timer, acked, acked_if, on_ack, on_begin, leaving, leaving_if, coordinator_step}
 use Rattle.site.specs.Participant.{outcome_record, voting, promising, first_vote, on_prepare, acking, finish, acknowledging, acking_if, on_tell, participant_timer, participant_step, ParticipantPhase}
 use Rattle.site.specs.Numbers.{Arguments, waiting_set, summary, fields_of, go_first, entry_of, row_values, appending, doing, row_read, done}
@@ -277,9 +277,9 @@ coordinator-done a h begin c q w r e = leaving-done a c.taken_out (on_begin a.tr
 coordinator-done a h timer c q w r e =
     leaving-done a c.taken_out (coordinator_timer a.transaction a.cohort c.taken_out c.phase) (timer_done a c.taken_out c.phase w) r e
 coordinator-done a h (received prepare p) c q w r e = cc
-coordinator-done a h (received voteYes p) c q w r e =
+coordinator-done a h (received vote_yes p) c q w r e =
     leaving-done a c.taken_out (on_yes a.transaction a.cohort c.taken_out p c.phase) (yes_done a c.taken_out p c.phase q) r e
-coordinator-done a h (received voteNo p) c q w r e = leaving-done a c.taken_out (on_no a.transaction a.cohort c.taken_out p c.phase) (no_done a c.taken_out p c.phase) r e
+coordinator-done a h (received vote_no p) c q w r e = leaving-done a c.taken_out (on_no a.transaction a.cohort c.taken_out p c.phase) (no_done a c.taken_out p c.phase) r e
 coordinator-done a h (received read_only p) c q w r e =
     leaving-done a (taking_out p c.taken_out) (on_read_only a.transaction a.cohort c.taken_out p c.phase) (read_only-done a c.taken_out p c.phase) r e
 coordinator-done a h (received (tell o) p) c q w r e = cc
@@ -290,7 +290,7 @@ coordinator-done a h (received (ack o) p) c q w r e = leaving-done a c.taken_out
 module _ (a : Arguments) (presumption : Presumption) (stated : a.presumption ≡ presumption_number presumption) (p : ℕ) (q : Numbered p) where
   promising-done : Does a 0 (promising presumption p).effects
   unfolding promising appending fields_of given entry_of
-  promising-done = rw (sym stated) (bare_done a 0 5 (omega arith) true 0 (omega arith) voteYes (p ∷ []) (one_turn a 0 (message_kind voteYes) p q))
+  promising-done = rw (sym stated) (bare_done a 0 5 (omega arith) true 0 (omega arith) vote_yes (p ∷ []) (one_turn a 0 (message_kind vote_yes) p q))
 
   first_done : (mark : Bool) → Does a 0 (first_vote presumption p mark).effects
   unfolding first_vote voting
@@ -313,10 +313,10 @@ module _ (a : Arguments) (presumption : Presumption) (stated : a.presumption ≡
   prepare_done : (mark : Bool) (x : ParticipantPhase) (r : Row ParticipantPhase) → on_prepare presumption p mark x ≡ some r → Does a 0 r.effects
   unfolding on_prepare voting
   prepare_done mark ParticipantPhase.working r e = is_row a 0 e (first_done mark)
-  prepare_done mark ParticipantPhase.prepared r e = is_row a 0 e (one_done a 0 voteYes p q)
+  prepare_done mark ParticipantPhase.prepared r e = is_row a 0 e (one_done a 0 vote_yes p q)
   prepare_done mark (ParticipantPhase.decided commit) r e = cc
-  prepare_done mark (ParticipantPhase.decided abort) r e = is_row a 0 e (one_done a 0 voteNo p q)
-  prepare_done mark ParticipantPhase.unknown r e = is_row a 0 e (one_done a 0 voteNo p q)
+  prepare_done mark (ParticipantPhase.decided abort) r e = is_row a 0 e (one_done a 0 vote_no p q)
+  prepare_done mark ParticipantPhase.unknown r e = is_row a 0 e (one_done a 0 vote_no p q)
 
   again_done : (b : Bool) (o : Outcome) (r : Row ParticipantPhase) → acking_if presumption p b o ≡ some r → Does a 0 r.effects
   unfolding acking_if acknowledging acking
@@ -337,7 +337,7 @@ module _ (a : Arguments) (presumption : Presumption) (stated : a.presumption ≡
   own_timer_done : (x : ParticipantPhase) (r : Row ParticipantPhase) → participant_timer presumption p x ≡ some r → Does a 0 r.effects
   unfolding participant_timer voting appending given entry_of
   own_timer_done ParticipantPhase.working r e = is_row a 0 e (alone_done a 0 0 (omega arith) false 2 (omega arith))
-  own_timer_done ParticipantPhase.prepared r e = is_row a 0 e (one_done a 0 voteYes p q)
+  own_timer_done ParticipantPhase.prepared r e = is_row a 0 e (one_done a 0 vote_yes p q)
   own_timer_done (ParticipantPhase.decided o) r e = cc
   own_timer_done ParticipantPhase.unknown r e = cc
 
@@ -348,8 +348,8 @@ module _ (a : Arguments) (presumption : Presumption) (stated : a.presumption ≡
   participant-done mark begin x r e = cc
   participant-done mark timer x r e = own_timer_done x r e
   participant-done mark (received prepare s) x r e = prepare_done mark x r e
-  participant-done mark (received voteYes s) x r e = cc
-  participant-done mark (received voteNo s) x r e = cc
+  participant-done mark (received vote_yes s) x r e = cc
+  participant-done mark (received vote_no s) x r e = cc
   participant-done mark (received read_only s) x r e = cc
   participant-done mark (received (tell o) s) x r e = tell_done o x r e
   participant-done mark (received (ack o) s) x r e = cc

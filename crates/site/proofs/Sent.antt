@@ -12,7 +12,7 @@ use Rattle.codec.specs.Sets.{participants, member, listed, bits, those, only}
 use Rattle.codec.specs.Laws.Tests.{below_at, true_of, same_list}
 use Rattle.codec.specs.Laws.Members.{none_in, numbered, member-participant}
 use Rattle.site.specs.Presumption.{commit, abort}
-use Rattle.site.specs.Step.{Message, prepare, voteYes, voteNo, read_only, tell, ack, messages, message_kind, send, given}
+use Rattle.site.specs.Step.{Message, prepare, vote_yes, vote_no, read_only, tell, ack, messages, message_kind, send, given}
 use Rattle.site.specs.Coordinator.{round, in_turn, ordered}
 use Rattle.site.specs.Answers.{sending}
 use Rattle.site.specs.Laws.Lists.{select-none, select-append}
@@ -76,8 +76,8 @@ member_numbered p m h e = numbered p (member-participant p m h e)
 pub kind_known : (m : Message) → (leb (message_kind m) 7 ≡ true) × (get_or messages (message_kind m) prepare ≡ m)
 unfolding message_kind messages
 kind_known prepare = (refl, refl)
-kind_known voteYes = (refl, refl)
-kind_known voteNo = (refl, refl)
+kind_known vote_yes = (refl, refl)
+kind_known vote_no = (refl, refl)
 kind_known read_only = (refl, refl)
 kind_known (tell commit) = (refl, refl)
 kind_known (tell abort) = (refl, refl)

@@ -33,8 +33,8 @@ outcome_in outcome.Commit = outcomes.commit
 outcome_in outcome.Abort = outcomes.abort
 
 abbrev pub presumption_in : Presumption → outcomes.Presumption
-presumption_in presumption.Abort = outcomes.presumedAbort
-presumption_in presumption.Commit = outcomes.presumedCommit
+presumption_in presumption.Abort = outcomes.presumed_abort
+presumption_in presumption.Commit = outcomes.presumed_commit
 
 abbrev pub coordinator_in : CoordinatorPhase → coordinator-step.CoordinatorPhase
 coordinator_in coordinator.Open = coordinator-step.initial

@@ -1,7 +1,7 @@
 -- The participants of one transaction, with their presumptions.
 use Rattle.std.specs.Prelude.{ℕ, Bool, cond, not, ◌&&◌, List, [], ◌∷◌}
 use Rattle.codec.specs.Sets.{member, empty, those, minus}
-use Rattle.site.specs.Presumption.{Outcome, Presumption, presumedAbort, presumedCommit, acks}
+use Rattle.site.specs.Presumption.{Outcome, Presumption, presumed_abort, presumed_commit, acks}
 
 -- the members, and those of them that presume commit (01: PC)
 pub record Cohort : Type 0 where
@@ -21,7 +21,7 @@ abbrev pub writes_init : Cohort → Bool
 writes_init g = not (empty g.presume_commit)
 
 unfoldable pub presumption_of : Cohort → ℕ → Presumption
-presumption_of g p = cond (member p g.presume_commit) presumedCommit presumedAbort
+presumption_of g p = cond (member p g.presume_commit) presumed_commit presumed_abort
 
 -- the members that owe an ack for an outcome: for commit the PrA members, for abort the PrC members
 unfoldable pub owing : Cohort → Outcome → ℕ

@@ -5,7 +5,7 @@ use Rattle.codec.specs.Lists.{select, only_if}
 use Rattle.codec.specs.Sets.{participants, member, empty, only, without, both, either}
 use Rattle.site.specs.Presumption.{Outcome, commit, abort, same_outcome, silence}
 use Rattle.site.specs.Cohort.{Cohort, remaining, masks_of, writes_init, presumption_of, owing}
-use Rattle.site.specs.Step.{prepare, voteYes, voteNo, read_only, tell, ack, Input, begin, timer, received, Effect, append, force, enter, send, Row, given}
+use Rattle.site.specs.Step.{prepare, vote_yes, vote_no, read_only, tell, ack, Input, begin, timer, received, Effect, append, force, enter, send, Row, given}
 
 -- `initial` is 01's Open, `awaiting_acks commit` its Committing, `awaiting_acks abort` its Aborting. The number is the set still waited for.
 pub data CoordinatorPhase : Type 0 where
@@ -169,8 +169,8 @@ module _ (t : ℕ) (g : Cohort) where
   coordinator_step begin c = leaving_if c.taken_out (on_begin t g c.phase)
   coordinator_step timer c = leaving_if c.taken_out (coordinator_timer t g c.taken_out c.phase)
   coordinator_step (received prepare p) c = none
-  coordinator_step (received voteYes p) c = leaving_if c.taken_out (on_yes t g c.taken_out p c.phase)
-  coordinator_step (received voteNo p) c = leaving_if c.taken_out (on_no t g c.taken_out p c.phase)
+  coordinator_step (received vote_yes p) c = leaving_if c.taken_out (on_yes t g c.taken_out p c.phase)
+  coordinator_step (received vote_no p) c = leaving_if c.taken_out (on_no t g c.taken_out p c.phase)
   coordinator_step (received read_only p) c = leaving_if (taking_out p c.taken_out) (on_read_only t g c.taken_out p c.phase)
   coordinator_step (received (tell o) p) c = none
   coordinator_step (received (ack o) p) c = leaving_if c.taken_out (on_ack o p c.phase)

@@ -2,7 +2,7 @@
 use Rattle.std.specs.Prelude.{ℕ, Bool, true, false, List, [], ◌∷◌, ◌++◌}
 use Rattle.std.proofs.Math.Option.{Option, none, some}
 use Rattle.site.specs.Presumption.{Outcome, commit, abort, same_outcome, Presumption, acks, presumption_number}
-use Rattle.site.specs.Step.{Message, prepare, voteYes, voteNo, read_only, tell, ack, Input, begin, timer, received, Effect, append, force, enter, send, Row, given}
+use Rattle.site.specs.Step.{Message, prepare, vote_yes, vote_no, read_only, tell, ack, Input, begin, timer, received, Effect, append, force, enter, send, Row, given}
 
 -- `decided commit` is 01's Committed, `decided abort` its Aborted.
 pub data ParticipantPhase : Type 0 where
@@ -23,7 +23,7 @@ module _ (presumption : Presumption) (p : ℕ) where
 
   -- the first Yes
   unfoldable pub promising : Row ParticipantPhase
-  promising = record { effects = append 5 (presumption_number presumption ∷ []) ∷ force ∷ send voteYes p ∷ []; phase = prepared }
+  promising = record { effects = append 5 (presumption_number presumption ∷ []) ∷ force ∷ send vote_yes p ∷ []; phase = prepared }
 
   -- one that only looked (it is marked) sends a read-only vote, writes nothing and is Unknown
   unfoldable pub first_vote : Bool → Row ParticipantPhase
@@ -33,10 +33,10 @@ module _ (presumption : Presumption) (p : ℕ) where
   -- the mark means something in Working alone
   unfoldable pub on_prepare : Bool → ParticipantPhase → Option (Row ParticipantPhase)
   on_prepare mark working = some (first_vote mark)
-  on_prepare mark prepared = some (voting prepared voteYes)
+  on_prepare mark prepared = some (voting prepared vote_yes)
   on_prepare mark (decided commit) = none
-  on_prepare mark (decided abort) = some (voting (decided abort) voteNo)
-  on_prepare mark unknown = some (voting unknown voteNo)
+  on_prepare mark (decided abort) = some (voting (decided abort) vote_no)
+  on_prepare mark unknown = some (voting unknown vote_no)
 
   -- ---- Commit, Abort
 
@@ -67,7 +67,7 @@ module _ (presumption : Presumption) (p : ℕ) where
 
   unfoldable pub participant_timer : ParticipantPhase → Option (Row ParticipantPhase)
   participant_timer working = some (record { effects = enter abort ∷ []; phase = unknown })
-  participant_timer prepared = some (voting prepared voteYes)
+  participant_timer prepared = some (voting prepared vote_yes)
   participant_timer (decided o) = none
   participant_timer unknown = none
 
@@ -77,8 +77,8 @@ module _ (presumption : Presumption) (p : ℕ) where
   participant_step mark begin x = none
   participant_step mark timer x = participant_timer x
   participant_step mark (received prepare q) x = on_prepare mark x
-  participant_step mark (received voteYes q) x = none
-  participant_step mark (received voteNo q) x = none
+  participant_step mark (received vote_yes q) x = none
+  participant_step mark (received vote_no q) x = none
   participant_step mark (received read_only q) x = none
   participant_step mark (received (tell o) q) x = on_tell o x
   participant_step mark (received (ack o) q) x = none
@@ -89,7 +89,7 @@ module _ (presumption : Presumption) (p : ℕ) where
   unfoldable pub restart_with : Bool → Bool → Bool → Row ParticipantPhase
   restart_with true a v = record { effects = enter commit ∷ []; phase = decided commit }
   restart_with false true v = record { effects = enter abort ∷ []; phase = decided abort }
-  restart_with false false true = voting prepared voteYes
+  restart_with false false true = voting prepared vote_yes
   restart_with false false false = record { effects = []; phase = unknown }
 
   -- by the kinds of record that the stable log has of the transaction

@@ -3,20 +3,20 @@ use Rattle.std.specs.Prelude.{ℕ, Bool, true, false, cond, List, [], ◌∷◌}
 use Rattle.std.proofs.Math.Option.{Option, none, some}
 use Rattle.site.specs.Presumption.{Outcome, commit, abort}
 
--- `voteYes` is 01's Yes, `voteNo` its No, `tell` its Commit and Abort, `ack` its CommitAck and AbortAck; `read_only` is 02's read-only vote.
+-- `vote_yes` is 01's Yes, `vote_no` its No, `tell` its Commit and Abort, `ack` its CommitAck and AbortAck; `read_only` is 02's read-only vote.
 -- A message is of one participant, to which or from which it goes.
 pub data Message : Type 0 where
-  prepare voteYes voteNo read_only : Message
+  prepare vote_yes vote_no read_only : Message
   tell ack : Outcome → Message
 
 -- by kind number
 unfoldable pub messages : List Message
-messages = prepare ∷ voteYes ∷ voteNo ∷ tell commit ∷ tell abort ∷ ack commit ∷ ack abort ∷ read_only ∷ []
+messages = prepare ∷ vote_yes ∷ vote_no ∷ tell commit ∷ tell abort ∷ ack commit ∷ ack abort ∷ read_only ∷ []
 
 unfoldable pub message_kind : Message → ℕ
 message_kind prepare = 0
-message_kind voteYes = 1
-message_kind voteNo = 2
+message_kind vote_yes = 1
+message_kind vote_no = 2
 message_kind (tell commit) = 3
 message_kind (tell abort) = 4
 message_kind (ack commit) = 5
@@ -30,8 +30,8 @@ coordinator_of p = 0
 -- the site that a message of participant p goes to: 0, 3 and 4 to the participant, the others to its coordinator
 unfoldable pub receiver : Message → ℕ → ℕ
 receiver prepare p = p
-receiver voteYes p = coordinator_of p
-receiver voteNo p = coordinator_of p
+receiver vote_yes p = coordinator_of p
+receiver vote_no p = coordinator_of p
 receiver read_only p = coordinator_of p
 receiver (tell o) p = p
 receiver (ack o) p = coordinator_of p

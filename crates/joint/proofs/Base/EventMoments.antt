@@ -15,7 +15,7 @@ use Rattle.codec.specs.Sets.{member}
 use Rattle.codec.specs.Records.{LogRecord}
 use Rattle.codec.specs.Laws.Tests.{true_of, of_true, every_at}
 use Rattle.site.specs.Presumption.{Outcome, commit, abort, silence}
-use Rattle.site.specs.Step.{voteYes, tell, message_kind, coordinator_of, receiver, Input, begin, timer, received, Effect, append, force, enter, send}
+use Rattle.site.specs.Step.{vote_yes, tell, message_kind, coordinator_of, receiver, Input, begin, timer, received, Effect, append, force, enter, send}
 use Rattle.site.specs.Cohort.{presumption_of}
 use Rattle.site.specs.Coordinator.{CoordinatorPhase, telling, on_yes, leaving, leaving_if, coordinator_step}
 use Rattle.joint.specs.State.{Run, Site, Act, at_site, at_transaction, takes_part, holds, appended, forced, stopped, started, down, perform, perform_all}
@@ -55,7 +55,7 @@ acts_of : {x q : Plan} → some x ≡ some q → q.acts ≡ x.acts
 acts_of {x} {q} e = let k : q ≡ x = cc in ap (λ (p : Plan). p.acts) k
 
 -- the acts of p's delivered Yes where the coordinator is Unknown
-yes_acts : (r : Run) (t p : ℕ) (q : Plan) → (r.transaction t).coordinator.phase ≡ CoordinatorPhase.unknown → plan r (delivery t p voteYes) ≡ some q
+yes_acts : (r : Run) (t p : ℕ) (q : Plan) → (r.transaction t).coordinator.phase ≡ CoordinatorPhase.unknown → plan r (delivery t p vote_yes) ≡ some q
     → q.acts ≡ record { transaction = t; effect = send (tell (silence (presumption_of (r.transaction t).cohort p))) p } ∷ []
 unfolding plan receiver coordinator_of step coordinator_step leaving_if leaving on_yes telling planned row_plan acting or_nothing
 yes_acts r t p q u e = acts_of (rw u at e)
@@ -66,7 +66,7 @@ part-member r t zero l h = absurd (omega arith)
 part-member r t (suc n) l h = of_true h
 
 -- a delivered Yes that is not refused is of a member, and site 0 is up
-yes_passes : (r : Run) (t p : ℕ) → 1 ≤ p → first (refusals r (delivery t p voteYes)) ≡ 0
+yes_passes : (r : Run) (t p : ℕ) → 1 ≤ p → first (refusals r (delivery t p vote_yes)) ≡ 0
     → T (member p (r.transaction t).cohort.members) × ((r.site 0).up ≡ true)
 unfolding refusals receiver coordinator_of stranger
 yes_passes r t p l h =
@@ -80,7 +80,7 @@ module _ (r : Run) (e : List ℕ) (m : Moment) (t p : ℕ) (o : Outcome) (reply 
   unfolding is_reply message_kind
   reply_accepted {x} {q} c v n a b h =
       let tests = true_of _ reply in
-      let d = bytes_delivery e x c.parsed t p voteYes (rw v at (every_at _ tests 0)) in
+      let d = bytes_delivery e x c.parsed t p vote_yes (rw v at (every_at _ tests 0)) in
       let act-is = sole n _ m.act a b (rw (yes_acts r t p q u (rw d.0 at c.planned)) at h) in
       let k = yes_passes r t p d.1 (rw d.0 at c.passed) in
       (told o _ p p (rw act-is at (of_true (every_at _ tests 3))), k.0, k.1)

@@ -13,7 +13,7 @@ use Rattle.codec.specs.Lists.{any, every, same}
 use Rattle.codec.specs.Laws.Tests.{true_of, every_at, same_list}
 use Rattle.site.specs.Presumption.{Outcome, commit, abort}
 use Rattle.site.specs.Cohort.{Cohort}
-use Rattle.site.specs.Step.{Message, prepare, voteYes, voteNo, read_only, tell, ack, messages, message_kind}
+use Rattle.site.specs.Step.{Message, prepare, vote_yes, vote_no, read_only, tell, ack, messages, message_kind}
 use Rattle.joint.specs.State.{Run, fresh, at_transaction, update, with_marked, perform_all}
 use Rattle.joint.specs.Event.{Event, opening, beginning, delivery, timeout, forcing, discarding, crash, restart, marking, event_of, cut_in_range, cut_at, cut_of, Parsed, parse}
 use Rattle.joint.specs.Plan.{Plan, opened_as, plan}
@@ -45,8 +45,8 @@ delivery_bytes b x h t p m e = same_numbers _ _ (rw e at (event_bytes b x h))
 kind-message : (m : Message) → get_or messages (message_kind m) prepare ≡ m
 unfolding messages message_kind
 kind-message prepare = refl
-kind-message voteYes = refl
-kind-message voteNo = refl
+kind-message vote_yes = refl
+kind-message vote_no = refl
 kind-message read_only = refl
 kind-message (tell commit) = refl
 kind-message (tell abort) = refl

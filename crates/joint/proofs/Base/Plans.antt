@@ -8,7 +8,7 @@ use native.Mathlib.Omega.{arith}
 use borrow.Author.Tests.{not-false}
 use Rattle.codec.specs.Lists.{first, only_if}
 use Rattle.site.specs.Presumption.{Outcome, commit, abort, Presumption}
-use Rattle.site.specs.Step.{Message, voteYes, tell, receiver, Input, begin, timer, received, Effect, enter, send, Row, given}
+use Rattle.site.specs.Step.{Message, vote_yes, tell, receiver, Input, begin, timer, received, Effect, enter, send, Row, given}
 use Rattle.site.specs.Cohort.{Cohort}
 use Rattle.site.specs.Coordinator.{in_order, tell_all, resuming, leaving, restart_from, coordinator_restart}
 use Rattle.site.specs.Participant.{voting, restart_with, participant_restart}
@@ -112,7 +112,7 @@ module _ (P : Effect → Type 0) (entries : (o : Outcome) → P (enter o)) (send
   unfolding restart_with voting
   with_restarts c p true b v = (entries commit, tt)
   with_restarts c p false true v = (entries abort, tt)
-  with_restarts c p false false true = (sends voteYes p, tt)
+  with_restarts c p false false true = (sends vote_yes p, tt)
   with_restarts c p false false false = tt
 
   pub coordinator_restarts : (t : ℕ) (f : ℕ → Bool) (told : ℕ → Cohort) → Each P (coordinator_restart t f told).effects

@@ -14,7 +14,7 @@ use Rattle.site.specs.Presumption.{commit, abort, same_outcome}
 use Rattle.site.specs.Cohort.{Cohort, writes_init, presumption_of}
 use Rattle.site.specs.Coordinator.{CoordinatorPhase, until_acked, preparing, committing, on_begin, voted, counting, on_yes, acked, acked_if, on_ack, leaving, leaving_if, coordinator_step}
 use Rattle.site.specs.Participant.{ParticipantPhase, promising, first_vote, on_prepare, finish, on_tell, participant_step}
-use Rattle.site.specs.Step.{Message, prepare, voteYes, voteNo, read_only, tell, ack, message_kind, coordinator_of, receiver, begin, received, Row}
+use Rattle.site.specs.Step.{Message, prepare, vote_yes, vote_no, read_only, tell, ack, message_kind, coordinator_of, receiver, begin, received, Row}
 use Rattle.site.specs.Laws.Remaining.{remaining-none}
 use Rattle.joint.specs.State.{Run, Transaction, with_coordinator, with_participant}
 use Rattle.joint.specs.Event.{beginning, delivery}
@@ -123,26 +123,26 @@ module _ (t : ℕ) (g : Cohort) (small : g.members < 256) (few : g.presume_commi
         (with_coordinator 0 (record { phase = row.phase; taken_out = x.coordinator.taken_out }) (transaction_after 0 row.effects x)) row.effects
 
     yes_row : stages (suc n) ≡ stage.voted → (w : ℕ) → Within g w → ((j : ℕ) → IsMember g j → T (asks (member (suc j) w) (stages (suc j))))
-        → x.coordinator.phase ≡ CoordinatorPhase.collecting w → (b : Bool) → empty (without (suc n) w) ≡ b → Leaves voteYes (voted t g 0 false b (without (suc n) w))
+        → x.coordinator.phase ≡ CoordinatorPhase.collecting w → (b : Bool) → empty (without (suc n) w) ≡ b → Leaves vote_yes (voted t g 0 false b (without (suc n) w))
     unfolding voted message_kind
     yes_row now w within hears q true k =
-        subst (λ (y : Cohort). Leaves voteYes (committing t y)) (sym (remaining-none g small few)) (last_yes_goes t g small stages done x h.stands n m w within now hears q k)
+        subst (λ (y : Cohort). Leaves vote_yes (committing t y)) (sym (remaining-none g small few)) (last_yes_goes t g small stages done x h.stands n m w within now hears q k)
     yes_row now w within hears q false k = yes_goes t g small stages done x h.stands n m w within now hears q k
 
     -- where its Yes is on its way votes are collected
-    yes_next : stages (suc n) ≡ stage.voted → (p : Plan) → plan r (delivery t (suc n) voteYes) ≡ some p → Delivered voteYes p
+    yes_next : stages (suc n) ≡ stage.voted → (p : Plan) → plan r (delivery t (suc n) vote_yes) ≡ some p → Delivered vote_yes p
     yes_next now p e = go x.coordinator.phase refl h.stands.leads
       where
         made : (w : ℕ) → x.coordinator.phase ≡ CoordinatorPhase.collecting w
-            → coordinator_step t x.cohort (received voteYes (suc n)) x.coordinator ≡ leaving_if x.coordinator.taken_out (some (voted t g 0 false (empty (without (suc n) w)) (without (suc n) w)))
+            → coordinator_step t x.cohort (received vote_yes (suc n)) x.coordinator ≡ leaving_if x.coordinator.taken_out (some (voted t g 0 false (empty (without (suc n) w)) (without (suc n) w)))
         made w q =
             unfold coordinator_step on_yes only_if counting in
             rw (h.stands.cohort, q, h.stands.out, none_in (suc n), remaining-none g small few, someone) refl
 
-        go : (c : CoordinatorPhase) → x.coordinator.phase ≡ c → Leads g stages (x.entered 0 commit) c → Delivered voteYes p
+        go : (c : CoordinatorPhase) → x.coordinator.phase ≡ c → Leads g stages (x.entered 0 commit) c → Delivered vote_yes p
         go _ q (initial idle) = absurd (true≢false (sym (ap is_idle (sym now ∙ idle n m))))
         go _ q (collecting w within missing hears) =
-            heard voteYes (unfold receiver coordinator_of in refl) _ p e (made w q) (yes_row now w within hears q (empty (without (suc n) w)) refl)
+            heard vote_yes (unfold receiver coordinator_of in refl) _ p e (made w q) (yes_row now w within hears q (empty (without (suc n) w)) refl)
         go _ q (decided w within entered awaits) = absurd (subst (λ (s : Stage). T (follows (acks_in g (suc n)) (member (suc n) w) s)) now (awaits n m))
 
     ack_row : stages (suc n) ≡ stage.acking → (w : ℕ) → Within g w → T (x.entered 0 commit)
@@ -184,8 +184,8 @@ module _ (t : ℕ) (g : Cohort) (small : g.members < 256) (few : g.presume_commi
         → (p : Plan) → plan r (delivery t (suc n) k) ≡ some p → Delivered k p
     unfolding message_kind
     message_next prepare sent new = prepare_next (stage_now prepare sent new)
-    message_next voteYes sent new = yes_next (stage_now voteYes sent new)
-    message_next voteNo sent new = absurd (unsent 2 sent (never 0))
+    message_next vote_yes sent new = yes_next (stage_now vote_yes sent new)
+    message_next vote_no sent new = absurd (unsent 2 sent (never 0))
     message_next (tell commit) sent new = commit_next (stage_now (tell commit) sent new)
     message_next (tell abort) sent new = absurd (unsent 4 sent (never 1))
     message_next (ack commit) sent new = ack_next (stage_now (ack commit) sent new)

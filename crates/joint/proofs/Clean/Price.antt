@@ -11,7 +11,7 @@ use Rattle.codec.specs.Lists.{select}
 use Rattle.codec.specs.Sets.{participants, member, empty, part, listed}
 use Rattle.codec.specs.Laws.Tests.{below_at, true_of}
 use Rattle.codec.specs.Laws.Masks.{those-below}
-use Rattle.site.specs.Presumption.{commit, presumedAbort, presumedCommit, acks}
+use Rattle.site.specs.Presumption.{commit, presumed_abort, presumed_commit, acks}
 use Rattle.site.specs.Cohort.{Cohort, writes_init, presumption_of, owing}
 use Rattle.site.specs.Coordinator.{CoordinatorPhase, round}
 use Rattle.site.specs.Participant.{ParticipantPhase}
@@ -66,7 +66,7 @@ module _ (g : Cohort) (few : g.presume_commit < 256) (is_part : part g.presume_c
   unfolding presumption_of acks
   acks_or_not p = by (member p g.presume_commit)
     where
-      by : (b : Bool) → acks (cond b presumedCommit presumedAbort) commit ≡ not b
+      by : (b : Bool) → acks (cond b presumed_commit presumed_abort) commit ≡ not b
       by true = unfold acks in refl
       by false = unfold acks in refl
 

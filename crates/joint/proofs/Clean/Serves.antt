@@ -17,7 +17,7 @@ use Rattle.codec.specs.Laws.Members.{numbered, member-participant}
 use Rattle.site.specs.Presumption.{commit}
 use Rattle.site.specs.Cohort.{Cohort, writes_init, owing}
 use Rattle.site.specs.Coordinator.{CoordinatorPhase, preparing, on_begin, leaving, leaving_if, coordinator_step}
-use Rattle.site.specs.Step.{Message, prepare, voteYes, voteNo, read_only, tell, ack, messages, message_kind, coordinator_of, receiver}
+use Rattle.site.specs.Step.{Message, prepare, vote_yes, vote_no, read_only, tell, ack, messages, message_kind, coordinator_of, receiver}
 use Rattle.joint.specs.State.{Run, fresh, opened, takes_part, with_coordinator}
 use Rattle.joint.specs.Event.{beginning, delivery, event_length, event_of, ranges, bytes_in_range, cut_in_range, cut_at, cut_of, parse}
 use Rattle.joint.specs.Refusals.{unopened, stranger, is_down, refusals}
@@ -125,8 +125,8 @@ module _ (t : ℕ) (low : t ≤ 7) (g : Cohort) (small : g.members < 256) (few :
     receiver-up : (n : ℕ) → IsMember g n → (m : Message) → (r.site (receiver m (suc n))).up ≡ true
     unfolding receiver coordinator_of
     receiver-up n k prepare = h.up (suc n) k
-    receiver-up n k voteYes = h.up 0 tt
-    receiver-up n k voteNo = h.up 0 tt
+    receiver-up n k vote_yes = h.up 0 tt
+    receiver-up n k vote_no = h.up 0 tt
     receiver-up n k read_only = h.up 0 tt
     receiver-up n k (tell o) = h.up (suc n) k
     receiver-up n k (ack o) = h.up 0 tt

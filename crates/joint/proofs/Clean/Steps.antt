@@ -11,7 +11,7 @@ use Rattle.codec.specs.Lists.{any, every}
 use Rattle.codec.specs.Laws.Tests.{below, below_at, true_of}
 use Rattle.site.specs.Presumption.{commit, abort}
 use Rattle.site.specs.Cohort.{Cohort}
-use Rattle.site.specs.Step.{Message, prepare, voteYes, voteNo, read_only, tell, ack, message_kind, Effect, append, force, enter, send}
+use Rattle.site.specs.Step.{Message, prepare, vote_yes, vote_no, read_only, tell, ack, message_kind, Effect, append, force, enter, send}
 use Rattle.joint.specs.State.{Run, Site, Transaction, Act, names, at_site, at_transaction, appended, forced, perform, perform_all}
 use Rattle.joint.specs.Plan.{acting}
 use Rattle.joint.specs.Run.{Result, is_append, is_force, is_send, count, answer_of}
@@ -76,8 +76,8 @@ due_tests false stage.finished = tt
 pub kind_small : (m : Message) → message_kind m < 8
 unfolding message_kind
 kind_small prepare = omega arith
-kind_small voteYes = omega arith
-kind_small voteNo = omega arith
+kind_small vote_yes = omega arith
+kind_small vote_no = omega arith
 kind_small (tell commit) = omega arith
 kind_small (tell abort) = omega arith
 kind_small (ack commit) = omega arith

@@ -9,7 +9,7 @@ use lib.ListN.{get_or, get_or-map}
 use lib.Dec.{eqb}
 use borrow.Author.Tests.{ne_eqb}
 use Rattle.codec.specs.Laws.Tests.{alike, alike_eq, below_at}
-use Rattle.site.specs.Step.{Message, prepare, voteYes, voteNo, read_only, tell, ack, messages, coordinator_of, receiver}
+use Rattle.site.specs.Step.{Message, prepare, vote_yes, vote_no, read_only, tell, ack, messages, coordinator_of, receiver}
 use Rattle.joint.specs.Event.{delivery}
 use Rattle.joint.specs.Inside.{input_event, Asks, delivers}
 
@@ -29,8 +29,8 @@ goes_to kind p h =
 receiver-most : (m : Message) (p : ℕ) → receiver m p ≤ p
 unfolding receiver coordinator_of
 receiver-most prepare p = le_refl p
-receiver-most voteYes p = zero-le
-receiver-most voteNo p = zero-le
+receiver-most vote_yes p = zero-le
+receiver-most vote_no p = zero-le
 receiver-most read_only p = zero-le
 receiver-most (tell o) p = le_refl p
 receiver-most (ack o) p = zero-le

@@ -19,7 +19,7 @@ use Rattle.joint.specs.State.{Run, Site, opened, takes_part}
 use Rattle.joint.specs.Safety.{Moment}
 use Rattle.joint.proofs.Base.Booleans.{◌⇒◌, mp, or_left, or_right, or-either, both_ways}
 use Rattle.joint.proofs.View.View.{site_view, view}
-use Rattle.joint.proofs.Safety.Tables.{Status, working, prepared, gone, half, lone, shut, off, offVoted, off_shut, is_up, stable_kinds, unforced_kinds, has}
+use Rattle.joint.proofs.Safety.Tables.{Status, working, prepared, gone, half, lone, shut, off, off_voted, off_shut, is_up, stable_kinds, unforced_kinds, has}
 use Rattle.joint.proofs.Safety.Finite.{all_bool, at_bool, at_status}
 use Rattle.joint.proofs.Safety.Sets.{has_member}
 use Rattle.joint.proofs.Safety.Invariant.{Log, kinds_in, class_of, resting, waiting, down, Standing, never, initial, collecting, decided, out_of, log_fits, standing_fits, SetsFit, SomeLeft, Remains, proper_kinds, proper_log, init_log, standing_up, stable_at, kind_if, unforced_at, is_never, record_for, Place, Mid}
@@ -143,7 +143,7 @@ status_halts (half o) e = absurd (true≢false e)
 status_halts lone e = absurd (true≢false e)
 status_halts (shut o f) e = refl
 status_halts off e = refl
-status_halts offVoted e = refl
+status_halts off_voted e = refl
 status_halts (off_shut o f) e = refl
 
 standing_halts : (h : Standing) → standing_up h ≡ false → unforced_at h ≡ []

@@ -15,7 +15,7 @@ use Rattle.codec.specs.Image.{most, over_limit, log_refusals}
 use Rattle.codec.specs.Laws.Refusals.{Sound, passes, tests_or}
 use Rattle.codec.specs.Laws.Tests.{and_left, and_right, true_of, of_true, lt_or_le}
 use Rattle.codec.specs.Laws.Remaining.{remaining-part, remaining_within}
-use Rattle.site.specs.Presumption.{presumption_number, presumedAbort, presumedCommit}
+use Rattle.site.specs.Presumption.{presumption_number, presumed_abort, presumed_commit}
 use Rattle.site.specs.Cohort.{Cohort, remaining, masks_of, presumption_of, writes_init}
 use Rattle.joint.proofs.Base.Booleans.{and_both, or_left, or_right}
 use Rattle.site.specs.Laws.Lists.{select-append}
@@ -57,7 +57,7 @@ presumption_small : (g : Cohort) (s : ℕ) → leb (presumption_number (presumpt
 unfolding presumption_of presumption_number
 presumption_small g s = go (member s g.presume_commit)
   where
-    go : (b : Bool) → leb (presumption_number (cond b presumedCommit presumedAbort)) 1 ≡ true
+    go : (b : Bool) → leb (presumption_number (cond b presumed_commit presumed_abort)) 1 ≡ true
     go true = refl
     go false = refl
 

@@ -16,7 +16,7 @@ use Rattle.codec.specs.Laws.Members.{none_in}
 use Rattle.codec.specs.Laws.Tests.{and_left, and_right, true_of, of_true}
 use Rattle.site.specs.Presumption.{Outcome, commit, abort, same_outcome}
 use Rattle.site.specs.Cohort.{Cohort, remaining, owing, writes_init}
-use Rattle.site.specs.Step.{prepare, voteYes, voteNo, read_only, tell, ack, Input, begin, timer, received, Effect, Row}
+use Rattle.site.specs.Step.{prepare, vote_yes, vote_no, read_only, tell, ack, Input, begin, timer, received, Effect, Row}
 use Rattle.site.specs.Coordinator.{CoordinatorPhase, Coordinator, until_acked, telling, preparing, committing, aborting, on_begin, voted, counting, on_yes, on_no, coordinator_timer, taking_out, on_read_only, acked, acked_if, on_ack, leaving, leaving_if, coordinator_step, coordinator_restart}
 use Rattle.site.specs.Participant.{ParticipantPhase}
 use Rattle.site.specs.Numbers.{coordinator_phase, waiting_set, taken_out_in_range}
@@ -179,8 +179,8 @@ module _ (t : ℕ) (g : Cohort) (small : g.members < 256) where
     collecting_apart w out x begin m e = no_row out e
     collecting_apart w out x timer m e = left out _ (abort_apart out x.byte x.members (writes_init g) (remaining g out).members) e
     collecting_apart w out x (received prepare p) m e = absurd (none-ne-some row e)
-    collecting_apart w out x (received voteYes p) m e = only out _ _ (voted_apart out x.byte x.members (without p w) (without_apart p w out x.unawaited) _ _) e
-    collecting_apart w out x (received voteNo p) m e = only out _ _ (abort_apart out x.byte x.members (writes_init g) (without p (remaining g out).members)) e
+    collecting_apart w out x (received vote_yes p) m e = only out _ _ (voted_apart out x.byte x.members (without p w) (without_apart p w out x.unawaited) _ _) e
+    collecting_apart w out x (received vote_no p) m e = only out _ _ (abort_apart out x.byte x.members (writes_init g) (without p (remaining g out).members)) e
     collecting_apart w out x (received read_only p) m e =
         only (taking_out p out) _ _
         (voted_apart (taking_out p out) (those-below _)
@@ -199,8 +199,8 @@ module _ (t : ℕ) (g : Cohort) (small : g.members < 256) where
     awaiting_apart o w out x begin e = no_row out e
     awaiting_apart o w out x timer e = same _ _ refl x e
     awaiting_apart o w out x (received prepare p) e = absurd (none-ne-some row e)
-    awaiting_apart o w out x (received voteYes p) e = same _ _ refl x e
-    awaiting_apart o w out x (received voteNo p) e = no_row out e
+    awaiting_apart o w out x (received vote_yes p) e = same _ _ refl x e
+    awaiting_apart o w out x (received vote_no p) e = no_row out e
     awaiting_apart o w out x (received read_only p) e = no_row (taking_out p out) e
     awaiting_apart o w out x (received (tell d) p) e = absurd (none-ne-some row e)
     awaiting_apart o w out x (received (ack d) p) e = go (same_outcome d o) e
@@ -217,8 +217,8 @@ module _ (t : ℕ) (g : Cohort) (small : g.members < 256) where
     initial_apart out z begin e = left out _ (subst (λ (q : ℕ). Apart g (record { phase = CoordinatorPhase.collecting g.members; taken_out = q })) (sym z) (none_apart g (CoordinatorPhase.collecting g.members))) e
     initial_apart out z timer e = no_row out e
     initial_apart out z (received prepare p) e = absurd (none-ne-some row e)
-    initial_apart out z (received voteYes p) e = no_row out e
-    initial_apart out z (received voteNo p) e = no_row out e
+    initial_apart out z (received vote_yes p) e = no_row out e
+    initial_apart out z (received vote_no p) e = no_row out e
     initial_apart out z (received read_only p) e = no_row (taking_out p out) e
     initial_apart out z (received (tell o) p) e = absurd (none-ne-some row e)
     initial_apart out z (received (ack o) p) e = no_row out e
@@ -229,8 +229,8 @@ module _ (t : ℕ) (g : Cohort) (small : g.members < 256) where
     unknown_apart out x begin e = no_row out e
     unknown_apart out x timer e = no_row out e
     unknown_apart out x (received prepare p) e = absurd (none-ne-some row e)
-    unknown_apart out x (received voteYes p) e = same _ _ refl x e
-    unknown_apart out x (received voteNo p) e = no_row out e
+    unknown_apart out x (received vote_yes p) e = same _ _ refl x e
+    unknown_apart out x (received vote_no p) e = no_row out e
     unknown_apart out x (received read_only p) e = no_row (taking_out p out) e
     unknown_apart out x (received (tell o) p) e = absurd (none-ne-some row e)
     unknown_apart out x (received (ack o) p) e = no_row out e

@@ -10,7 +10,7 @@ use Rattle.codec.specs.Sets.{member, empty, part}
 use Rattle.codec.specs.Records.{LogRecord}
 use Rattle.site.specs.Presumption.{Outcome, commit, abort, same_outcome, presumption_number}
 use Rattle.site.specs.Cohort.{Cohort, remaining, masks_of, presumption_of, owing, writes_init}
-use Rattle.site.specs.Step.{Message, voteYes, read_only, message_kind}
+use Rattle.site.specs.Step.{Message, vote_yes, read_only, message_kind}
 use Rattle.site.specs.Coordinator.{CoordinatorPhase, Coordinator, end_record}
 use Rattle.joint.specs.State.{Site}
 use Rattle.joint.proofs.View.View.{View}
@@ -287,7 +287,7 @@ pub record Sound (t : ℕ) (g : Cohort) (h : Standing) : Type 0 where
 pub record Votes (v : View) (h : Standing) : Type 0 where
   pub looked : (n : ℕ) → T (member (suc n) (out_of h)) → T (sent_in v (suc n) read_only)
   pub said : (n : ℕ) → T (member (suc n) (cohort_of v).members) → T (is_counted (stage_of h (suc n)))
-      → T (member (suc n) (out_of h)) ⊎ T (sent_in v (suc n) voteYes)
+      → T (member (suc n) (out_of h)) ⊎ T (sent_in v (suc n) vote_yes)
 
 pub record Mid (t : ℕ) (h : Standing) (v : View) : Type 0 where
   pub sound : Sound t (cohort_of v) h

@@ -11,7 +11,7 @@ use Rattle.codec.specs.Laws.Tests.{and_left, of_true}
 use Rattle.site.specs.Coordinator.{Coordinator, taking_out}
 use Rattle.site.specs.Presumption.{Outcome, commit}
 use Rattle.site.specs.Cohort.{Cohort, writes_init}
-use Rattle.site.specs.Step.{voteYes, message_kind, Input, Effect, append, force, enter, send, Row}
+use Rattle.site.specs.Step.{vote_yes, message_kind, Input, Effect, append, force, enter, send, Row}
 use Rattle.joint.specs.State.{forced, holds, with_coordinator, forgotten, with_participant}
 use Rattle.joint.specs.Safety.{sends, collects}
 use Rattle.joint.proofs.Base.Booleans.{or-either}
@@ -50,7 +50,7 @@ perform-voted t force v n u = u
 perform-voted t (enter o) v n u = u
 perform-voted t (send m p) v n u =
     or-either (v.voted (suc n)) _ (λ k. k)
-    (λ k. absurd (subst T (own_number n) (and_left (eqb 0 (suc n)) _ (and_left (eqb 0 (suc n) && sends (message_kind voteYes) (suc n) (send m p)) (holds t 5 (v.site (suc n)).stable) k)))) u
+    (λ k. absurd (subst T (own_number n) (and_left (eqb 0 (suc n)) _ (and_left (eqb 0 (suc n) && sends (message_kind vote_yes) (suc n) (send m p)) (holds t 5 (v.site (suc n)).stable) k)))) u
 
 effects-voted : (t : ℕ) (es : List Effect) (v : View) (n : ℕ) → T ((view_effects 0 t es v).voted (suc n)) → T (v.voted (suc n))
 unfolding view_effects

@@ -2,7 +2,7 @@
 use mathlib.Core.Path.{◌≡◌, refl}
 use mathlib.Core.Bool.{◌||◌}
 use lib.Dec.{T}
-use Rattle.site.specs.Presumption.{Outcome, commit, abort, same_outcome, Presumption, presumedAbort, presumedCommit, acks, silence}
+use Rattle.site.specs.Presumption.{Outcome, commit, abort, same_outcome, Presumption, presumed_abort, presumed_commit, acks, silence}
 
 pub refl-outcome : (o : Outcome) → T (same_outcome o o)
 unfolding same_outcome
@@ -24,7 +24,7 @@ one_outcome_lem abort c a = c
 -- an ack is owed where silence means the other outcome
 pub owes : (c : Presumption) (o : Outcome) → T (same_outcome (silence c) o || acks c o)
 unfolding same_outcome silence acks
-owes presumedAbort commit = tt
-owes presumedAbort abort = tt
-owes presumedCommit commit = tt
-owes presumedCommit abort = tt
+owes presumed_abort commit = tt
+owes presumed_abort abort = tt
+owes presumed_commit commit = tt
+owes presumed_commit abort = tt

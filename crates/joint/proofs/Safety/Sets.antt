@@ -10,7 +10,7 @@ use Rattle.codec.specs.Sets.{without, participants, member, empty, bits, those, 
 use Rattle.codec.specs.Laws.Tests.{and_left, and_right, true_of, of_true}
 use Rattle.codec.specs.Laws.Masks.{those_alike, those-below, those-members, in_those}
 use Rattle.codec.specs.Laws.Members.{none_in, numbered, member-participant}
-use Rattle.site.specs.Presumption.{Outcome, abort, presumedAbort, presumedCommit, acks}
+use Rattle.site.specs.Presumption.{Outcome, abort, presumed_abort, presumed_commit, acks}
 use Rattle.site.specs.Cohort.{Cohort, remaining, presumption_of, owing}
 use Rattle.site.specs.Coordinator.{taking_out}
 use Rattle.site.specs.Laws.Remaining.{in_taking_out, remaining-below, remaining-member, remaining-owing}
@@ -138,7 +138,7 @@ pub owes_abort : (g : Cohort) (n : ℕ) → T (member (suc n) (owing g abort)) �
 unfolding presumption_of acks
 owes_abort g n k = go (member (suc n) g.presume_commit) (owing-member g abort n k).1
   where
-    go : (b : Bool) → T (acks (cond b presumedCommit presumedAbort) abort) → T b
+    go : (b : Bool) → T (acks (cond b presumed_commit presumed_abort) abort) → T b
     go true u = tt
     go false u = absurd (unfold acks in u)
 

@@ -5,7 +5,7 @@ use mathlib.Core.List.{List, [], ◌∷◌}
 use lib.Dec.{T, eqb}
 use Rattle.codec.specs.Lists.{any}
 use Rattle.site.specs.Presumption.{Outcome, commit, abort, same_outcome, Presumption, acks, silence}
-use Rattle.site.specs.Step.{Message, prepare, voteYes, voteNo, read_only, tell, ack}
+use Rattle.site.specs.Step.{Message, prepare, vote_yes, vote_no, read_only, tell, ack}
 use Rattle.site.specs.Participant.{ParticipantPhase, outcome_record}
 
 -- ---- a participant: up or down, its phase, the kinds of its stable and of its unforced records, in the combinations that occur
@@ -20,7 +20,7 @@ pub data Status : Type 0 where
   -- up: stable 6 or 7; whether 5 still stands before it
   shut : Outcome → Bool → Status
   -- down: no record; stable 5; stable 6 or 7
-  off offVoted : Status
+  off off_voted : Status
   off_shut : Outcome → Bool → Status
 
 abbrev pub is_up : Status → Bool
@@ -31,7 +31,7 @@ is_up (half o) = true
 is_up lone = true
 is_up (shut o f) = true
 is_up off = false
-is_up offVoted = false
+is_up off_voted = false
 is_up (off_shut o f) = false
 
 abbrev pub phase_of : Status → ParticipantPhase
@@ -42,7 +42,7 @@ phase_of (half o) = ParticipantPhase.decided o
 phase_of lone = ParticipantPhase.decided abort
 phase_of (shut o f) = ParticipantPhase.decided o
 phase_of off = ParticipantPhase.unknown
-phase_of offVoted = ParticipantPhase.unknown
+phase_of off_voted = ParticipantPhase.unknown
 phase_of (off_shut o f) = ParticipantPhase.unknown
 
 -- the record of an outcome, behind 5 or alone
@@ -58,7 +58,7 @@ stable_kinds (half o) = 5 ∷ []
 stable_kinds lone = []
 stable_kinds (shut o f) = end_kinds o f
 stable_kinds off = []
-stable_kinds offVoted = 5 ∷ []
+stable_kinds off_voted = 5 ∷ []
 stable_kinds (off_shut o f) = end_kinds o f
 
 abbrev pub unforced_kinds : Status → List ℕ
@@ -69,7 +69,7 @@ unforced_kinds (half o) = outcome_record o ∷ []
 unforced_kinds lone = outcome_record abort ∷ []
 unforced_kinds (shut o f) = []
 unforced_kinds off = []
-unforced_kinds offVoted = []
+unforced_kinds off_voted = []
 unforced_kinds (off_shut o f) = []
 
 abbrev pub is_working : Status → Bool
@@ -80,7 +80,7 @@ is_working (half o) = false
 is_working lone = false
 is_working (shut o f) = false
 is_working off = false
-is_working offVoted = false
+is_working off_voted = false
 is_working (off_shut o f) = false
 
 unfoldable pub has : ℕ → List ℕ → Bool
@@ -138,20 +138,20 @@ fits c (done o u) s p r = conforms c o s && (not u || same_outcome (silence c) o
 -- whether a message may have been sent
 abbrev pub may : Stage → Status → Bool → Message → Bool
 may fresh s p prepare = p
-may fresh s p voteYes = false
-may fresh s p voteNo = false
+may fresh s p vote_yes = false
+may fresh s p vote_no = false
 may fresh s p read_only = false
 may fresh s p (tell o) = false
 may fresh s p (ack o) = false
 may (asking w) s p prepare = p
-may (asking w) s p voteYes = doubtful s
-may (asking w) s p voteNo = blank s
+may (asking w) s p vote_yes = doubtful s
+may (asking w) s p vote_no = blank s
 may (asking w) s p read_only = blank s
 may (asking w) s p (tell o) = false
 may (asking w) s p (ack o) = false
 may (done d u) s p prepare = p
-may (done d u) s p voteYes = true
-may (done d u) s p voteNo = true
+may (done d u) s p vote_yes = true
+may (done d u) s p vote_no = true
 may (done d u) s p read_only = blank s
 may (done d u) s p (tell o) = same_outcome d o || quiet s p
 may (done d u) s p (ack o) = quiet s p
@@ -182,11 +182,11 @@ pub record Fine (c : Presumption) (k : Bool) (m : Stage) (s : Status) (sent : Me
   pub messages : (g : Message) → T (sent g) → T (may m s (sent prepare) g)
   pub entries : (o : Outcome) → T (entered o) → T (may_enter m s (sent read_only) o)
   -- if its vote was counted, or commit is decided, it has sent a Yes or a read-only vote
-  pub counted : T (is_counted m) → T (sent voteYes || sent read_only)
+  pub counted : T (is_counted m) → T (sent vote_yes || sent read_only)
   -- if it has sent a Yes, it has sent one from a stable record
-  pub honest : T (sent voteYes) → T voted
+  pub honest : T (sent vote_yes) → T voted
   -- a read-only vote is of one that is marked, a Yes of one that is not
-  pub looked : T (trail s k (sent voteYes) (sent read_only))
+  pub looked : T (trail s k (sent vote_yes) (sent read_only))
 
 -- ---- how the coordinator may pass from stage to stage; y, n, a, r: the participant sent a Yes, a No, an ack of the outcome that is decided,
 -- a read-only vote
@@ -213,14 +213,14 @@ ack_sent f (done o u) = f (ack o)
 abbrev pub may_send : Presumption → Stage → Bool → Message → Bool
 may_send c fresh y m = false
 may_send c (asking w) y prepare = true
-may_send c (asking w) y voteYes = false
-may_send c (asking w) y voteNo = false
+may_send c (asking w) y vote_yes = false
+may_send c (asking w) y vote_no = false
 may_send c (asking w) y read_only = false
 may_send c (asking w) y (tell o) = false
 may_send c (asking w) y (ack o) = false
 may_send c (done d u) y prepare = false
-may_send c (done d u) y voteYes = false
-may_send c (done d u) y voteNo = false
+may_send c (done d u) y vote_yes = false
+may_send c (done d u) y vote_no = false
 may_send c (done d u) y read_only = false
 -- its outcome; or, to one with which it is done, what silence means, upon a Yes
 may_send c (done d u) y (tell o) = same_outcome d o || (u && y && same_outcome (silence c) o)

@@ -10,7 +10,7 @@ use Rattle.codec.specs.Lists.{select, any, every}
 use Rattle.codec.specs.Records.{LogRecord, of_transaction, members_in, presume_commit_in}
 use Rattle.site.specs.Presumption.{Outcome}
 use Rattle.site.specs.Cohort.{Cohort}
-use Rattle.site.specs.Step.{voteYes, message_kind, Effect, append, force, enter, send}
+use Rattle.site.specs.Step.{vote_yes, message_kind, Effect, append, force, enter, send}
 use Rattle.joint.specs.State.{Run, Site, Transaction, Act, holds, recorded_cohort, at_site, at_transaction, appended, forced, stopped, with_coordinator, with_participant, with_sent, with_entered, forgotten, down, perform, perform_all}
 use Rattle.joint.specs.Run.{is_force}
 use Rattle.joint.specs.Safety.{Moment, moments, enters, sends, is_entry, is_entry_at, is_vote}
@@ -86,9 +86,9 @@ module _ (bytes : List ℕ) (start : Run) where
   moment s u e r = record { event = bytes; start = start; before = r; site = s; act = record { transaction = u; effect = e } }
 
   vote_own : (t s p : ℕ) (e : Effect) (r : Run)
-      → is_vote t p (moment s t e r) ≡ (eqb s p && sends (message_kind voteYes) p e && holds t 5 (site_view t (r.site p)).stable)
+      → is_vote t p (moment s t e r) ≡ (eqb s p && sends (message_kind vote_yes) p e && holds t 5 (site_view t (r.site p)).stable)
   unfolding is_vote every site_view
-  vote_own t s p e r = rw (eq-eqb t t refl, holds_select) (go (eqb s p) (sends (message_kind voteYes) p e) (holds t 5 (r.site p).stable))
+  vote_own t s p e r = rw (eq-eqb t t refl, holds_select) (go (eqb s p) (sends (message_kind vote_yes) p e) (holds t 5 (r.site p).stable))
     where
       go : (a b c : Bool) → (a && (true && (b && (c && true)))) ≡ (a && b && c)
       go true true true = refl
@@ -114,7 +114,7 @@ module _ (bytes : List ℕ) (start : Run) where
   entry_other t u s z o e r h = rw (ne_eqb u t h) (and-false (eqb s z))
 
   -- neither a vote nor an entry
-  no_vote : (t s p : ℕ) (e : Effect) (r : Run) → sends (message_kind voteYes) p e ≡ false → is_vote t p (moment s t e r) ≡ false
+  no_vote : (t s p : ℕ) (e : Effect) (r : Run) → sends (message_kind vote_yes) p e ≡ false → is_vote t p (moment s t e r) ≡ false
   no_vote t s p e r h = vote_own t s p e r ∙ rw (h, and-false (eqb s p))
 
   no_entry : (t s z : ℕ) (o : Outcome) (e : Effect) (r : Run) → enters o e ≡ false → is_entry_at t z o (moment s t e r) ≡ false

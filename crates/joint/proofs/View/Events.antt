@@ -12,7 +12,7 @@ use Rattle.codec.specs.Lists.{select, any, every, first}
 use Rattle.codec.specs.Sets.{participants, member, empty, listed}
 use Rattle.codec.specs.Laws.Tests.{of_true, true_of, or_none, below_at}
 use Rattle.codec.specs.Laws.Members.{numbered, member-participant}
-use Rattle.site.specs.Step.{Message, prepare, voteYes, voteNo, read_only, tell, ack, coordinator_of, receiver, message_kind, begin, timer, received, force}
+use Rattle.site.specs.Step.{Message, prepare, vote_yes, vote_no, read_only, tell, ack, coordinator_of, receiver, message_kind, begin, timer, received, force}
 use Rattle.site.specs.Cohort.{Cohort}
 use Rattle.site.specs.Participant.{ParticipantPhase}
 use Rattle.joint.specs.State.{Run, opened, takes_part, at_transaction, with_marked}
@@ -73,8 +73,8 @@ module _ (r : Run) (t : ℕ) where
 pub receiver-part : (r : Run) (t p : ℕ) (m : Message) → takes_part (r.transaction t) p ≡ true → takes_part (r.transaction t) (receiver m p) ≡ true
 unfolding receiver coordinator_of takes_part
 receiver-part r t p prepare h = h
-receiver-part r t p voteYes h = refl
-receiver-part r t p voteNo h = refl
+receiver-part r t p vote_yes h = refl
+receiver-part r t p vote_no h = refl
 receiver-part r t p read_only h = refl
 receiver-part r t p (tell o) h = h
 receiver-part r t p (ack o) h = refl
@@ -83,8 +83,8 @@ receiver-part r t p (ack o) h = refl
 receiver_own : (p : ℕ) (m : Message) (n : ℕ) → receiver m p ≡ suc n → p ≡ suc n
 unfolding receiver coordinator_of
 receiver_own p prepare n e = e
-receiver_own p voteYes n e = absurd (omega arith)
-receiver_own p voteNo n e = absurd (omega arith)
+receiver_own p vote_yes n e = absurd (omega arith)
+receiver_own p vote_no n e = absurd (omega arith)
 receiver_own p read_only n e = absurd (omega arith)
 receiver_own p (tell o) n e = e
 receiver_own p (ack o) n e = absurd (omega arith)
@@ -114,8 +114,8 @@ module _ (t : ℕ) (Out : ℕ → Type 0) (r : Run) where
   takes_received : (p : ℕ) (m : Message) → TakesOut (delivery t p m) → (ms : List Moment) → Takes Out (view t ms r) (received m p)
   unfolding view
   takes_received p prepare h ms = tt
-  takes_received p voteYes h ms = tt
-  takes_received p voteNo h ms = tt
+  takes_received p vote_yes h ms = tt
+  takes_received p vote_no h ms = tt
   takes_received p read_only h ms = h p refl
   takes_received p (tell o) h ms = tt
   takes_received p (ack o) h ms = tt

@@ -8,7 +8,7 @@ use lib.ListN.{take, drop}
 use lib.Dec.{T, eqb}
 use Rattle.codec.specs.Sets.{member, empty, part}
 use Rattle.codec.specs.Records.{LogRecord}
-use Rattle.site.specs.Step.{prepare, voteYes, voteNo, read_only, tell, ack, message_kind, Input, begin, timer, received, Effect, Row}
+use Rattle.site.specs.Step.{prepare, vote_yes, vote_no, read_only, tell, ack, message_kind, Input, begin, timer, received, Effect, Row}
 use Rattle.site.specs.Cohort.{Cohort, presumption_of}
 use Rattle.site.specs.Coordinator.{Coordinator, coordinator_step, coordinator_restart}
 use Rattle.site.specs.Participant.{ParticipantPhase, participant_step, participant_restart}
@@ -35,8 +35,8 @@ abbrev pub Takes : (ℕ → Type 0) → View → Input → Type 0
 Takes Out v begin = Unit {0}
 Takes Out v timer = Unit {0}
 Takes Out v (received prepare p) = Unit {0}
-Takes Out v (received voteYes p) = Unit {0}
-Takes Out v (received voteNo p) = Unit {0}
+Takes Out v (received vote_yes p) = Unit {0}
+Takes Out v (received vote_no p) = Unit {0}
 Takes Out v (received read_only p) = T (collects v.transaction.coordinator.phase) → Out p
 Takes Out v (received (tell o) p) = Unit {0}
 Takes Out v (received (ack o) p) = Unit {0}

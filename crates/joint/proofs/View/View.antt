@@ -10,7 +10,7 @@ use Rattle.codec.specs.Lists.{select, any}
 use Rattle.codec.specs.Sets.{empty}
 use Rattle.codec.specs.Records.{of_transaction}
 use Rattle.site.specs.Presumption.{Outcome, same_outcome}
-use Rattle.site.specs.Step.{voteYes, message_kind, Effect, append, force, enter, send}
+use Rattle.site.specs.Step.{vote_yes, message_kind, Effect, append, force, enter, send}
 use Rattle.joint.specs.State.{Run, Site, Transaction, opened, holds, update, appended, forced, stopped, with_sent, forgotten}
 use Rattle.joint.specs.Safety.{Moment, sends, is_entry_at, is_vote}
 
@@ -89,7 +89,7 @@ view_perform s t (send m p) v =
     record {
       transaction = with_sent p (message_kind m) v.transaction;
       site = v.site;
-      voted = λ q. v.voted q || (eqb s q && sends (message_kind voteYes) q (send m p) && holds t 5 (v.site q).stable);
+      voted = λ q. v.voted q || (eqb s q && sends (message_kind vote_yes) q (send m p) && holds t 5 (v.site q).stable);
       entered = v.entered;
     }
 

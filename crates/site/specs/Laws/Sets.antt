@@ -3,7 +3,7 @@ use Rattle.std.specs.Prelude.{◌≡◌, refl, Bool, true, false, cond, not, ◌
 use Rattle.std.proofs.Common.{ap}
 use Rattle.codec.specs.Sets.{member, both, minus}
 use Rattle.codec.specs.Laws.Masks.{those_alike}
-use Rattle.site.specs.Presumption.{commit, abort, acks, presumedAbort, presumedCommit}
+use Rattle.site.specs.Presumption.{commit, abort, acks, presumed_abort, presumed_commit}
 use Rattle.site.specs.Cohort.{Cohort, presumption_of, owing}
 
 -- a participant's number
@@ -17,7 +17,7 @@ owing_commit g =
     (λ p. member p g.members && not (member p g.presume_commit))
     (λ i h. ap (member (suc i) g.members &&◌) (by (member (suc i) g.presume_commit)))
   where
-    by : (b : Bool) → acks (cond b presumedCommit presumedAbort) commit ≡ not b
+    by : (b : Bool) → acks (cond b presumed_commit presumed_abort) commit ≡ not b
     by true = refl
     by false = refl
 
@@ -28,6 +28,6 @@ owing_abort g =
     (λ p. member p g.members && member p g.presume_commit)
     (λ i h. ap (member (suc i) g.members &&◌) (by (member (suc i) g.presume_commit)))
   where
-    by : (b : Bool) → acks (cond b presumedCommit presumedAbort) abort ≡ b
+    by : (b : Bool) → acks (cond b presumed_commit presumed_abort) abort ≡ b
     by true = refl
     by false = refl

@@ -12,7 +12,7 @@ use Rattle.codec.specs.Sets.{member, empty, without}
 use Rattle.codec.specs.Laws.Tests.{true_of, of_true}
 use Rattle.site.specs.Presumption.{Outcome, commit, abort, same_outcome, silence}
 use Rattle.site.specs.Cohort.{Cohort, remaining, presumption_of, owing, writes_init}
-use Rattle.site.specs.Step.{prepare, voteYes, voteNo, read_only, tell, ack, Input, begin, timer, received, Row}
+use Rattle.site.specs.Step.{prepare, vote_yes, vote_no, read_only, tell, ack, Input, begin, timer, received, Row}
 use Rattle.site.specs.Coordinator.{CoordinatorPhase, Coordinator, until_acked, preparing, on_begin, committing, voted, counting, on_yes, telling, aborting, on_no, coordinator_timer, taking_out, on_read_only, acked, acked_if, on_ack, leaving, leaving_if, coordinator_step, tell_all}
 use Rattle.joint.specs.State.{Site, with_coordinator}
 use Rattle.joint.proofs.Base.Booleans.{or_left, or_right, both_ways, of_false}
@@ -75,8 +75,8 @@ module _ (t : ℕ) (v : View) (row : Row Coordinator) where
   initial_next mid o begin e = begin_next mid o e
   initial_next mid o timer e = none_left 0 e
   initial_next mid o (received prepare p) e = no_row e
-  initial_next mid o (received voteYes p) e = none_left 0 e
-  initial_next mid o (received voteNo p) e = none_left 0 e
+  initial_next mid o (received vote_yes p) e = none_left 0 e
+  initial_next mid o (received vote_no p) e = none_left 0 e
   initial_next mid o (received read_only p) e = none_left (taking_out p 0) e
   initial_next mid o (received (tell a) p) e = no_row e
   initial_next mid o (received (ack a) p) e = none_left 0 e
@@ -122,7 +122,7 @@ module _ (t : ℕ) (v : View) (row : Row Coordinator) where
     unless_out h0 p after r true q e f = none_left after e
     unless_out h0 p after r false q e f = f e
 
-    yes_next : (p : ℕ) → T (sent_in v p voteYes) → leaving_if out (only_if (not (member p out)) (counting-row (without p c) out)) ≡ some row → To here
+    yes_next : (p : ℕ) → T (sent_in v p vote_yes) → leaving_if out (only_if (not (member p out)) (counting-row (without p c) out)) ≡ some row → To here
     yes_next p y e =
         unless_out here p out (counting-row (without p c) out) (member p out) refl e
         (λ k. voted_next here (without p c) out (node_stay t here (node_start mid) (counts v p c out mid y) refl) (empty (remaining g out).members) (empty (without p c)) refl refl k)
@@ -140,7 +140,7 @@ module _ (t : ℕ) (v : View) (row : Row Coordinator) where
         (λ k. voted_next (collecting (without p c) after false) (without p c) after (node_start (stay mid (takes v p c out mid y) (λ o u. u) (same_init (writes_init g) after))) (empty (remaining g after).members) (empty (without p c)) refl refl k)
 
     abort_next : (to : ℕ) → ((q : ℕ) → T (member q to) → T (member q (remaining g out).members))
-        → ((n : ℕ) → T (member (suc n) g.members) → T (not (member (suc n) to)) → T (sent_in v (suc n) voteNo || sent_in v (suc n) read_only))
+        → ((n : ℕ) → T (member (suc n) g.members) → T (not (member (suc n) to)) → T (sent_in v (suc n) vote_no || sent_in v (suc n) read_only))
         → leaving_if out (some (aborting t (remaining g out) (writes_init g) to)) ≡ some row → To here
     unfolding aborting
     abort_next to part said e =
@@ -160,12 +160,12 @@ module _ (t : ℕ) (v : View) (row : Row Coordinator) where
             go false q = settled_phase false (writes_init g) abort out (awaited g out to) (init_log (writes_init g)) q
 
     -- a member is told, or it has said No (it is p), or it only looked
-    left_out : (p n : ℕ) → T (sent_in v p voteNo) → T (member (suc n) g.members) → T (not (member (suc n) (without p (remaining g out).members)))
-        → T (sent_in v (suc n) voteNo || sent_in v (suc n) read_only)
+    left_out : (p n : ℕ) → T (sent_in v p vote_no) → T (member (suc n) g.members) → T (not (member (suc n) (without p (remaining g out).members)))
+        → T (sent_in v (suc n) vote_no || sent_in v (suc n) read_only)
     left_out p n nay m u =
         ⊎_elim
-        (λ k. or_left (sent_in v (suc n) voteNo) (sent_in v (suc n) read_only) (subst (λ (q : ℕ). T (sent_in v q voteNo)) (sym (is_p k)) nay))
-        (λ k. or_right (sent_in v (suc n) voteNo) (sent_in v (suc n) read_only) (mid.votes.looked n k)) (remains_or_out g out mid.sound.byte n m)
+        (λ k. or_left (sent_in v (suc n) vote_no) (sent_in v (suc n) read_only) (subst (λ (q : ℕ). T (sent_in v q vote_no)) (sym (is_p k)) nay))
+        (λ k. or_right (sent_in v (suc n) vote_no) (sent_in v (suc n) read_only) (mid.votes.looked n k)) (remains_or_out g out mid.sound.byte n m)
       where
         go : (b : Bool) → T (not (true && not b)) → b ≡ true
         go true k = refl
@@ -179,7 +179,7 @@ module _ (t : ℕ) (v : View) (row : Row Coordinator) where
             (member-without p (remaining g out).members n g.members mid.sound.byte m ∙ ap (λ (b : Bool). b && not (eqb (suc n) p)) (true_of (member (suc n) (remaining g out).members) k)) u))
 
     -- all that remain but p, who said No
-    no_next : (p : ℕ) → T (sent_in v p voteNo)
+    no_next : (p : ℕ) → T (sent_in v p vote_no)
         → leaving_if out (only_if (not (member p out)) (aborting t (remaining g out) (writes_init g) (without p (remaining g out).members))) ≡ some row → To here
     no_next p nay e =
         unless_out here p out (aborting t (remaining g out) (writes_init g) (without p (remaining g out).members)) (member p out) refl e
@@ -190,7 +190,7 @@ module _ (t : ℕ) (v : View) (row : Row Coordinator) where
     timer_next e =
         abort_next (remaining g out).members (λ q m. m)
         (λ n m u.
-        ⊎_elim (λ k. absurd (both_ways (member (suc n) (remaining g out).members) k u)) (λ k. or_right (sent_in v (suc n) voteNo) (sent_in v (suc n) read_only) (mid.votes.looked n k))
+        ⊎_elim (λ k. absurd (both_ways (member (suc n) (remaining g out).members) k u)) (λ k. or_right (sent_in v (suc n) vote_no) (sent_in v (suc n) read_only) (mid.votes.looked n k))
         (remains_or_out g out mid.sound.byte n m)) e
 
     collecting_next : (i : Input) → Given v i → coordinator_step t g i (record { phase = CoordinatorPhase.collecting c; taken_out = out }) ≡ some row → Stepped t v row here i
@@ -198,8 +198,8 @@ module _ (t : ℕ) (v : View) (row : Row Coordinator) where
     collecting_next begin k e = none_left out e
     collecting_next timer k e = steps (timer_next e)
     collecting_next (received prepare p) k e = no_row e
-    collecting_next (received voteYes p) k e = steps (yes_next p k.1 e)
-    collecting_next (received voteNo p) k e = steps (no_next p k.1 e)
+    collecting_next (received vote_yes p) k e = steps (yes_next p k.1 e)
+    collecting_next (received vote_no p) k e = steps (no_next p k.1 e)
     collecting_next (received read_only p) k e = looks p (look_next p k.1 e)
     collecting_next (received (tell a) p) k e = no_row e
     collecting_next (received (ack a) p) k e = none_left out e
@@ -258,8 +258,8 @@ module _ (t : ℕ) (v : View) (row : Row Coordinator) where
         row_done x (record { effects = tell_all t g o c; phase = CoordinatorPhase.awaiting_acks o c }) e waits
         (tell_all_run t waits v o out (waiting c) l c waits_part (node_start mid)) refl some_left
     waiting_next (received prepare p) k e = no_row e
-    waiting_next (received voteYes p) k e = tell_next p k.0 e
-    waiting_next (received voteNo p) k e = none_left x e
+    waiting_next (received vote_yes p) k e = tell_next p k.0 e
+    waiting_next (received vote_no p) k e = none_left x e
     waiting_next (received read_only p) k e = none_left (taking_out p x) e
     waiting_next (received (tell a) p) k e = no_row e
     waiting_next (received (ack a) p) k e = acked_next a p k.1 (same_outcome a o) refl e
@@ -267,7 +267,7 @@ module _ (t : ℕ) (v : View) (row : Row Coordinator) where
   -- ---- Unknown
 
   module _ (o : Outcome) (out : ℕ) (b : Bool) (l : Log) (mid : Mid t (decided o out (resting b) l) v) (x : ℕ) where
-    reply_next : (p : ℕ) → T (member p g.members) → T (sent_in v p voteYes)
+    reply_next : (p : ℕ) → T (member p g.members) → T (sent_in v p vote_yes)
         → leaving_if x (some (telling (silence (presumption_of g p)) p CoordinatorPhase.unknown)) ≡ some row → To (decided o out (resting b) l)
     unfolding telling
     reply_next zero m y e = absurd (no_zero g.members m)
@@ -279,8 +279,8 @@ module _ (t : ℕ) (v : View) (row : Row Coordinator) where
     unknown_next begin k e = none_left x e
     unknown_next timer k e = none_left x e
     unknown_next (received prepare p) k e = no_row e
-    unknown_next (received voteYes p) k e = reply_next p k.0 k.1 e
-    unknown_next (received voteNo p) k e = none_left x e
+    unknown_next (received vote_yes p) k e = reply_next p k.0 k.1 e
+    unknown_next (received vote_no p) k e = none_left x e
     unknown_next (received read_only p) k e = none_left (taking_out p x) e
     unknown_next (received (tell a) p) k e = no_row e
     unknown_next (received (ack a) p) k e = none_left x e

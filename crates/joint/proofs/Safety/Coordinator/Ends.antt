@@ -7,7 +7,7 @@ use lib.Dec.{T}
 use Rattle.codec.specs.Sets.{member, empty}
 use Rattle.site.specs.Presumption.{Outcome, commit, abort, same_outcome, silence}
 use Rattle.site.specs.Cohort.{Cohort, remaining, presumption_of, writes_init}
-use Rattle.site.specs.Step.{voteYes, voteNo, read_only, tell, Effect, append, given}
+use Rattle.site.specs.Step.{vote_yes, vote_no, read_only, tell, Effect, append, given}
 use Rattle.site.specs.Coordinator.{CoordinatorPhase, end_record, in_order, tell_all, aborting, telling}
 use Rattle.joint.specs.State.{appended}
 use Rattle.joint.proofs.Base.Booleans.{or_left, or_right}
@@ -60,7 +60,7 @@ module _ (t : ℕ) (h0 : Standing) where
 
   -- those that remain are told; a member that is left out has said No, or only looked
   pub abort_run : (v : View) (to w out : ℕ) → ((q : ℕ) → T (member q to) → T (member q (remaining (cohort_of v) out).members))
-      → ((n : ℕ) → T (member (suc n) (cohort_of v).members) → T (not (member (suc n) to)) → T (sent_in v (suc n) voteNo || sent_in v (suc n) read_only))
+      → ((n : ℕ) → T (member (suc n) (cohort_of v).members) → T (not (member (suc n) to)) → T (sent_in v (suc n) vote_no || sent_in v (suc n) read_only))
       → Node t h0 v (collecting w out false)
       → Runs t h0 v (aborting t (remaining (cohort_of v) out) (writes_init (cohort_of v)) to).effects
       (settled_as (empty (awaited (cohort_of v) out to)) (writes_init (cohort_of v)) abort out (awaited (cohort_of v) out to) (init_log (writes_init (cohort_of v))))
@@ -90,7 +90,7 @@ module _ (t : ℕ) (h0 : Standing) where
       (sends_run t h0 [] (decided o out p l) (tell o) (in_order t (cohort_of v) o to) v (told t (cohort_of v) (cohort_of v) o out p l to f) x (λ w e y. y))
 
   -- a coordinator in Unknown says what silence means
-  pub reply_run : (v : View) (o : Outcome) (out : ℕ) (b : Bool) (l : Log) (c : CoordinatorPhase) (n : ℕ) → T (member (suc n) (cohort_of v).members) → T (sent_in v (suc n) voteYes)
+  pub reply_run : (v : View) (o : Outcome) (out : ℕ) (b : Bool) (l : Log) (c : CoordinatorPhase) (n : ℕ) → T (member (suc n) (cohort_of v).members) → T (sent_in v (suc n) vote_yes)
       → Node t h0 v (decided o out (resting b) l)
       → Runs t h0 v (telling (silence (presumption_of (cohort_of v) (suc n))) (suc n) c).effects (decided o out (resting b) l)
   unfolding telling

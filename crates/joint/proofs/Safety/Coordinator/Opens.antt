@@ -8,7 +8,7 @@ use Rattle.codec.specs.Lists.{any}
 use Rattle.codec.specs.Sets.{member, empty, part}
 use Rattle.codec.specs.Laws.Tests.{of_true}
 use Rattle.site.specs.Cohort.{Cohort}
-use Rattle.site.specs.Step.{prepare, voteYes, read_only}
+use Rattle.site.specs.Step.{prepare, vote_yes, read_only}
 use Rattle.joint.specs.State.{Site, started}
 use Rattle.joint.specs.Plan.{opened_as}
 use Rattle.joint.proofs.View.View.{View, view_at, view_settle}
@@ -65,8 +65,8 @@ module _ (t : ℕ) (v : View) (g : Cohort) where
         messages = λ k u. absurd (subst T (x.sent k) u);
         entries = λ o u. absurd (subst T (x.entered o) u);
         counted = λ u. absurd u;
-        honest = λ u. absurd (subst T (x.sent voteYes) u);
-        looked = rw (x.sent voteYes, x.sent read_only) (new_trail (v.transaction.marked (suc n)));
+        honest = λ u. absurd (subst T (x.sent vote_yes) u);
+        looked = rw (x.sent vote_yes, x.sent read_only) (new_trail (v.transaction.marked (suc n)));
       }
 
   pub open_after : t < 8 → g.members < 256 → part g.presume_commit g.members ≡ true → empty g.members ≡ false

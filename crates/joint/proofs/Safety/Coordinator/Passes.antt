@@ -6,7 +6,7 @@ use borrow.Author.Tests.{not-true}
 use Rattle.codec.specs.Lists.{any}
 use Rattle.codec.specs.Laws.Tests.{and_left, and_right, true_of}
 use Rattle.site.specs.Presumption.{Outcome, same_outcome, Presumption, acks, silence}
-use Rattle.site.specs.Step.{Message, prepare, voteYes, voteNo, read_only, ack, message_kind}
+use Rattle.site.specs.Step.{Message, prepare, vote_yes, vote_no, read_only, ack, message_kind}
 use Rattle.site.specs.Participant.{outcome_record}
 use Rattle.joint.proofs.Base.Booleans.{◌⇒◌, mp, to-⇒, or-either, or_map}
 use Rattle.joint.proofs.Safety.Tables.{Status, has, Stage, fresh, asking, done, fits, may, may_enter, is_counted, Fine, passes, ack_sent, may_send}
@@ -22,8 +22,8 @@ keeps_all c m m' s p r =
 abbrev pass_keeps : Presumption → Bool → Bool → Bool → Bool → Stage → Stage → Status → Bool → Bool
 pass_keeps c y n a r m m' s p =
     fits c m s p r
-    ⇒ (y ⇒ may m s p voteYes)
-    ⇒ (n ⇒ may m s p voteNo)
+    ⇒ (y ⇒ may m s p vote_yes)
+    ⇒ (n ⇒ may m s p vote_no)
     ⇒ (a ⇒ ack_sent (may m s p) m)
     ⇒ (r ⇒ may m s p read_only)
     ⇒ keeps_all c m m' s p r
@@ -54,7 +54,7 @@ ack_may (asking w) f g h t = t
 ack_may (done o u) f g h t = h (ack o) t
 
 module _ {c : Presumption} {k : Bool} {m : Stage} {s : Status} {sent : Message → Bool} {entered : Outcome → Bool} {voted : Bool} (ok : Fine c k m s sent entered voted) where
-  pub pass_fine : (m' : Stage) → T (passes c (sent voteYes) (sent voteNo) (ack_sent sent m) (sent read_only) m m') → Fine c k m' s sent entered voted
+  pub pass_fine : (m' : Stage) → T (passes c (sent vote_yes) (sent vote_no) (ack_sent sent m) (sent read_only) m m') → Fine c k m' s sent entered voted
   pass_fine m' t =
       record {
         shape = and_left (fits c m' s p r) _ kept;
@@ -69,10 +69,10 @@ module _ {c : Presumption} {k : Bool} {m : Stage} {s : Status} {sent : Message �
       p = sent prepare
 
       y : Bool
-      y = sent voteYes
+      y = sent vote_yes
 
       n : Bool
-      n = sent voteNo
+      n = sent vote_no
 
       a : Bool
       a = ack_sent sent m
@@ -95,7 +95,7 @@ module _ {c : Presumption} {k : Bool} {m : Stage} {s : Status} {sent : Message �
       kept =
           mp (r ⇒ may m s p read_only) _
           (mp (a ⇒ ack_sent (may m s p) m) _
-          (mp (n ⇒ may m s p voteNo) _ (mp (y ⇒ may m s p voteYes) _ (mp (fits c m s p r) _ here ok.shape) (to-⇒ y _ (ok.messages voteYes))) (to-⇒ n _ (ok.messages voteNo)))
+          (mp (n ⇒ may m s p vote_no) _ (mp (y ⇒ may m s p vote_yes) _ (mp (fits c m s p r) _ here ok.shape) (to-⇒ y _ (ok.messages vote_yes))) (to-⇒ n _ (ok.messages vote_no)))
           (to-⇒ a _ (ack_may m sent (may m s p) ok.messages))) (to-⇒ r _ (ok.messages read_only))
 
       flags : T (all_message (λ g. may m s p g ⇒ may m' s p g) && all_outcome (λ o. may_enter m s r o ⇒ may_enter m' s r o))
@@ -109,7 +109,7 @@ also g f k = eqb (message_kind k) (message_kind g) || f k
 abbrev send_keeps : Presumption → Stage → Bool → Message → Status → Bool → Bool → Bool
 send_keeps c m y g s p r =
     let p' = eqb 0 (message_kind g) || p in
-    fits c m s p r ⇒ (y ⇒ may m s p voteYes) ⇒ fits c m s p' r && all_message (λ k. (eqb (message_kind k) (message_kind g) || may m s p k) ⇒ may m s p' k)
+    fits c m s p r ⇒ (y ⇒ may m s p vote_yes) ⇒ fits c m s p' r && all_message (λ k. (eqb (message_kind k) (message_kind g) || may m s p k) ⇒ may m s p' k)
 
 -- it is no vote
 abbrev send_test : Presumption → Stage → Bool → Message → Bool
@@ -130,7 +130,7 @@ send_test_lem c m y =
 
 module _ {c : Presumption} {k : Bool} {m : Stage} {s : Status} {sent : Message → Bool} {entered : Outcome → Bool} {voted : Bool} (ok : Fine c k m s sent entered voted) where
   -- y: whether it answers a Yes
-  pub send_fine : (y : Bool) → (T y → T (sent voteYes)) → (g : Message) → T (may_send c m y g) → Fine c k m s (also g sent) entered voted
+  pub send_fine : (y : Bool) → (T y → T (sent vote_yes)) → (g : Message) → T (may_send c m y g) → Fine c k m s (also g sent) entered voted
   unfolding message_kind
   send_fine y h g t =
       record {
@@ -171,6 +171,6 @@ module _ {c : Presumption} {k : Bool} {m : Stage} {s : Status} {sent : Message �
 
       kept : T (fits c m s p' r && all_message more)
       kept =
-          mp (y ⇒ may m s p voteYes) _
+          mp (y ⇒ may m s p vote_yes) _
           (mp (fits c m s p r) _ (at_bool (send_keeps c m y g s p) (at_bool (λ p. all_bool (send_keeps c m y g s p)) (at_status (λ s. all_bool (λ p. all_bool (send_keeps c m y g s p))) (and_right (not (eqb 7 (message_kind g))) each rest) s) p) r) ok.shape)
-          (to-⇒ y _ (λ u. ok.messages voteYes (h u)))
+          (to-⇒ y _ (λ u. ok.messages vote_yes (h u)))

@@ -9,7 +9,7 @@ use Rattle.codec.specs.Lists.{select}
 use Rattle.codec.specs.Sets.{member}
 use Rattle.site.specs.Presumption.{Outcome}
 use Rattle.site.specs.Cohort.{Cohort, presumption_of, writes_init}
-use Rattle.site.specs.Step.{Message, voteYes, Effect, append, force, enter, send}
+use Rattle.site.specs.Step.{Message, vote_yes, Effect, append, force, enter, send}
 use Rattle.site.specs.Coordinator.{Coordinator, round, in_turn, ordered}
 use Rattle.joint.specs.State.{Site, appended, forced, with_coordinator, with_sent, forgotten, with_participant}
 use Rattle.joint.proofs.View.View.{View, view_at, view_settle, view_perform, view_effects, view_down}
@@ -117,7 +117,7 @@ module _ (t : ℕ) (h0 : Standing) where
 
   pub send-run : {v : View} {h : Standing} (es : List Effect) (h' : Standing) → Node t h0 v h → (y : Bool) (n : ℕ)
       → T (member (suc n) (cohort_of v).members)
-      → (T y → T (sent_in v (suc n) voteYes)) → (g : Message) → T (may_send (presumption_of (cohort_of v) (suc n)) (stage_of h (suc n)) y g)
+      → (T y → T (sent_in v (suc n) vote_yes)) → (g : Message) → T (may_send (presumption_of (cohort_of v) (suc n)) (stage_of h (suc n)) y g)
       → (Node t h0 (view_perform 0 t (send g (suc n)) v) h → Runs (view_perform 0 t (send g (suc n)) v) es h') → Runs v (send g (suc n) ∷ es) h'
   unfolding view_perform with_sent
   send-run {h} es h' x y n m a g s k = ((h, x), k (record { mid = send_mid x.mid y n m a g s; from = x.from }))

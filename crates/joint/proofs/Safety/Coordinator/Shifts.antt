@@ -10,7 +10,7 @@ use Rattle.codec.specs.Laws.Tests.{and_right, true_of, of_true}
 use Rattle.codec.specs.Laws.Masks.{those-below}
 use Rattle.site.specs.Presumption.{Outcome, commit, abort, same_outcome, acks}
 use Rattle.site.specs.Cohort.{Cohort, remaining, presumption_of, owing, writes_init}
-use Rattle.site.specs.Step.{Message, voteYes, voteNo, read_only, ack}
+use Rattle.site.specs.Step.{Message, vote_yes, vote_no, read_only, ack}
 use Rattle.site.specs.Coordinator.{until_acked, taking_out}
 use Rattle.joint.proofs.Base.Booleans.{and_both, or_left, or_right, or-either, both_ways, not-true, is_false, of_false}
 use Rattle.joint.proofs.View.View.{View}
@@ -78,7 +78,7 @@ module _ (v : View) where
     abbrev said_of : (j : Message) → T (sent_in v p j) → (n : ℕ) → suc n ≡ p → T (sent_in v (suc n) j)
     said_of j y n e = subst (λ (q : ℕ). T (sent_in v q j)) (sym e) y
 
-    counting_move : (out' : ℕ) → T (sent_in v p voteYes || sent_in v p read_only) → Votes v (collecting (without p w) out' false) → Move v (collecting w out false) (collecting (without p w) out' false)
+    counting_move : (out' : ℕ) → T (sent_in v p vote_yes || sent_in v p read_only) → Votes v (collecting (without p w) out' false) → Move v (collecting w out false) (collecting (without p w) out' false)
     counting_move out' y said =
         record {
           never = refl;
@@ -90,24 +90,24 @@ module _ (v : View) where
           passing = λ n m.
               rw (member-without p w n g.members mid.sound.byte m)
               (way_count v n (member (suc n) w) (eqb (suc n) p)
-              (λ e. subst (λ (q : ℕ). T (sent_in v q voteYes || sent_in v q read_only)) (sym (eqb-true (suc n) p (true_of _ e))) y));
+              (λ e. subst (λ (q : ℕ). T (sent_in v q vote_yes || sent_in v q read_only)) (sym (eqb-true (suc n) p (true_of _ e))) y));
         }
 
-    pub counts : T (sent_in v p voteYes) → Shift v (collecting w out false) (collecting (without p w) out false)
+    pub counts : T (sent_in v p vote_yes) → Shift v (collecting w out false) (collecting (without p w) out false)
     counts y =
         record {
           move =
-              counting_move out (or_left (sent_in v p voteYes) (sent_in v p read_only) y)
+              counting_move out (or_left (sent_in v p vote_yes) (sent_in v p read_only) y)
               (record {
                 looked = mid.votes.looked;
-                said = λ n m k. ⊎_elim (mid.votes.said n m) (λ e. inr (said_of voteYes y n e)) (counted_or_new n m k);
+                said = λ n m k. ⊎_elim (mid.votes.said n m) (λ e. inr (said_of vote_yes y n e)) (counted_or_new n m k);
               });
           from = undecided (λ o k. k) (λ k. k) (λ n k. k);
         }
 
     pub takes : T (sent_in v p read_only) → Move v (collecting w out false) (collecting (without p w) (taking_out p out) false)
     takes y =
-        counting_move (taking_out p out) (or_right (sent_in v p voteYes) (sent_in v p read_only) y)
+        counting_move (taking_out p out) (or_right (sent_in v p vote_yes) (sent_in v p read_only) y)
         (record {
           looked = λ n k. ⊎_elim (mid.votes.looked n) (said_of read_only y n) (taken-either p out n k);
           said = λ n m k.
@@ -171,7 +171,7 @@ module _ (v : View) where
   -- abort, told to the set `to` of those that remain; a member that is left out has said No, or only looked
   pub aborts : {t : ℕ} (to w out : ℕ) → Mid t (collecting w out false) v
       → ((q : ℕ) → T (member q to) → T (member q (remaining g out).members))
-      → ((n : ℕ) → T (member (suc n) g.members) → T (not (member (suc n) to)) → T (sent_in v (suc n) voteNo || sent_in v (suc n) read_only))
+      → ((n : ℕ) → T (member (suc n) g.members) → T (not (member (suc n) to)) → T (sent_in v (suc n) vote_no || sent_in v (suc n) read_only))
       → Shift v (collecting w out false) (decided abort out (waiting (awaited g out to)) (init_log i))
   unfolding both same_outcome
   aborts to w out mid remain said =

@@ -10,7 +10,7 @@ use Rattle.codec.specs.Sets.{member, empty}
 use Rattle.codec.specs.Laws.Members.{none_in}
 use Rattle.site.specs.Presumption.{Outcome, commit, same_outcome, abort}
 use Rattle.site.specs.Cohort.{remaining, presumption_of, owing, writes_init}
-use Rattle.site.specs.Step.{Message, voteYes, voteNo, read_only, message_kind, enter, send}
+use Rattle.site.specs.Step.{Message, vote_yes, vote_no, read_only, message_kind, enter, send}
 use Rattle.site.specs.Coordinator.{Coordinator}
 use Rattle.joint.specs.State.{Site, update, with_coordinator, with_participant, with_sent, forgotten}
 use Rattle.joint.proofs.Base.Booleans.{or_left, or_right, or-either}
@@ -28,7 +28,7 @@ use Rattle.joint.proofs.Safety.Sets.{belongs, not-empty}
 abbrev pub PassesAt : View → Stage → Stage → ℕ → Type 0
 PassesAt v m m' n =
     T
-    (passes (presumption_of (cohort_of v) (suc n)) (sent_in v (suc n) voteYes) (sent_in v (suc n) voteNo) (ack_sent (sent_in v (suc n)) m) (sent_in v (suc n) read_only) m m')
+    (passes (presumption_of (cohort_of v) (suc n)) (sent_in v (suc n) vote_yes) (sent_in v (suc n) vote_no) (ack_sent (sent_in v (suc n)) m) (sent_in v (suc n) read_only) m m')
 
 -- from the standing h0 to h: what is decided stays decided, and a commit that is new has its record 2 stable
 pub record From (i : Bool) (h0 h : Standing) : Type 0 where
@@ -237,7 +237,7 @@ module _ {t : ℕ} {v : View} {h : Standing} (mid : Mid t h v) where
 
   -- ---- a message to the member suc n; y: whether it answers a Yes
 
-  module _ (y : Bool) (n : ℕ) (known : T (member (suc n) (cohort_of v).members)) (answers : T y → T (sent_in v (suc n) voteYes)) (g : Message)
+  module _ (y : Bool) (n : ℕ) (known : T (member (suc n) (cohort_of v).members)) (answers : T y → T (sent_in v (suc n) vote_yes)) (g : Message)
       (may : T (may_send (presumption_of (cohort_of v) (suc n)) (stage_of h (suc n)) y g)) where
     abbrev to_member : ℕ → Bool
     to_member k = eqb (suc k) (suc n)
@@ -250,7 +250,7 @@ module _ {t : ℕ} {v : View} {h : Standing} (mid : Mid t h v) where
     fine_sent : (k : ℕ) (b : Bool) → to_member k ≡ b → (s : Status) → Edge (stage_of h (suc k)) k s v → Sent k b s
     fine_sent k false e s x = x
     fine_sent k true e s x =
-        send_fine x y (subst (λ (z : ℕ). T y → T (sent_in v z voteYes)) (sym addressee) answers) g
+        send_fine x y (subst (λ (z : ℕ). T y → T (sent_in v z vote_yes)) (sym addressee) answers) g
         (subst (λ (z : ℕ). T (may_send (presumption_of (cohort_of v) z) (stage_of h z) y g)) (sym addressee) may)
       where
         addressee : suc k ≡ suc n
@@ -303,7 +303,7 @@ module _ {t : ℕ} {v : View} {h : Standing} (mid : Mid t h v) where
           votes =
               record {
                 looked = λ k u. more k read_only (mid.votes.looked k u);
-                said = λ k m u. ⊎_elim inl (λ y. inr (more k voteYes y)) (mid.votes.said k m u);
+                said = λ k m u. ⊎_elim inl (λ y. inr (more k vote_yes y)) (mid.votes.said k m u);
               };
           status = mid.status;
           stands = λ k. place_sent k (mid.status k) (belongs (cohort_of v) k) refl (mid.stands k);

@@ -5,9 +5,9 @@ use mathlib.Core.Bool.{Bool, true, false, cond, not, ◌&&◌, ◌||◌}
 use lib.Dec.{T}
 use Rattle.codec.specs.Sets.{member, empty}
 use Rattle.codec.specs.Laws.Tests.{of_true}
-use Rattle.site.specs.Presumption.{Outcome, commit, abort, same_outcome, Presumption, presumedAbort, presumedCommit, acks, silence}
+use Rattle.site.specs.Presumption.{Outcome, commit, abort, same_outcome, Presumption, presumed_abort, presumed_commit, acks, silence}
 use Rattle.site.specs.Cohort.{Cohort, presumption_of, writes_init}
-use Rattle.site.specs.Step.{voteYes, voteNo, read_only, ack}
+use Rattle.site.specs.Step.{vote_yes, vote_no, read_only, ack}
 use Rattle.joint.proofs.Base.Booleans.{and_both, or_left, or_right, or_first, or-either, both_ways}
 use Rattle.joint.proofs.View.View.{View}
 use Rattle.joint.proofs.Safety.Tables.{Stage, fresh, asking, done}
@@ -22,7 +22,7 @@ unfolding presumption_of silence same_outcome
 init_or_silent g p = go (member p g.presume_commit) refl (empty g.presume_commit) refl
   where
     go : (b : Bool) → member p g.presume_commit ≡ b → (c : Bool) → empty g.presume_commit ≡ c
-        → T (same_outcome (silence (cond b presumedCommit presumedAbort)) abort || not c)
+        → T (same_outcome (silence (cond b presumed_commit presumed_abort)) abort || not c)
     go true e true f = absurd (empty-none g.presume_commit p (of_true f) (of_true e))
     go true e false f = tt
     go false e true f = tt
@@ -42,7 +42,7 @@ module _ (v : View) (n : ℕ) where
   -- ---- while it collects
 
   -- the member's vote is counted, or another's; e: whether it is the member's
-  pub way_count : (w e : Bool) → (T e → T (sent_in v (suc n) voteYes || looked)) → Way (asking w) (asking (w && not e))
+  pub way_count : (w e : Bool) → (T e → T (sent_in v (suc n) vote_yes || looked)) → Way (asking w) (asking (w && not e))
   way_count false e f = tt
   way_count true false f = tt
   way_count true true f = f tt
@@ -60,26 +60,26 @@ module _ (v : View) (n : ℕ) where
   way_commit false false k f = silent_or_looked commit f
 
   -- abort: the member is told (b) and is waited for (u) where it owes an ack, or it has voted No or only looked
-  pub way_abort : (w b u : Bool) → (T b → T (acks own abort) → T u) → (T (not b) → T (sent_in v (suc n) voteNo || looked)) → Way (asking w) (done abort (not u))
+  pub way_abort : (w b u : Bool) → (T b → T (acks own abort) → T u) → (T (not b) → T (sent_in v (suc n) vote_no || looked)) → Way (asking w) (done abort (not u))
   way_abort w b true f g = tt
   way_abort w true false f g =
-      or_left (same_outcome (silence own) abort || sent_in v (suc n) voteNo) looked
-      (or_left (same_outcome (silence own) abort) (sent_in v (suc n) voteNo) (or_first (same_outcome (silence own) abort) (acks own abort) (owes own abort) (f tt)))
+      or_left (same_outcome (silence own) abort || sent_in v (suc n) vote_no) looked
+      (or_left (same_outcome (silence own) abort) (sent_in v (suc n) vote_no) (or_first (same_outcome (silence own) abort) (acks own abort) (owes own abort) (f tt)))
   way_abort w false false f g =
-      or-either (sent_in v (suc n) voteNo) looked
-      (λ k. or_left (same_outcome (silence own) abort || sent_in v (suc n) voteNo) looked (or_right (same_outcome (silence own) abort) (sent_in v (suc n) voteNo) k))
-      (or_right (same_outcome (silence own) abort || sent_in v (suc n) voteNo) looked) (g tt)
+      or-either (sent_in v (suc n) vote_no) looked
+      (λ k. or_left (same_outcome (silence own) abort || sent_in v (suc n) vote_no) looked (or_right (same_outcome (silence own) abort) (sent_in v (suc n) vote_no) k))
+      (or_right (same_outcome (silence own) abort || sent_in v (suc n) vote_no) looked) (g tt)
 
   -- nobody remains: abort, and the coordinator is done with it
   pub way_looked : (w : Bool) → T looked → Way (asking w) (done abort true)
-  way_looked w k = or_right (same_outcome (silence own) abort || sent_in v (suc n) voteNo) looked k
+  way_looked w k = or_right (same_outcome (silence own) abort || sent_in v (suc n) vote_no) looked k
 
   -- a crash: with record 1 the abort is resumed (r), without it silence means abort
   pub way_lost : (w r : Bool) → (T (writes_init (cohort_of v)) → T r) → Way (asking w) (done abort (not r))
   way_lost w true f = tt
   way_lost w false f =
-      or_left (same_outcome (silence own) abort || sent_in v (suc n) voteNo) looked
-      (or_left (same_outcome (silence own) abort) (sent_in v (suc n) voteNo)
+      or_left (same_outcome (silence own) abort || sent_in v (suc n) vote_no) looked
+      (or_left (same_outcome (silence own) abort) (sent_in v (suc n) vote_no)
       (or_first (same_outcome (silence own) abort) (writes_init (cohort_of v)) (init_or_silent (cohort_of v) (suc n)) f))
 
   -- ---- once it has decided o

@@ -10,7 +10,7 @@ use borrow.Author.Tests.{eq-eqb, ne_eqb}
 use Rattle.codec.specs.Records.{LogRecord}
 use Rattle.site.specs.Presumption.{Outcome, same_outcome}
 use Rattle.site.specs.Cohort.{Cohort}
-use Rattle.site.specs.Step.{Message, voteYes, message_kind, Effect, append, force, enter, send}
+use Rattle.site.specs.Step.{Message, vote_yes, message_kind, Effect, append, force, enter, send}
 use Rattle.site.specs.Participant.{ParticipantPhase}
 use Rattle.joint.specs.State.{Site, holds, appended, forced, survivors, stopped, started, with_sent, with_participant, forgotten, with_coordinator}
 use Rattle.joint.specs.Safety.{sends}
@@ -172,7 +172,7 @@ module _ (t p : ℕ) (v : View) where
       }
     where
       is_yes : Bool
-      is_yes = eqb (message_kind voteYes) (message_kind m)
+      is_yes = eqb (message_kind vote_yes) (message_kind m)
 
       voted_here : (w.voted p || (eqb p p && (is_yes && eqb p p) && holds t 5 (w.site p).stable)) ≡ (((is_yes && has 5 y.stable) || y.voted) || v.voted p)
       voted_here = rw (eq-eqb p p refl, holds_at v.transaction.cohort 0 t p y.stable r.site 5, r.voted, and-true is_yes) (or_last y.voted (v.voted p) (is_yes && has 5 y.stable))

@@ -14,14 +14,14 @@ use Rattle.codec.specs.Sets.{member, empty}
 use Rattle.codec.specs.Laws.Tests.{true_of, of_true}
 use Rattle.site.specs.Presumption.{Outcome, commit, abort, same_outcome, Presumption, acks}
 use Rattle.site.specs.Cohort.{Cohort, presumption_of}
-use Rattle.site.specs.Step.{prepare, voteYes, voteNo, read_only, tell, ack, Input, begin, timer, received, Effect, force, send, Row, given}
+use Rattle.site.specs.Step.{prepare, vote_yes, vote_no, read_only, tell, ack, Input, begin, timer, received, Effect, force, send, Row, given}
 use Rattle.site.specs.Participant.{ParticipantPhase, outcome_record, voting, promising, first_vote, on_prepare, acking, finish, acknowledging, acking_if, on_tell, participant_timer, participant_step, restart_with, participant_restart}
 use Rattle.joint.specs.State.{Site, holds, forced, started, with_participant, with_marked}
 use Rattle.joint.specs.Plan.{newest, closed}
 use Rattle.joint.proofs.Base.Booleans.{mp}
 use Rattle.joint.proofs.View.View.{View, view_at, view_settle, view_effects, view_down}
 use Rattle.joint.proofs.View.Turn.{Carried, Given, Own, Up, view_discard, view_start}
-use Rattle.joint.proofs.Safety.Tables.{Status, working, prepared, gone, half, lone, shut, off, offVoted, off_shut, phase_of, Stage, is_up, stable_kinds, trail, Fine}
+use Rattle.joint.proofs.Safety.Tables.{Status, working, prepared, gone, half, lone, shut, off, off_voted, off_shut, phase_of, Stage, is_up, stable_kinds, trail, Fine}
 use Rattle.joint.proofs.Safety.Sets.{empty-none, belongs}
 use Rattle.joint.proofs.Base.Lists.{each_append}
 use Rattle.joint.proofs.Base.Survivors.{survivors_none}
@@ -98,8 +98,8 @@ module _ (g : Cohort) (p : ℕ) where
   step_proper k begin x = tt
   step_proper k timer x = timer_proper x
   step_proper k (received prepare q) x = prepare_proper k x
-  step_proper k (received voteYes q) x = tt
-  step_proper k (received voteNo q) x = tt
+  step_proper k (received vote_yes q) x = tt
+  step_proper k (received vote_no q) x = tt
   step_proper k (received read_only q) x = tt
   step_proper k (received (tell o) q) x = tell_proper o x
   step_proper k (received (ack o) q) x = tt
@@ -172,7 +172,7 @@ working_status s e = go s (sym (ap is_working e))
     go lone q = absurd (true≢false q)
     go (shut o f) q = absurd (true≢false q)
     go off q = absurd (true≢false q)
-    go offVoted q = absurd (true≢false q)
+    go off_voted q = absurd (true≢false q)
     go (off_shut o f) q = absurd (true≢false q)
 
 eqb-suc : (j n : ℕ) → eqb (suc j) (suc n) ≡ eqb j n
@@ -291,7 +291,7 @@ module _ (t : ℕ) (h : Standing) (v : View) (inv : Inv t h v) where
         entries = f.entries;
         counted = f.counted;
         honest = f.honest;
-        looked = works (inv.mid.status j) phase (sent_in v (suc j) voteYes) (sent_in v (suc j) read_only) f.looked;
+        looked = works (inv.mid.status j) phase (sent_in v (suc j) vote_yes) (sent_in v (suc j) read_only) f.looked;
       }
     where
       phase : phase_of (inv.mid.status j) ≡ ParticipantPhase.working

@@ -11,7 +11,7 @@ use borrow.Author.Tests.{eqb-true, eqb-false}
 use Rattle.codec.specs.Laws.Tests.{and_left, and_right}
 use Rattle.site.specs.Presumption.{Outcome, Presumption}
 use Rattle.site.specs.Cohort.{Cohort, presumption_of}
-use Rattle.site.specs.Step.{Message, prepare, voteYes, read_only, message_kind, Input, begin, timer, received, Row}
+use Rattle.site.specs.Step.{Message, prepare, vote_yes, read_only, message_kind, Input, begin, timer, received, Row}
 use Rattle.site.specs.Participant.{ParticipantPhase}
 use Rattle.joint.specs.State.{Site, with_participant}
 use Rattle.joint.proofs.Base.Booleans.{◌⇒◌, mp, to-⇒, or_right, or_both, or_map}
@@ -67,7 +67,7 @@ module _ {t : ℕ} {h : Standing} {v w : View} (inv : Inv t h v) (n : ℕ) where
               sound = rw e.cohort inv.mid.sound;
               log = rw e.cohort (ap (λ (l : Local). l.site) (e.rest 0 none) ∙ inv.mid.log);
               entries = λ o k. inv.mid.entries o (subst (λ (l : Local). T (l.entered o)) (e.rest 0 none) k);
-              votes = record { looked = λ j u. e.sent (suc j) (message_kind read_only) (inv.mid.votes.looked j u); said = λ j m u. ⊎_elim inl (λ y. inr (e.sent (suc j) (message_kind voteYes) y)) (inv.mid.votes.said j (subst (λ (g : Cohort). T (belongs g j)) e.cohort m) u) };
+              votes = record { looked = λ j u. e.sent (suc j) (message_kind read_only) (inv.mid.votes.looked j u); said = λ j m u. ⊎_elim inl (λ y. inr (e.sent (suc j) (message_kind vote_yes) y)) (inv.mid.votes.said j (subst (λ (g : Cohort). T (belongs g j)) e.cohort m) u) };
               status = λ j. (all j).status;
               stands = λ j. (all j).stands;
               fine = λ j. (all j).fine;
@@ -114,9 +114,9 @@ module _ {c : Presumption} {k : Bool} {m : Stage} {i : Input} {s : Status} {y : 
             (or_map (y.entered o) (entered o) (may_enter m s r o) (f.entries o) u);
         counted =
             λ u.
-            or_both (sent voteYes) r (y.sent voteYes || sent voteYes) r' (or_right (y.sent voteYes) (sent voteYes)) (or_right (y.sent read_only) r) (f.counted u);
-        honest = or_both (y.sent voteYes) (sent voteYes) y.voted voted l.honest f.honest;
-        looked = mp (trail s k (sent voteYes) r) (trail z k (y.sent voteYes || sent voteYes) r') (l.looked (sent voteYes) r) f.looked;
+            or_both (sent vote_yes) r (y.sent vote_yes || sent vote_yes) r' (or_right (y.sent vote_yes) (sent vote_yes)) (or_right (y.sent read_only) r) (f.counted u);
+        honest = or_both (y.sent vote_yes) (sent vote_yes) y.voted voted l.honest f.honest;
+        looked = mp (trail s k (sent vote_yes) r) (trail z k (y.sent vote_yes || sent vote_yes) r') (l.looked (sent vote_yes) r) f.looked;
       }
     where
       z : Status

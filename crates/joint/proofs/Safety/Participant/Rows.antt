@@ -13,13 +13,13 @@ use Rattle.codec.specs.Laws.Tests.{and_left, and_right, true_of, alike, alike_eq
 use Rattle.site.specs.Open.{site_opens}
 use Rattle.site.specs.Presumption.{Outcome, commit, abort, same_outcome, Presumption}
 use Rattle.site.specs.Cohort.{Cohort}
-use Rattle.site.specs.Step.{Message, prepare, voteYes, read_only, message_kind, Input, begin, timer, received, Effect, append, force, enter, send, Row}
+use Rattle.site.specs.Step.{Message, prepare, vote_yes, read_only, message_kind, Input, begin, timer, received, Effect, append, force, enter, send, Row}
 use Rattle.site.specs.Participant.{ParticipantPhase, participant_step, participant_restart}
 use Rattle.site.specs.Numbers.{participant_phase, participant_from}
 use Rattle.joint.specs.State.{survivors}
 use Rattle.joint.specs.Plan.{closes, newest, closed}
 use Rattle.joint.proofs.Base.Booleans.{◌⇒◌, mp}
-use Rattle.joint.proofs.Safety.Tables.{Status, working, prepared, gone, half, lone, shut, off, offVoted, off_shut, is_up, phase_of, stable_kinds, unforced_kinds, has, Stage, fits, may, may_enter, trail}
+use Rattle.joint.proofs.Safety.Tables.{Status, working, prepared, gone, half, lone, shut, off, off_voted, off_shut, is_up, phase_of, stable_kinds, unforced_kinds, has, Stage, fits, may, may_enter, trail}
 use Rattle.joint.proofs.Safety.Finite.{all_bool, at_bool, all_outcome, all_presumption, at_presumption, all_status, at_status, all_stage, at_stage, all_message, at_message}
 use Rattle.joint.proofs.Safety.Invariant.{record_for}
 use Rattle.joint.proofs.Base.Lists.{any_found}
@@ -71,7 +71,7 @@ effect (send m q) y =
       unforced = y.unforced;
       sent = λ g. eqb (message_kind g) (message_kind m) || y.sent g;
       entered = y.entered;
-      voted = (eqb (message_kind voteYes) (message_kind m) && has 5 y.stable) || y.voted;
+      voted = (eqb (message_kind vote_yes) (message_kind m) && has 5 y.stable) || y.voted;
     }
 
 abbrev pub effects : List Effect → Part → Part
@@ -101,26 +101,26 @@ dropped y = moved y.up (phase_left (drop 1 y.stable ++ y.unforced) y.phase) (dro
 -- ---- tests
 
 -- f passes at each first part of a list
-abbrev allFirst {ℓ} : {A : Type ℓ} → (List A → Bool) → List A → Bool
-allFirst f [] = f []
-allFirst f (x ∷ xs) = f [] && allFirst (λ l. f (x ∷ l)) xs
+abbrev all_first {ℓ} : {A : Type ℓ} → (List A → Bool) → List A → Bool
+all_first f [] = f []
+all_first f (x ∷ xs) = f [] && all_first (λ l. f (x ∷ l)) xs
 
-at_first {ℓ} : {A : Type ℓ} (f : List A → Bool) (xs : List A) → T (allFirst f xs) → (m : ℕ) → T (f (take m xs))
+at_first {ℓ} : {A : Type ℓ} (f : List A → Bool) (xs : List A) → T (all_first f xs) → (m : ℕ) → T (f (take m xs))
 at_first f [] h zero = h
 at_first f [] h (suc m) = h
 at_first f (x ∷ xs) h zero = and_left (f []) _ h
 at_first f (x ∷ xs) h (suc m) = at_first (λ l. f (x ∷ l)) xs (and_right (f []) _ h) m
 
 -- f passes at whatever of a list survives
-abbrev allSurvivors {ℓ} : {A : Type ℓ} → (List A → Bool) → List A → Bool
-allSurvivors f [] = f []
-allSurvivors f (x ∷ xs) = allSurvivors f xs && allSurvivors (λ l. f (x ∷ l)) xs
+abbrev all_survivors {ℓ} : {A : Type ℓ} → (List A → Bool) → List A → Bool
+all_survivors f [] = f []
+all_survivors f (x ∷ xs) = all_survivors f xs && all_survivors (λ l. f (x ∷ l)) xs
 
-at-survivors {ℓ} : {A : Type ℓ} (f : List A → Bool) (xs : List A) → T (allSurvivors f xs) → (keep : ℕ) → T (f (survivors keep xs))
+at-survivors {ℓ} : {A : Type ℓ} (f : List A → Bool) (xs : List A) → T (all_survivors f xs) → (keep : ℕ) → T (f (survivors keep xs))
 unfolding survivors
 at-survivors f [] h keep = h
 at-survivors f (x ∷ xs) h keep =
-    go (keeps_first keep) (at-survivors (λ l. f (x ∷ l)) xs (and_right (allSurvivors f xs) _ h) (keep / 2)) (at-survivors f xs (and_left (allSurvivors f xs) _ h) (keep / 2))
+    go (keeps_first keep) (at-survivors (λ l. f (x ∷ l)) xs (and_right (all_survivors f xs) _ h) (keep / 2)) (at-survivors f xs (and_left (all_survivors f xs) _ h) (keep / 2))
   where
     go : (b : Bool) → T (f (x ∷ survivors (keep / 2) xs)) → T (f (survivors (keep / 2) xs)) → T (f (cond b (x ∷ survivors (keep / 2) xs) (survivors (keep / 2) xs)))
     go true kept lost = kept
@@ -128,7 +128,7 @@ at-survivors f (x ∷ xs) h keep =
 
 abbrev all_statuses : List Status
 all_statuses =
-    (working ∷ prepared ∷ gone ∷ lone ∷ off ∷ offVoted ∷ half commit ∷ half abort ∷ [])
+    (working ∷ prepared ∷ gone ∷ lone ∷ off ∷ off_voted ∷ half commit ∷ half abort ∷ [])
     ++ (shut commit true ∷ shut commit false ∷ shut abort true ∷ shut abort false ∷ [])
     ++ (off_shut commit true ∷ off_shut commit false ∷ off_shut abort true ∷ off_shut abort false ∷ [])
 
@@ -159,7 +159,7 @@ keeps c i s y z m p r =
 
 -- its votes go with its mark k: a, r: a Yes, a read-only vote was sent before
 abbrev pub trails : Bool → Status → Part → Status → Bool → Bool → Bool
-trails k s y z a r = trail s k a r ⇒ trail z k (y.sent voteYes || a) (y.sent read_only || r)
+trails k s y z a r = trail s k a r ⇒ trail z k (y.sent vote_yes || a) (y.sent read_only || r)
 
 abbrev keeps_all : Presumption → Bool → Input → Status → Part → Status → Bool
 keeps_all c k i s y z =
@@ -169,7 +169,7 @@ keeps_all c k i s y z =
 abbrev pub lands : Presumption → Bool → Input → Status → Part → Bool
 lands c k i s y =
     not (y.sent prepare)
-    && (y.sent voteYes ⇒ y.voted)
+    && (y.sent vote_yes ⇒ y.voted)
     && any (λ z. is_as z y && keeps_all c k i s y z) all_statuses
 
 -- at most one record is unforced
@@ -178,13 +178,13 @@ single y = leb (length y.unforced) 1
 
 -- so it is where the power is cut, whatever of what is unforced survives
 abbrev cut_test : Presumption → Bool → Input → Status → Part → Bool
-cut_test c k i s y = single y && allSurvivors (λ ks. lands c k i s (halted ks y)) y.unforced
+cut_test c k i s y = single y && all_survivors (λ ks. lands c k i s (halted ks y)) y.unforced
 
 -- a row's effects, all and then f, or some and then a cut
 abbrev pub row_test : Presumption → Bool → Input → Status → (ParticipantPhase → Part → Part) → Row ParticipantPhase → Bool
 row_test c k i s f r =
     lands c k i s (f r.phase (effects r.effects (of_status s)))
-    && allFirst (λ es. cut_test c k i s (effects es (of_status s))) r.effects
+    && all_first (λ es. cut_test c k i s (effects es (of_status s))) r.effects
 
 cut_at : (c : Presumption) (k : Bool) (i : Input) (s : Status) (y : Part) → T (cut_test c k i s y) → (keep : ℕ) → T (lands c k i s (halted (survivors keep y.unforced) y))
 cut_at c k i s y h = at-survivors (λ ks. lands c k i s (halted ks y)) y.unforced (and_right (single y) _ h)
@@ -196,7 +196,7 @@ module _ (c : Presumption) (k : Bool) (i : Input) (s : Status) (f : ParticipantP
   pub row-whole : T (lands c k i s (f r.phase (effects r.effects (of_status s))))
   row-whole = and_left (lands c k i s (f r.phase (effects r.effects (of_status s)))) _ h
 
-  first_tests : T (allFirst (λ es. cut_test c k i s (effects es (of_status s))) r.effects)
+  first_tests : T (all_first (λ es. cut_test c k i s (effects es (of_status s))) r.effects)
   first_tests = and_right (lands c k i s (f r.phase (effects r.effects (of_status s)))) _ h
 
   -- in front of each effect, and behind the last
@@ -352,7 +352,7 @@ pub record Landed (c : Presumption) (k : Bool) (i : Input) (s : Status) (y : Par
   pub status : Status
   pub reached : As status y
   pub no_prepare : y.sent prepare ≡ false
-  pub honest : T (y.sent voteYes) → T y.voted
+  pub honest : T (y.sent vote_yes) → T y.voted
   pub kept : (m : Stage) (p r : Bool) → T (keeps c i s y status m p r)
   pub looked : (a r : Bool) → T (trails k s y status a r)
 
@@ -362,7 +362,7 @@ landed c k i s y h =
       status = z;
       reached = is_as_lem z y (and_left (is_as z y) (keeps_all c k i s y z) there.1);
       no_prepare = not-true (y.sent prepare) (true_of _ (and_left (not (y.sent prepare)) honestly first));
-      honest = mp (y.sent voteYes) y.voted (and_right (not (y.sent prepare)) honestly first);
+      honest = mp (y.sent vote_yes) y.voted (and_right (not (y.sent prepare)) honestly first);
       kept = λ m p r. at_bool (keeps c i s y z m p) (at_bool (λ p. all_bool (keeps c i s y z m p)) (at_stage stages (and_left (all_stage stages) votes all) m) p) r;
       looked = λ a r. at_bool (trails k s y z a) (at_bool (λ a. all_bool (trails k s y z a)) (and_right (all_stage stages) votes all) a) r;
     }
@@ -371,7 +371,7 @@ landed c k i s y h =
     comes_to z = is_as z y && keeps_all c k i s y z
 
     honestly : Bool
-    honestly = y.sent voteYes ⇒ y.voted
+    honestly = y.sent vote_yes ⇒ y.voted
 
     first : T (not (y.sent prepare) && honestly)
     first = and_left (not (y.sent prepare) && honestly) (any comes_to all_statuses) h

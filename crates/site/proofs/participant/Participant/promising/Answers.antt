@@ -2,11 +2,11 @@ use Rattle.site.specs.Answers.{effects_in, closing}
 use Rattle.site.specs.Numbers.{appending, entry_of}
 use Rattle.codec.specs.Records.{lengths, length_of}
 use Rattle.site.specs.Participant.{promising}
-use Rattle.site.specs.Step.{voteYes, message_kind, given}
+use Rattle.site.specs.Step.{vote_yes, message_kind, given}
 use Rattle.site.proofs.Sent.{own_sent}
 use Rattle.site.proofs.participant.Participant.promising.Goals as goal
 
 pub returns : goal.returns
 unfolding promising effects_in appending entry_of closing given lengths length_of message_kind
 returns c t =
-    rw (c.own.ensures, c.number.ensures, own_sent t voteYes c.args.self.number c.requires)
+    rw (c.own.ensures, c.number.ensures, own_sent t vote_yes c.args.self.number c.requires)
