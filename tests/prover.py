@@ -1,8 +1,10 @@
-"""The definitions of specs/ in a repository of their own below target/: with equations that the prover accepts or refuses, or with a proof of joint."""
-import os, re, shutil, subprocess
+"""The definitions of specs/ in a repository of their own, outside of this one: with equations that the prover accepts or refuses, or with a proof of joint."""
+import atexit, os, re, shutil, subprocess, tempfile
 
 TOP = os.path.dirname(os.path.dirname(os.path.abspath(__file__)))
-OUT = os.path.join(TOP, "target", "definitions")
+# 'rt ci' refuses another repository's files anywhere below this one
+OUT = tempfile.mkdtemp(prefix="definitions-")
+atexit.register(shutil.rmtree, OUT, True)
 CRATES = {
     "codec": ["Lists", "Sets", "Records", "Image", "Messages"],
     "site": ["Presumption", "Cohort", "Step", "Coordinator", "Participant", "Numbers"],
@@ -22,12 +24,8 @@ TYPES = {
     "Bill": ["Bill"],
     "Screen": ["Screen"],
 }
-HEAD = """use Prim.Native.Nat.{ℕ, zero, suc}
-use mathlib.Core.Path.{_≡_, refl, ap, subst}
-use mathlib.Core.Bool.{Bool, true, false, cond, not, _&&_, _||_}
-use mathlib.Core.List.{List, [], _∷_, _++_, map, flatten}
-use lib.ListN.{length, get_or, take, drop, replicate}
-use lib.Dec.{T, eqb}
+HEAD = """use Rattle.std.specs.Prelude.{ℕ, zero, suc, ◌≡◌, refl, Bool, true, false, cond, not, ◌&&◌, ◌||◌, T, eqb, List, [], ◌∷◌, ◌++◌, map, length, get_or, take, drop, replicate}
+use Rattle.std.proofs.Common.{ap, subst}
 """
 
 
@@ -54,13 +52,20 @@ def put(out, path, text):
         f.write(text)
 
 
-def definitions(out, edit):
-    """A repository at `out` of the definitions' modules alone, with one edit if there is one; gives the lines that bring their names.
-    In each crate the module Open unfolds them all."""
+def opening(crate):
+    """What a theorem by computation opens to unfold the crate's definitions: the one declaration of its module Open, which stands in specs/ or in proofs/."""
+    paths = [f"crates/{crate}/{part}/Open.antt" for part in ("specs", "proofs")]
+    return re.search(r"^unfoldable pub (\S+) : Unit", next(source(p) for p in paths if os.path.exists(os.path.join(TOP, p))), re.M)[1]
+
+
+def definitions(name, edit):
+    """A repository of that name below OUT of the definitions' modules alone, with one edit if there is one; gives its folder, and the lines that bring
+    the definitions' names. In each crate the module Open unfolds them all."""
+    out = os.path.join(OUT, name)
     shutil.rmtree(out, ignore_errors=True)
     uses, edited = "", 0
     for crate, modules in CRATES.items():
-        put(out, f"crates/{crate}/src/lib.rt", "// Definitions alone.\n")
+        put(out, f"crates/{crate}/src/lib.rt", "// Definitions alone.\n#![tactic(auto)]\n")
         brought, names = "", []
         for module in modules:
             path = f"crates/{crate}/specs/{module}.antt"
@@ -70,17 +75,17 @@ def definitions(out, edit):
                 text = text.replace(edit["old"], edit["new"])
             put(out, path, text)
             found = re.findall(r"^\s*unfoldable pub (\S+)", text, re.M)
-            uses += f"use Rattle·{crate}.specs.{module}.{{{', '.join(found + TYPES.get(module, []))}}}\n"
-            brought += f"use Rattle·{crate}·specs.specs.{module}.{{{', '.join(found)}}}\n" if found else ""
+            uses += f"use Rattle.{crate}.specs.{module}.{{{', '.join(found + TYPES.get(module, []))}}}\n"
+            brought += f"use Rattle.{crate}.specs.{module}.{{{', '.join(found)}}}\n" if found else ""
             names += found
         if crate == "codec":
             brought, names = brought + "use mathlib.Core.List.{flatten}\n", ["flatten"] + names
-        opens = f"{crate}-opens"
+        opens = opening(crate)
         put(out, f"crates/{crate}/specs/Open.antt", f"{brought}\nunfoldable pub {opens} : Unit {{0}}\nunfolding {' '.join(names)}\n{opens} = tt\n")
-        uses += f"use Rattle·{crate}.specs.Open.{{{opens}}}\n"
+        uses += f"use Rattle.{crate}.specs.Open.{{{opens}}}\n"
     if edit and edited != 1:
         raise SystemExit(f"{edit['file']}: the text to edit stands there {edited} times: {edit['old']}")
-    return uses
+    return out, uses
 
 
 def check(out, crates):
@@ -94,21 +99,22 @@ def check(out, crates):
                 if modules:
                     put(top, root + ".antt", "".join(f"pub mod {m}\n" for m in sorted(modules)))
     put(out, "crates.txt", "".join(f"{crate}: {' '.join(crates[:i])}\n" for i, crate in enumerate(crates)))
-    run = subprocess.run(["rt", "check"], cwd=out, capture_output=True, text=True, timeout=600)
+    run = subprocess.run(["rt", "all", "check", "--jobs", "1"], cwd=out, capture_output=True, text=True, timeout=600)
     printed = run.stdout + run.stderr
-    return run.returncode == 0 and f"{len(crates)} crates proved" in printed, printed
+    return run.returncode == 0 and f"{len(crates)} of {len(crates)} crates ok" in printed, printed
 
 
-def refused(support, equations, edit=None, out=OUT):
+def refused(support, equations, edit=None, name="equations"):
     """The labels of the claims that the prover refuses: each is a label, a type and its proof; `support` are definitions that they use."""
-    root = HEAD + definitions(out, edit) + support
+    out, uses = definitions(name, edit)
+    root = HEAD + uses + support
     opened = " ".join(re.findall(r"^(\w+) :", support, re.M))
     labels = {}
     for label, claim, proof in equations:
-        name = "v" + re.sub(r"\W", "-", label)
-        labels[name] = label
-        root += f"\n{name} : {claim}\nunfolding codec_opens site_opens joint_opens {opened}\n{name} = {proof}\n"
-    put(out, "crates/vectors/src/lib.rt", "// Equations alone.\n")
+        said = "v" + re.sub(r"\W", "-", label)
+        labels[said] = label
+        root += f"\n{said} : {claim}\nunfolding {' '.join(map(opening, CRATES))} {opened}\n{said} = {proof}\n"
+    put(out, "crates/vectors/src/lib.rt", "// Equations alone.\n#![tactic(auto)]\n")
     put(out, "crates/vectors/specs/Lib.antt", root)
     proved, printed = check(out, list(CRATES) + ["vectors"])
     if proved:
@@ -119,26 +125,21 @@ def refused(support, equations, edit=None, out=OUT):
     return found
 
 
-def used(path, found):
-    """Adds a module's file to those found, and the files of the modules that its `use` lines name."""
-    if path in found or not os.path.exists(os.path.join(TOP, path)):
-        return found
-    found.append(path)
-    for crate, part, module in re.findall(r"^use Rattle·(\w+)(?:·\w+)?\.(specs|proofs)\.([\w.]*\w)", source(path), re.M):
-        used(f"crates/{crate}/{part}/{module.replace('.', '/')}.antt", found)
-    return found
+def bring(out, path):
+    """Puts a module's file there, unless one stands there or there is none, and the files of the modules that its `use` lines name."""
+    if os.path.exists(os.path.join(out, path)) or not os.path.exists(os.path.join(TOP, path)):
+        return
+    put(out, path, source(path))
+    for crate, part, module in re.findall(r"^(?:pub )?use Rattle\.(\w+)\.(specs|proofs)\.([\w.]*\w)", source(path), re.M):
+        bring(out, f"crates/{crate}/{part}/{module.replace('.', '/')}.antt")
 
 
-def proof_refused(proofs, edit=None, out=OUT):
+def proof_refused(proofs, edit=None, name="proof"):
     """What the prover refuses in files of joint's proofs/ and in those that they use, over the definitions and no program:
     (file and declaration, whether it is refused for itself and not for one that it uses), in the prover's order."""
-    definitions(out, edit)
-    found = []
+    out, _ = definitions(name, edit)
     for proof in proofs:
-        used(f"crates/joint/proofs/{proof}", found)
-    for path in found:
-        if path.startswith("crates/joint/proofs/") or "/laws/" in path:
-            put(out, path, source(path))
+        bring(out, f"crates/joint/proofs/{proof}")
     proved, printed = check(out, list(CRATES))
     if proved:
         return []
