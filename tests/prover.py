@@ -119,10 +119,11 @@ def refused(support, equations, edit=None, name="equations"):
     proved, printed = check(out, list(CRATES) + ["vectors"])
     if proved:
         return []
-    found = sorted({labels[n] for n in re.findall(r"error: `(v[\w-]+)`", printed) if n in labels})
-    if not found:
+    found = [labels.get(n) for n in re.findall(r"^\./specs/Lib\.antt:\d+:\d+: error: `([^`]+)`: expected type ", printed, re.M)]
+    # a claim that cannot be read, or that no steps are left for, is not a refused one
+    if not found or None in found or len(found) != printed.count(": error: ") or "\n== vectors\n" not in printed:
         raise SystemExit(printed[-3000:])
-    return found
+    return sorted(set(found))
 
 
 def bring(out, path):
@@ -134,17 +135,24 @@ def bring(out, path):
         bring(out, f"crates/{crate}/{part}/{module.replace('.', '/')}.antt")
 
 
-def proof_refused(proofs, edit=None, name="proof"):
-    """What the prover refuses in files of joint's proofs/ and in those that they use, over the definitions and no program:
-    (file and declaration, whether it is refused for itself and not for one that it uses), in the prover's order."""
+def proof_refused(claims, edit=None, name="proof"):
+    """What the prover refuses of claims, each a file of joint's proofs/ or a file and a declaration in it, and in the files that they use, over the definitions and no
+    program: the declarations that are refused for themselves, and not for one that they use, each with its file, in the prover's order; and those that are claims and are
+    not proved."""
     out, _ = definitions(name, edit)
-    for proof in proofs:
-        bring(out, f"crates/joint/proofs/{proof}")
+    for number, claim in enumerate(claims):
+        path, _, word = claim.partition(" ")
+        bring(out, f"crates/joint/proofs/{path}")
+        # Of the declarations that rest on a refused one the prover names the first three of a file: here each claim has a file
+        module = path.removesuffix(".antt").replace("/", ".")
+        if word:
+            put(out, f"crates/joint/proofs/Wanted/Claim{number}.antt", f"use Rattle.joint.proofs.{module}.{{{word}}}\n\nwanted : Unit {{0}}\nwanted = let claim = {word} in tt\n")
     proved, printed = check(out, list(CRATES))
     if proved:
-        return []
-    found = re.findall(r"/crates/joint/proofs/(\S+\.antt):\d+:\d+: error: `([^`]+)`(.*)", printed)
+        return [], []
+    own = re.findall(r"^\./proofs/(\S+\.antt):\d+:\d+: error: `([^`]+)`: ", printed, re.M)
+    behind = re.findall(r"^\./proofs/(\S+\.antt):\d+:\d+: error: \d+ declarations? that depends? on `", printed, re.M)
     # the definitions themselves are accepted
-    if not found or len(found) != printed.count(": error: "):
+    if not own or len(own) + len(behind) != printed.count(": error: ") or "\n== joint\n" not in printed:
         raise SystemExit(printed[-3000:])
-    return [(f"{path} {name}", "was not admitted" not in why) for path, name, why in found]
+    return [f"{path} {word}" for path, word in own], [claim for number, claim in enumerate(claims) if claim in map(" ".join, own) or f"Wanted/Claim{number}.antt" in behind]
