@@ -104,6 +104,11 @@ def check(out, crates):
     return run.returncode == 0 and f"{len(crates)} of {len(crates)} crates ok" in printed, printed
 
 
+def stop(printed):
+    """Ends with what the prover said from its first error on."""
+    raise SystemExit(printed[max(printed.find(": error: ") - 100, 0) :][:3000])
+
+
 def refused(support, equations, edit=None, name="equations"):
     """The labels of the claims that the prover refuses: each is a label, a type and its proof; `support` are definitions that they use."""
     out, uses = definitions(name, edit)
@@ -112,17 +117,18 @@ def refused(support, equations, edit=None, name="equations"):
     labels = {}
     for label, claim, proof in equations:
         said = "v" + re.sub(r"\W", "-", label)
-        labels[said] = label
         root += f"\n{said} : {claim}\nunfolding {' '.join(map(opening, CRATES))} {opened}\n{said} = {proof}\n"
+        labels[str(root.count("\n")), said] = label
     put(out, "crates/vectors/src/lib.rt", "// Equations alone.\n#![tactic(auto)]\n")
     put(out, "crates/vectors/specs/Lib.antt", root)
     proved, printed = check(out, list(CRATES) + ["vectors"])
     if proved:
         return []
-    found = [labels.get(n) for n in re.findall(r"^\./specs/Lib\.antt:\d+:\d+: error: `([^`]+)`: expected type ", printed, re.M)]
-    # a claim that cannot be read, or that no steps are left for, is not a refused one
+    # a proof of another type than its claim's; a claim that cannot be read, or that no steps are left for, is not a refused one
+    said = re.findall(r"^\./specs/Lib\.antt:(\d+):\d+: error: `([^`]+)`: (?:expected type|as printed, the two types) ", printed, re.M)
+    found = [labels.get(x) for x in said]
     if not found or None in found or len(found) != printed.count(": error: ") or "\n== vectors\n" not in printed:
-        raise SystemExit(printed[-3000:])
+        stop(printed)
     return sorted(set(found))
 
 
@@ -154,5 +160,5 @@ def proof_refused(claims, edit=None, name="proof"):
     behind = re.findall(r"^\./proofs/(\S+\.antt):\d+:\d+: error: \d+ declarations? that depends? on `", printed, re.M)
     # the definitions themselves are accepted
     if not own or len(own) + len(behind) != printed.count(": error: ") or "\n== joint\n" not in printed:
-        raise SystemExit(printed[-3000:])
+        stop(printed)
     return [f"{path} {word}" for path, word in own], [claim for number, claim in enumerate(claims) if claim in map(" ".join, own) or f"Wanted/Claim{number}.antt" in behind]
