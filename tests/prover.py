@@ -125,8 +125,8 @@ def refused(support, equations, edit=None, name="equations"):
     if proved:
         return []
     # a proof of another type than its claim's; a claim that cannot be read, or that no steps are left for, is not a refused one
-    said = re.findall(r"^\./specs/Lib\.antt:(\d+):\d+: error: `([^`]+)`: (?:expected type|as printed, the two types) ", printed, re.M)
-    found = [labels.get(x) for x in said]
+    said = re.findall(r"^\./specs/Lib\.antt:(\d+):\d+: error: `([^`]+)`: (.*\n(?:  .*\n)*)", printed, re.M)
+    found = [labels.get((line, name)) for line, name, why in said if "expected type `" in why]
     if not found or None in found or len(found) != printed.count(": error: ") or "\n== vectors\n" not in printed:
         stop(printed)
     return sorted(set(found))
