@@ -22,6 +22,7 @@ pub mod Whole
 pub mod Openings
 pub mod Replays
 pub mod Turns
+pub mod Steps
 pub mod Rooms
 pub mod Bills
 pub mod Handovers

@@ -89,6 +89,7 @@ fn may_cut(cut: u8, keep: u8) -> bool
 
 // Whether an event's bytes are in their ranges: unused x, y, z are 0, and at open z is a part of y. A cut stands on codes
 // 1, 2, 3, 7; keep is 0 but on a cut or a crash.
+#[tactic(auto, unfolding(crate::specs::Event::bytes_in_range, crate::specs::Event::cut_in_range, crate::specs::Event::ranges, codec::specs::Lists::every, codec::specs::Lists::any),)]
 fn in_range(code: u8, x: u8, y: u8, z: u8, cut: u8, keep: u8) -> bool
     ensures { result ≡ (bytes_in_range code x y z && cut_in_range code cut keep) }
 {

@@ -137,6 +137,7 @@ impl Participant {
         }
     }
 
+    #[tactic(auto, unfolding(crate::specs::Participant::on_prepare, crate::specs::Step::answered, crate::specs::Step::messages))]
     fn on_prepare(self) -> ParticipantAnswer
         requires { Numbered self.number }
         ensures { (t : ℕ) → participant_answer_in t result ≡ answered (participant.on_prepare (presumption_in self.presumption) self.number self.marked (participant_in self.phase)) }

@@ -22,6 +22,7 @@ impl CoordinatorPhase {
     pub const LAST: u8 = 4;
 
     // What is no phase is Unknown.
+    #[tactic(auto, unfolding(crate::specs::Numbers::coordinator_from))]
     pub fn from_numbers(phase: u8, waiting: u8) -> CoordinatorPhase
         ensures { coordinator_in result ≡ coordinator_from phase waiting }
     {
@@ -34,6 +35,7 @@ impl CoordinatorPhase {
         }
     }
 
+    #[tactic(auto, unfolding(crate::specs::Numbers::coordinator_phase))]
     pub fn number(self) -> u8
         ensures { result ≡ coordinator_phase (coordinator_in self) }
     {
@@ -88,6 +90,7 @@ pub enum ParticipantPhase {
 
 impl ParticipantPhase {
     // What is no phase is Unknown.
+    #[tactic(auto, unfolding(crate::specs::Numbers::participant_from))]
     pub fn from_number(phase: u8) -> ParticipantPhase
         ensures { participant_in result ≡ participant_from phase }
     {
@@ -100,6 +103,7 @@ impl ParticipantPhase {
         }
     }
 
+    #[tactic(auto, unfolding(crate::specs::Numbers::participant_phase))]
     pub fn number(self) -> u8
         ensures { result ≡ participant_phase (participant_in self) }
     {

@@ -1,5 +1,5 @@
 -- The ranges of an event's bytes: at a code that is known, they come to a few tests.
-use Prim.Native.Nat.{ℕ, zero, suc, ◌≤◌, zero-le}
+use Prim.Native.Nat.{ℕ, zero, suc, ◌≤◌}
 use mathlib.Core.Path.{◌≡◌, refl, sym, ◌∙◌}
 use mathlib.Core.Bool.{Bool, true, false, not, ◌&&◌, ◌||◌, and_assoc, and-true, or-false, or-true, and-eq-true_iff}
 use mathlib.Core.List.{List, [], ◌∷◌}
@@ -14,15 +14,6 @@ use borrow.Author.Tests.{leb-true, le-leb, eq-eqb, not-false}
 use Rattle.codec.specs.Lists.{any, every, only_if}
 use Rattle.codec.specs.Laws.Tests.{every_at}
 use Rattle.joint.specs.Event.{Parsed, event_length, event_of, ranges, bytes_in_range, cut_in_range, cut_at, cut_of, parse}
-
--- n is none of the numbers below k, in the form in which the last arm of a match has it
-abbrev NoneBelow : ℕ → ℕ → Type 0
-NoneBelow zero n = Unit {0}
-NoneBelow (suc k) n = NoneBelow k n × (n ≡ k → ⊥)
-
-pub none_below : (k n : ℕ) → NoneBelow k n → k ≤ n
-none_below zero n h = zero-le
-none_below (suc k) n h = let l = none_below k n h.0 in omega (arith, l, h.1)
 
 pub byte : {n : ℕ} → Fits w8 n → leb n 255 ≡ true
 byte {n} h = le-leb n 255 (omega (arith, h.fits))

@@ -27,8 +27,8 @@ use Rattle.joint.specs.Safety.{happened}
 use Rattle.joint.specs.Totals as totals
 use Rattle.joint.specs.Totals.{forces_at}
 use Rattle.joint.specs.Program.{has_room, room_parsed, room_for, room_for_plan, Adds}
-use Rattle.joint.specs.Answers.{site_from, no_site, no_records, transactions_in, run_in, forces_in, answer_in, refusal_number, Seen, seen}
-use Rattle.joint.specs.Inside.{transaction_after, counted, size, Fits, then_in, then_transaction, goes_down, row_site, plan_in, Asks, begins, delivers, times, taken, refusal, change_in, Here, step_in, step_site, step_transaction, StepInRange, restarted_in}
+use Rattle.joint.specs.Answers.{site_from, no_records, transactions_in, run_in, forces_in, answer_in, refusal_number, Seen, seen}
+use Rattle.joint.specs.Inside.{transaction_after, counted, size, Fits, then_in, then_transaction, goes_down, row_site, plan_in, taken, refusal, restarted_in}
 use Rattle.joint.specs.declared.answers.Answer.{Answer}
 use Rattle.joint.specs.declared.answers.Counts.{Counts}
 use Rattle.joint.specs.declared.answers.Answer.TheVariants as answer
@@ -36,9 +36,6 @@ use Rattle.joint.specs.declared.sites.Site.{Site}
 use Rattle.joint.specs.declared.records.Records.{Records}
 use Rattle.joint.specs.declared.records.SiteLog.{SiteLog}
 use Rattle.joint.specs.declared.rows.Row.{Row}
-use Rattle.joint.specs.declared.changes.Change.{Change}
-use Rattle.joint.specs.declared.events.Step.{Step}
-use Rattle.joint.specs.declared.events.Step.TheVariants as steps
 use Rattle.joint.specs.declared.restarts.Restarted.{Restarted}
 use Rattle.joint.specs.declared.run.Run.{Run}
 use Rattle.joint.proofs.Base.Lists.{select-take, among}
@@ -47,7 +44,6 @@ use Rattle.joint.proofs.Base.Plans.{All, site_of}
 use Rattle.joint.proofs.Base.Forces.{held-sum, none-forced, event-forces}
 use Rattle.joint.proofs.Base.Placed.{run_path, acting-counted}
 use Rattle.joint.proofs.Engine.Reads.{site_at, get_or-within, site_read, counts_stored, site-stored}
-use Rattle.joint.proofs.Engine.Sites.{log-counted}
 use Rattle.joint.proofs.Engine.Refused.{answer_case, refused-number, refused_by, refuse-seen}
 use Rattle.joint.proofs.Engine.Rows.{forgotten_if, row_happens}
 use Rattle.joint.proofs.Engine.Replays.{Ahead, adds_none, ahead_next, event_at}
@@ -228,30 +224,6 @@ module _ (w : plain.Run) (s t : ℕ) (x : Row) where
         run = same i;
       }
 
--- ---- where an event's plan is
-
-asked_site : {e : events.Event} {t s kind p : ℕ} → Asks e t s kind p → s ≡ site_of e
-asked_site (begins t) = refl
-asked_site (delivers t kind p h l u) = refl
-asked_site (times t s h) = refl
-
-pub step-site : (e : Step) → StepInRange e → step_site e ≡ site_of (step_in e).event
-unfolding step_in
-step-site (steps.Open e) h = refl
-step-site (steps.Input e) h = asked_site h.1.1
-step-site (steps.Force s) h = refl
-step-site (steps.Discard e) h = refl
-step-site (steps.Crash e) h = refl
-step-site (steps.Mark e) h = refl
-
-pub step_low : (e : Step) → StepInRange e → (step_site e ≤ 8) × (step_transaction e ≤ 7)
-step_low (steps.Open e) h = (omega arith, h)
-step_low (steps.Input e) h = (h.1.0, h.0)
-step_low (steps.Force s) h = (h, omega arith)
-step_low (steps.Discard e) h = (h.1, h.0)
-step_low (steps.Crash e) h = (h, omega arith)
-step_low (steps.Mark e) h = (h.1, h.0)
-
 -- ---- a restart: one site with its records, and all transactions, are stored, if it is accepted
 
 module _ (r : Run) (f : Full r) (s : ℕ) (low : s ≤ 8) (d : Site) (e : Records) (c : Restarted) (ev : events.Event) (cut : Option (ℕ × ℕ))
@@ -288,18 +260,6 @@ refused_change w x a h =
     absurd (omega (arith, ap (λ (v : Seen). v.answer.records) e, ap (count is_append) (refusal-acts w x 0 (sym (ap (λ (v : Seen). v.answer.number) e))))))
     (λ n. ((λ i. record { answer = sym n.1.1 i; run = w }) ∙ h, (n.0, ap (λ (v : answers.Answer). v.number) n.1.0)))
     (answer_case a)
-
-pub decided_as : (w : plain.Run) {e f : Step} {s t : ℕ} {a b : Change} → e ≡ f → s ≡ step_site e → t ≡ step_transaction e → a ≡ b
-    → change_in w (step_site f) (step_transaction f) b ≡ taken w (step_in f).event (step_in f).cut → change_in w s t a ≡ taken w (step_in e).event (step_in e).cut
-decided_as w p qs qt q h = rw (qs, qt, q, p) h
-
-module _ (r : Run) (f : Full r) (s : ℕ) (low : s ≤ 8) where
-  pub here : (d : Site) {z : ℕ} → s ≡ z → Here (get_or r.sites s d) (run_in r) z
-  here d e = ((get_or r.records s no_records).of, (f.whole s low, site_read r s d no_records f.nine f.logs low ∙ ap (run_in r).site e))
-
-  -- its log holds 24 records
-  pub held : size ((run_in r).site s) ≤ 24
-  held = omega (arith, ap size (site_read r s no_site no_records f.nine f.logs low), log-counted (get_or r.sites s no_site) (get_or r.records s no_records).of (f.whole s low))
 
 -- ---- a row's site is stored: with its records, or its counts alone
 

@@ -3,7 +3,7 @@ use mathlib.Core.Path.{◌≡◌, refl, sym, ap, ◌∙◌, subst}
 use mathlib.Core.Bool.{true}
 use mathlib.Core.List.{List, []}
 use mathlib.Core.Option.{none, some}
-use lib.ListN.{length, take, drop, get_or, set, length-set}
+use lib.ListN.{length, take, drop, set, length-set}
 use native.Mathlib.Omega.{arith}
 use Rattle.codec.specs.Lists.{select}
 use Rattle.codec.specs.Image.{stored}
@@ -16,22 +16,22 @@ use Rattle.joint.specs.Plan.{plan}
 use Rattle.joint.specs.Run.{event, carry}
 use Rattle.joint.specs.Drill.{answer_bytes}
 use Rattle.joint.specs.Totals.{forces_at}
-use Rattle.joint.specs.Program.{has_room, room_for}
-use Rattle.joint.specs.Answers.{site_from, no_records, transaction_in, transactions_in, run_in, forces_in, answer_in, refusal_number, seen}
-use Rattle.joint.specs.Inside.{step_in, step_site, step_transaction, event_in, change_in, cut_from, Here, taken, row_site, plan_in, Fits, then_transaction, transaction_after}
+use Rattle.joint.specs.Program.{has_room}
+use Rattle.joint.specs.Answers.{site_from, no_records, transactions_in, run_in, forces_in, answer_in, refusal_number, seen}
+use Rattle.joint.specs.Inside.{step_in, event_in, change_in, cut_from, taken, row_site, plan_in, Fits, then_transaction, transaction_after}
 use Rattle.joint.specs.declared.answers.Answer.{Answer}
 use Rattle.joint.specs.declared.answers.Answer.TheVariants as variants
 use Rattle.joint.specs.declared.events.Step.{Step}
 use Rattle.joint.specs.declared.run.Run.{Run}
-use Rattle.joint.specs.declared.sites.Site.{Site}
 use Rattle.joint.specs.declared.transactions.Transaction.{Transaction}
-use Rattle.joint.proofs.Base.Plans.{All, site_of, plan-site}
+use Rattle.joint.proofs.Base.Plans.{All, plan-site}
 use Rattle.joint.proofs.Engine.Arrays.{length-shown}
-use Rattle.joint.proofs.Engine.Reads.{site_at, site_read, transaction_read, transactions-stored}
+use Rattle.joint.proofs.Engine.Reads.{site_at, transaction_read, transactions-stored}
 use Rattle.joint.proofs.Engine.Whole.{run-whole}
 use Rattle.joint.proofs.Engine.Refused.{refused-number}
 use Rattle.joint.proofs.Engine.Replays.{adds_none, ahead_start, event_at_lem}
-use Rattle.joint.proofs.Engine.Turns.{Full, Going, Turned, going_next, turned_at, turned_refused, malformed_seen, parsed_seen, parsed_room, happens_seen, step_low, step-site, restart-stored, restart-refused, refused_change, decided_as, here, held, row_fits, log-stored, site_settled, whole-stored}
+use Rattle.joint.proofs.Engine.Turns.{Full, Going, Turned, going_next, turned_at, turned_refused, malformed_seen, parsed_seen, parsed_room, happens_seen, restart-stored, restart-refused, refused_change, row_fits, log-stored, site_settled, whole-stored}
+use Rattle.joint.proofs.Engine.Steps.{StepRead, site_low, transaction_few, low, few, its_site, own, own_site, here, held, its_room, decides}
 use Rattle.joint.proofs.replay.go.Goals as goal
 use Rattle.joint.proofs.replay.go.Goals.{After-row_known-1, After-store-arg-in-Restart-1, Joined-writes, After-store-arg-in-Refused-1, then-rest-lt-EVENT_LENGTH, else-rest-lt-EVENT_LENGTH, in-Open, in-Input, in-Force, in-Discard, in-Crash, in-Mark, then-writes, else-writes}
 
@@ -184,109 +184,67 @@ loop-count-preserved-in_default c =
     c.store-in-Restart.ensures
 
 pub bounds-run-s-in-Step : goal.bounds-run-s-in-Step
-bounds-run-s-in-Step c =
-    let low : c.site-s.result ≤ 8 = rw c.site-s.ensures (step_low c.in-Step.step c.in-Step.ensures.1).0 in
-    omega (arith, low, c.loop-count.invariant.full.nine, c.loop-count.invariant.full.logs, c.loop-count.invariant.full.counters, c.loop-count.invariant.full.eight)
+bounds-run-s-in-Step c = let f = c.loop-count.invariant.full in omega (arith, site_low c.in-Step.step c.in-Step.ensures.1 c.site-s.ensures, f.nine, f.logs, f.counters)
 
 pub bounds-run-s-in-Discard : goal.bounds-run-s-in-Discard
-bounds-run-s-in-Discard c =
-    let low : c.site-s.result ≤ 8 = rw c.site-s.ensures (step_low c.in-Step.step c.in-Step.ensures.1).0 in
-    omega (arith, low, c.loop-count.invariant.full.nine, c.loop-count.invariant.full.logs, c.loop-count.invariant.full.counters, c.loop-count.invariant.full.eight)
+bounds-run-s-in-Discard c = let f = c.loop-count.invariant.full in omega (arith, site_low c.in-Step.step c.in-Step.ensures.1 c.site-s.ensures, f.nine, f.logs, f.counters)
 
 pub bounds-run-s-in-Happens : goal.bounds-run-s-in-Happens
-bounds-run-s-in-Happens c =
-    let low : c.site-s.result ≤ 8 = rw c.site-s.ensures (step_low c.in-Step.step c.in-Step.ensures.1).0 in
-    omega (arith, low, c.loop-count.invariant.full.nine, c.loop-count.invariant.full.logs, c.loop-count.invariant.full.counters, c.loop-count.invariant.full.eight)
+bounds-run-s-in-Happens c = let f = c.loop-count.invariant.full in omega (arith, site_low c.in-Step.step c.in-Step.ensures.1 c.site-s.ensures, f.nine, f.logs, f.counters)
 
 pub bounds-run-s-in-Happens-2 : goal.bounds-run-s-in-Happens-2
-bounds-run-s-in-Happens-2 c =
-    let low : c.site-s.result ≤ 8 = rw c.site-s.ensures (step_low c.in-Step.step c.in-Step.ensures.1).0 in
-    omega (arith, low, c.loop-count.invariant.full.nine, c.loop-count.invariant.full.logs, c.loop-count.invariant.full.counters, c.loop-count.invariant.full.eight)
+bounds-run-s-in-Happens-2 c = let f = c.loop-count.invariant.full in omega (arith, site_low c.in-Step.step c.in-Step.ensures.1 c.site-s.ensures, f.nine, f.logs, f.counters)
 
 pub after-after-requires : goal.after-after-requires
-after-after-requires c =
-    let low : c.site-s.result ≤ 8 = rw c.site-s.ensures (step_low c.in-Step.step c.in-Step.ensures.1).0 in
-    omega (arith, low, c.loop-count.invariant.full.nine, c.loop-count.invariant.full.logs, c.loop-count.invariant.full.counters, c.loop-count.invariant.full.eight)
+after-after-requires c = let f = c.loop-count.invariant.full in omega (arith, site_low c.in-Step.step c.in-Step.ensures.1 c.site-s.ensures, f.nine, f.logs, f.counters)
 
 pub settle-requires : goal.settle-requires
-settle-requires c =
-    let low : c.site-s.result ≤ 8 = rw c.site-s.ensures (step_low c.in-Step.step c.in-Step.ensures.1).0 in
-    omega (arith, low, c.loop-count.invariant.full.nine, c.loop-count.invariant.full.logs, c.loop-count.invariant.full.counters, c.loop-count.invariant.full.eight)
+settle-requires c = let f = c.loop-count.invariant.full in omega (arith, site_low c.in-Step.step c.in-Step.ensures.1 c.site-s.ensures, f.nine, f.logs, f.counters)
 
 pub bounds-run-s-then-writes : goal.bounds-run-s-then-writes
-bounds-run-s-then-writes c =
-    let low : c.site-s.result ≤ 8 = rw c.site-s.ensures (step_low c.in-Step.step c.in-Step.ensures.1).0 in
-    omega (arith, low, c.loop-count.invariant.full.nine, c.loop-count.invariant.full.logs, c.loop-count.invariant.full.counters, c.loop-count.invariant.full.eight)
+bounds-run-s-then-writes c = let f = c.loop-count.invariant.full in omega (arith, site_low c.in-Step.step c.in-Step.ensures.1 c.site-s.ensures, f.nine, f.logs, f.counters)
 
 pub bounds-run-s-then-writes-2 : goal.bounds-run-s-then-writes-2
-bounds-run-s-then-writes-2 c =
-    let low : c.site-s.result ≤ 8 = rw c.site-s.ensures (step_low c.in-Step.step c.in-Step.ensures.1).0 in
-    omega (arith, low, c.loop-count.invariant.full.nine, c.loop-count.invariant.full.logs, c.loop-count.invariant.full.counters, c.loop-count.invariant.full.eight)
+bounds-run-s-then-writes-2 c = let f = c.loop-count.invariant.full in omega (arith, site_low c.in-Step.step c.in-Step.ensures.1 c.site-s.ensures, f.nine, f.logs, f.counters)
 
 pub bounds-run-s-then-writes-3 : goal.bounds-run-s-then-writes-3
-bounds-run-s-then-writes-3 c =
-    let low : c.site-s.result ≤ 8 = rw c.site-s.ensures (step_low c.in-Step.step c.in-Step.ensures.1).0 in
-    omega (arith, low, c.loop-count.invariant.full.nine, c.loop-count.invariant.full.logs, c.loop-count.invariant.full.counters, c.loop-count.invariant.full.eight)
+bounds-run-s-then-writes-3 c = let f = c.loop-count.invariant.full in omega (arith, site_low c.in-Step.step c.in-Step.ensures.1 c.site-s.ensures, f.nine, f.logs, f.counters)
 
 pub bounds-run-s-else-writes : goal.bounds-run-s-else-writes
-bounds-run-s-else-writes c =
-    let low : c.site-s.result ≤ 8 = rw c.site-s.ensures (step_low c.in-Step.step c.in-Step.ensures.1).0 in
-    omega (arith, low, c.loop-count.invariant.full.nine, c.loop-count.invariant.full.logs, c.loop-count.invariant.full.counters, c.loop-count.invariant.full.eight)
+bounds-run-s-else-writes c = let f = c.loop-count.invariant.full in omega (arith, site_low c.in-Step.step c.in-Step.ensures.1 c.site-s.ensures, f.nine, f.logs, f.counters)
 
 pub forget_all-run-requires : goal.forget_all-run-requires
-forget_all-run-requires c =
-    let low : c.site-s.result ≤ 8 = rw c.site-s.ensures (step_low c.in-Step.step c.in-Step.ensures.1).0 in
-    omega (arith, low, c.loop-count.invariant.full.nine, c.loop-count.invariant.full.logs, c.loop-count.invariant.full.counters, c.loop-count.invariant.full.eight)
+forget_all-run-requires c = let f = c.loop-count.invariant.full in omega (arith, site_low c.in-Step.step c.in-Step.ensures.1 c.site-s.ensures, f.nine, f.logs, f.counters)
 
 pub overflow_cast-s-in-Happens : goal.overflow_cast-s-in-Happens
-overflow_cast-s-in-Happens c =
-    let low : c.site-s.result ≤ 8 = rw c.site-s.ensures (step_low c.in-Step.step c.in-Step.ensures.1).0 in
-    omega (arith, low, c.loop-count.invariant.full.nine, c.loop-count.invariant.full.logs, c.loop-count.invariant.full.counters, c.loop-count.invariant.full.eight)
+overflow_cast-s-in-Happens c = let f = c.loop-count.invariant.full in omega (arith, site_low c.in-Step.step c.in-Step.ensures.1 c.site-s.ensures, f.nine, f.logs, f.counters)
 
 pub overflow_cast-s-in-Happens-2 : goal.overflow_cast-s-in-Happens-2
-overflow_cast-s-in-Happens-2 c =
-    let low : c.site-s.result ≤ 8 = rw c.site-s.ensures (step_low c.in-Step.step c.in-Step.ensures.1).0 in
-    omega (arith, low, c.loop-count.invariant.full.nine, c.loop-count.invariant.full.logs, c.loop-count.invariant.full.counters, c.loop-count.invariant.full.eight)
+overflow_cast-s-in-Happens-2 c = let f = c.loop-count.invariant.full in omega (arith, site_low c.in-Step.step c.in-Step.ensures.1 c.site-s.ensures, f.nine, f.logs, f.counters)
 
 pub offset_bounds-run-s-then-writes : goal.offset_bounds-run-s-then-writes
-offset_bounds-run-s-then-writes c =
-    let low : c.site-s.result ≤ 8 = rw c.site-s.ensures (step_low c.in-Step.step c.in-Step.ensures.1).0 in
-    omega (arith, low, c.loop-count.invariant.full.nine, c.loop-count.invariant.full.logs, c.loop-count.invariant.full.counters, c.loop-count.invariant.full.eight)
+offset_bounds-run-s-then-writes c = let f = c.loop-count.invariant.full in omega (arith, site_low c.in-Step.step c.in-Step.ensures.1 c.site-s.ensures, f.nine, f.logs, f.counters)
 
 pub offset_bounds-run-s-then-writes-2 : goal.offset_bounds-run-s-then-writes-2
-offset_bounds-run-s-then-writes-2 c =
-    let low : c.site-s.result ≤ 8 = rw c.site-s.ensures (step_low c.in-Step.step c.in-Step.ensures.1).0 in
-    omega (arith, low, c.loop-count.invariant.full.nine, c.loop-count.invariant.full.logs, c.loop-count.invariant.full.counters, c.loop-count.invariant.full.eight)
+offset_bounds-run-s-then-writes-2 c = let f = c.loop-count.invariant.full in omega (arith, site_low c.in-Step.step c.in-Step.ensures.1 c.site-s.ensures, f.nine, f.logs, f.counters)
 
 pub offset_bounds-run-s-then-writes-3 : goal.offset_bounds-run-s-then-writes-3
-offset_bounds-run-s-then-writes-3 c =
-    let low : c.site-s.result ≤ 8 = rw c.site-s.ensures (step_low c.in-Step.step c.in-Step.ensures.1).0 in
-    omega (arith, low, c.loop-count.invariant.full.nine, c.loop-count.invariant.full.logs, c.loop-count.invariant.full.counters, c.loop-count.invariant.full.eight)
+offset_bounds-run-s-then-writes-3 c = let f = c.loop-count.invariant.full in omega (arith, site_low c.in-Step.step c.in-Step.ensures.1 c.site-s.ensures, f.nine, f.logs, f.counters)
 
 pub offset_bounds-run-s-else-writes : goal.offset_bounds-run-s-else-writes
-offset_bounds-run-s-else-writes c =
-    let low : c.site-s.result ≤ 8 = rw c.site-s.ensures (step_low c.in-Step.step c.in-Step.ensures.1).0 in
-    omega (arith, low, c.loop-count.invariant.full.nine, c.loop-count.invariant.full.logs, c.loop-count.invariant.full.counters, c.loop-count.invariant.full.eight)
+offset_bounds-run-s-else-writes c = let f = c.loop-count.invariant.full in omega (arith, site_low c.in-Step.step c.in-Step.ensures.1 c.site-s.ensures, f.nine, f.logs, f.counters)
 
 pub bounds-run-t : goal.bounds-run-t
-bounds-run-t c =
-    let few : c.transaction-t.result ≤ 7 = rw c.transaction-t.ensures (step_low c.in-Step.step c.in-Step.ensures.1).1 in
-    omega (arith, few, c.loop-count.invariant.full.nine, c.loop-count.invariant.full.logs, c.loop-count.invariant.full.counters, c.loop-count.invariant.full.eight)
+bounds-run-t c = omega (arith, transaction_few c.in-Step.step c.in-Step.ensures.1 c.transaction-t.ensures, c.loop-count.invariant.full.eight)
 
 pub bounds-run-t-in-Happens : goal.bounds-run-t-in-Happens
-bounds-run-t-in-Happens c =
-    let few : c.transaction-t.result ≤ 7 = rw c.transaction-t.ensures (step_low c.in-Step.step c.in-Step.ensures.1).1 in
-    omega (arith, few, c.loop-count.invariant.full.nine, c.loop-count.invariant.full.logs, c.loop-count.invariant.full.counters, c.loop-count.invariant.full.eight)
+bounds-run-t-in-Happens c = omega (arith, transaction_few c.in-Step.step c.in-Step.ensures.1 c.transaction-t.ensures, c.loop-count.invariant.full.eight)
 
 pub offset_bounds-run-t-in-Happens : goal.offset_bounds-run-t-in-Happens
-offset_bounds-run-t-in-Happens c =
-    let few : c.transaction-t.result ≤ 7 = rw c.transaction-t.ensures (step_low c.in-Step.step c.in-Step.ensures.1).1 in
-    omega (arith, few, c.loop-count.invariant.full.nine, c.loop-count.invariant.full.logs, c.loop-count.invariant.full.counters, c.loop-count.invariant.full.eight)
+offset_bounds-run-t-in-Happens c = omega (arith, transaction_few c.in-Step.step c.in-Step.ensures.1 c.transaction-t.ensures, c.loop-count.invariant.full.eight)
 
 pub overflow_cast-t-then-writes : goal.overflow_cast-t-then-writes
-overflow_cast-t-then-writes c =
-    let few : c.transaction-t.result ≤ 7 = rw c.transaction-t.ensures (step_low c.in-Step.step c.in-Step.ensures.1).1 in
-    omega (arith, few, c.loop-count.invariant.full.nine, c.loop-count.invariant.full.logs, c.loop-count.invariant.full.counters, c.loop-count.invariant.full.eight)
+overflow_cast-t-then-writes c = omega (arith, transaction_few c.in-Step.step c.in-Step.ensures.1 c.transaction-t.ensures, c.loop-count.invariant.full.eight)
 
 pub input-change-requires : goal.input-change-requires
 input-change-requires c = (rw c.in-Input.is at c.in-Step.ensures.1).1.1
@@ -297,60 +255,25 @@ settle-requires-else-writes c = sym c.writes.ensures ∙ c.if-writes.false
 -- ---- what is decided of a step
 
 -- where it is refused
-module _ (c : After-store-arg-in-Refused-1) where
-  abbrev run_refused : Run
-  run_refused = c.loop-count.run
+read_refused : (c : After-store-arg-in-Refused-1) → StepRead c.loop-count.run c.in-Step.step c.site-s.result c.transaction-t.result
+read_refused c = record { full = c.loop-count.invariant.full; within = c.in-Step.ensures.1; site = c.site-s.ensures; transaction = c.transaction-t.ensures }
 
-  abbrev full_refused : Full c.loop-count.run
-  full_refused = c.loop-count.invariant.full
-
-  abbrev step_refused : Step
-  step_refused = c.in-Step.step
-
-  abbrev number_refused : ℕ
-  number_refused = c.site-s.result
-
-  abbrev transaction_refused : ℕ
-  transaction_refused = c.transaction-t.result
-
-  abbrev x_refused : List ℕ
-  x_refused = piece c.args.bytes.now c.loop-count.count c.if-rest-lt-EVENT_LENGTH.size
-
-  parse_is_refused : parse x_refused ≡ some (step_in c.in-Step.step)
-  unfolding event_in
-  parse_is_refused = sym c.in-Step.ensures.0
-
-  low_refused : c.site-s.result ≤ 8
-  low_refused = rw c.site-s.ensures (step_low c.in-Step.step c.in-Step.ensures.1).0
-
-  few_refused : c.transaction-t.result ≤ 7
-  few_refused = rw c.transaction-t.ensures (step_low c.in-Step.step c.in-Step.ensures.1).1
-
-  own_refused : (d : Transaction) {z : ℕ} → c.transaction-t.result ≡ z → transaction_in (get_or c.loop-count.run.transactions c.transaction-t.result d) ≡ (run_in c.loop-count.run).transaction z
-  own_refused d e = transaction_read run_refused transaction_refused d full_refused.eight few_refused ∙ ap (run_in run_refused).transaction e
-
-  placed_refused : (d : Site) {q : Step} → c.in-Step.step ≡ q → Here (get_or c.loop-count.run.sites c.site-s.result d) (run_in c.loop-count.run) (step_site q)
-  placed_refused d p = here run_refused full_refused number_refused low_refused d (c.site-s.ensures ∙ ap step_site p)
-
-  decided_refused : has_room (run_in c.loop-count.run) x_refused ≡ true → change_in (run_in c.loop-count.run) c.site-s.result c.transaction-t.result c.match-step.change ≡ taken (run_in c.loop-count.run) (step_in c.in-Step.step).event (step_in c.in-Step.step).cut
-  unfolding step_in run_in site_from
-  decided_refused h =
-      let v = run_in run_refused in
-      let qs = c.site-s.ensures in
-      let qt = c.transaction-t.ensures in
-      elim c.match-step.branch [
-        | in-Open w ↦ decided_as v w.in-Open.is qs qt w.change-is (w.open-change.ensures v (λ i. refl) (own_refused _ (qt ∙ ap step_transaction w.in-Open.is)))
-        | in-Input w ↦
-            decided_as v w.in-Input.is qs qt w.change-is
-            (w.input-change.ensures v (placed_refused _ w.in-Input.is) (own_refused _ (qt ∙ ap step_transaction w.in-Input.is))
-            (sym (ap (λ (e : Step). room_for v (step_in e).event) w.in-Input.is) ∙ parsed_room v x_refused _ parse_is_refused h))
-        | in-Force w ↦ decided_as v w.in-Force.is qs qt w.change-is (w.force-change.ensures v _ _ (placed_refused _ w.in-Force.is))
-        | in-Discard w ↦
-            decided_as v w.in-Discard.is qs qt w.change-is
-            (w.discard-change.ensures v (site_read run_refused number_refused _ _ full_refused.nine full_refused.logs low_refused ∙ ap v.site (qs ∙ ap step_site w.in-Discard.is)) (own_refused _ (qt ∙ ap step_transaction w.in-Discard.is)))
-        | in-Crash w ↦ decided_as v w.in-Crash.is qs qt w.change-is (w.crash-change.ensures v _ _ (placed_refused _ w.in-Crash.is))
-        | in-Mark w ↦ decided_as v w.in-Mark.is qs qt w.change-is (w.mark-change.ensures v (placed_refused _ w.in-Mark.is) (own_refused _ (qt ∙ ap step_transaction w.in-Mark.is)))
-      ]
+decided_refused : (c : After-store-arg-in-Refused-1) → has_room (run_in c.loop-count.run) (piece c.args.bytes.now c.loop-count.count c.if-rest-lt-EVENT_LENGTH.size) ≡ true
+    → change_in (run_in c.loop-count.run) c.site-s.result c.transaction-t.result c.match-step.change ≡ taken (run_in c.loop-count.run) (step_in c.in-Step.step).event (step_in c.in-Step.step).cut
+unfolding step_in event_in run_in site_from
+decided_refused c h =
+    let v = run_in c.loop-count.run in
+    let a = read_refused c in
+    elim c.match-step.branch [
+      | in-Open w ↦ decides a w.in-Open.is w.change-is (w.open-change.ensures v (λ i. refl) (own a _ w.in-Open.is))
+      | in-Input w ↦
+          decides a w.in-Input.is w.change-is
+          (w.input-change.ensures v (here a _ w.in-Input.is) (own a _ w.in-Input.is) (its_room a _ (sym c.in-Step.ensures.0) h w.in-Input.is))
+      | in-Force w ↦ decides a w.in-Force.is w.change-is (w.force-change.ensures v _ _ (here a _ w.in-Force.is))
+      | in-Discard w ↦ decides a w.in-Discard.is w.change-is (w.discard-change.ensures v (own_site a _ _ w.in-Discard.is) (own a _ w.in-Discard.is))
+      | in-Crash w ↦ decides a w.in-Crash.is w.change-is (w.crash-change.ensures v _ _ (here a _ w.in-Crash.is))
+      | in-Mark w ↦ decides a w.in-Mark.is w.change-is (w.mark-change.ensures v (here a _ w.in-Mark.is) (own a _ w.in-Mark.is))
+    ]
 
 -- where a row happens
 module _ (c : Joined-writes) where
@@ -372,44 +295,27 @@ module _ (c : Joined-writes) where
   abbrev x : List ℕ
   x = piece c.args.bytes.now c.loop-count.count c.if-rest-lt-EVENT_LENGTH.size
 
+  a : StepRead c.loop-count.run c.in-Step.step c.site-s.result c.transaction-t.result
+  a = record { full = full; within = c.in-Step.ensures.1; site = c.site-s.ensures; transaction = c.transaction-t.ensures }
+
   parse_is : parse x ≡ some (step_in c.in-Step.step)
   unfolding event_in
   parse_is = sym c.in-Step.ensures.0
-
-  low : c.site-s.result ≤ 8
-  low = rw c.site-s.ensures (step_low c.in-Step.step c.in-Step.ensures.1).0
-
-  few : c.transaction-t.result ≤ 7
-  few = rw c.transaction-t.ensures (step_low c.in-Step.step c.in-Step.ensures.1).1
-
-  own : (d : Transaction) {z : ℕ} → c.transaction-t.result ≡ z → transaction_in (get_or c.loop-count.run.transactions c.transaction-t.result d) ≡ (run_in c.loop-count.run).transaction z
-  own d e = transaction_read run transaction d full.eight few ∙ ap (run_in run).transaction e
-
-  placed : (d : Site) {q : Step} → c.in-Step.step ≡ q → Here (get_or c.loop-count.run.sites c.site-s.result d) (run_in c.loop-count.run) (step_site q)
-  placed d p = here run full number low d (c.site-s.ensures ∙ ap step_site p)
 
   decided : has_room (run_in c.loop-count.run) x ≡ true → change_in (run_in c.loop-count.run) c.site-s.result c.transaction-t.result c.match-step.change ≡ taken (run_in c.loop-count.run) (step_in c.in-Step.step).event (step_in c.in-Step.step).cut
   unfolding step_in run_in site_from
   decided h =
       let v = run_in run in
-      let qs = c.site-s.ensures in
-      let qt = c.transaction-t.ensures in
       elim c.match-step.branch [
-        | in-Open w ↦ decided_as v w.in-Open.is qs qt w.change-is (w.open-change.ensures v (λ i. refl) (own _ (qt ∙ ap step_transaction w.in-Open.is)))
+        | in-Open w ↦ decides a w.in-Open.is w.change-is (w.open-change.ensures v (λ i. refl) (own a _ w.in-Open.is))
         | in-Input w ↦
-            decided_as v w.in-Input.is qs qt w.change-is
-            (w.input-change.ensures v (placed _ w.in-Input.is) (own _ (qt ∙ ap step_transaction w.in-Input.is))
-            (sym (ap (λ (e : Step). room_for v (step_in e).event) w.in-Input.is) ∙ parsed_room v x _ parse_is h))
-        | in-Force w ↦ decided_as v w.in-Force.is qs qt w.change-is (w.force-change.ensures v _ _ (placed _ w.in-Force.is))
-        | in-Discard w ↦
-            decided_as v w.in-Discard.is qs qt w.change-is
-            (w.discard-change.ensures v (site_read run number _ _ full.nine full.logs low ∙ ap v.site (qs ∙ ap step_site w.in-Discard.is)) (own _ (qt ∙ ap step_transaction w.in-Discard.is)))
-        | in-Crash w ↦ decided_as v w.in-Crash.is qs qt w.change-is (w.crash-change.ensures v _ _ (placed _ w.in-Crash.is))
-        | in-Mark w ↦ decided_as v w.in-Mark.is qs qt w.change-is (w.mark-change.ensures v (placed _ w.in-Mark.is) (own _ (qt ∙ ap step_transaction w.in-Mark.is)))
+            decides a w.in-Input.is w.change-is
+            (w.input-change.ensures v (here a _ w.in-Input.is) (own a _ w.in-Input.is) (its_room a _ parse_is h w.in-Input.is))
+        | in-Force w ↦ decides a w.in-Force.is w.change-is (w.force-change.ensures v _ _ (here a _ w.in-Force.is))
+        | in-Discard w ↦ decides a w.in-Discard.is w.change-is (w.discard-change.ensures v (own_site a _ _ w.in-Discard.is) (own a _ w.in-Discard.is))
+        | in-Crash w ↦ decides a w.in-Crash.is w.change-is (w.crash-change.ensures v _ _ (here a _ w.in-Crash.is))
+        | in-Mark w ↦ decides a w.in-Mark.is w.change-is (w.mark-change.ensures v (here a _ w.in-Mark.is) (own a _ w.in-Mark.is))
       ]
-
-  its-site : c.site-s.result ≡ site_of (step_in c.in-Step.step).event
-  its-site = c.site-s.ensures ∙ step-site step c.in-Step.ensures.1
 
   row_seen : has_room (run_in c.loop-count.run) x ≡ true
       → seen (carry (run_in c.loop-count.run) (plan_in c.site-s.result c.transaction-t.result c.in-Happens.row) none) ≡ seen (event (run_in c.loop-count.run) x)
@@ -421,9 +327,9 @@ module _ (c : Joined-writes) where
   fits h =
       let v = run_in run in
       let e = (step_in step).event in
-      row_fits v number (held run full number low) transaction c.in-Happens.row e (step_in step).cut
+      row_fits v number (held a) transaction c.in-Happens.row e (step_in step).cut
       (sym (ap (change_in v number transaction) c.in-Happens.is) ∙ decided h)
-      (subst (λ (s : ℕ). All (λ p. p.site ≡ s) (plan v e)) (sym its-site) (plan-site v e)) (parsed_room v x _ parse_is h)
+      (subst (λ (s : ℕ). All (λ p. p.site ≡ s) (plan v e)) (sym (its_site a)) (plan-site v e)) (parsed_room v x _ parse_is h)
 
   abbrev put : List Transaction
   put = set c.loop-count.run.transactions c.transaction-t.result c.settle.result
@@ -435,10 +341,10 @@ module _ (c : Joined-writes) where
       (run_in c.loop-count.run).transaction
   unfolding run_in
   put_stored =
-      transactions-stored run.transactions transaction c.settle.result full.eight few
+      transactions-stored run.transactions transaction c.settle.result full.eight (few a)
       ∙ ap (λ (y : plain.Transaction). update transaction (λ _. y) (transactions_in run.transactions))
       (c.settle.ensures
-      ∙ ap (then_transaction number c.in-Happens.row.then) (c.after-after.ensures transaction ∙ ap (transaction_after number (effects_in transaction c.in-Happens.row.effects)) (own _ refl)))
+      ∙ ap (then_transaction number c.in-Happens.row.then) (c.after-after.ensures transaction ∙ ap (transaction_after number (effects_in transaction c.in-Happens.row.effects)) (transaction_read run transaction _ full.eight (few a))))
 
   abbrev counted : List ℕ
   counted = set c.loop-count.run.forces c.site-s.result c.add_held-in-Happens.result
@@ -448,7 +354,7 @@ module _ (c : Joined-writes) where
       → Turned c.loop-count.run x (variants.Accepted c.of-counts.result) next
   unfolding answer_in
   turned next e =
-      turned_at run next x (variants.Accepted c.of-counts.result) _ parse_is number (omega (arith, low, full.counters)) its-site
+      turned_at run next x (variants.Accepted c.of-counts.result) _ parse_is number (omega (arith, low a, full.counters)) (its_site a)
       _ _ (e ∙ ap (set run.forces number) c.add_held-in-Happens.ensures) refl
 
   transactions_put : c.if-writes.run.transactions ≡ put
@@ -462,8 +368,8 @@ module _ (c : Joined-writes) where
       ≡ update c.site-s.result (λ _. row_site c.transaction-t.result c.in-Happens.row ((run_in c.loop-count.run).site c.site-s.result)) (run_in c.loop-count.run).site
   site_put h =
       elim c.if-writes.branch [
-        | then-writes w ↦ ap (λ (r : Run). site_at r.sites r.records) w.run-is ∙ log-stored run full number low _ transaction c.in-Happens.row _ _ w.after-log.ensures (fits h)
-        | else-writes w ↦ ap (λ (r : Run). site_at r.sites r.records) w.run-is ∙ site_settled run full number low _ transaction c.in-Happens.row _ w.settle-else-writes.ensures
+        | then-writes w ↦ ap (λ (r : Run). site_at r.sites r.records) w.run-is ∙ log-stored run full number (low a) _ transaction c.in-Happens.row _ _ w.after-log.ensures (fits h)
+        | else-writes w ↦ ap (λ (r : Run). site_at r.sites r.records) w.run-is ∙ site_settled run full number (low a) _ transaction c.in-Happens.row _ w.settle-else-writes.ensures
       ]
 
   full_put : Full c.if-writes.run
@@ -472,12 +378,12 @@ module _ (c : Joined-writes) where
       elim c.if-writes.branch [
         | then-writes w ↦
             let all : length w.after-log.result.records.of ≡ 24 = search length-shown in
-            rw w.run-is (record { nine = simp length-set f.nine; logs = simp length-set f.logs; whole = whole-stored run.records number _ f.logs low all f.whole; eight = simp length-set f.eight; counters = simp length-set f.counters })
+            rw w.run-is (record { nine = simp length-set f.nine; logs = simp length-set f.logs; whole = whole-stored run.records number _ f.logs (low a) all f.whole; eight = simp length-set f.eight; counters = simp length-set f.counters })
         | else-writes w ↦ rw w.run-is (record { nine = simp length-set f.nine; logs = f.logs; whole = f.whole; eight = simp length-set f.eight; counters = simp length-set f.counters })
       ]
 
 pub loop-count-preserved-in-Refused : goal.loop-count-preserved-in-Refused
-unfolding change_in
+unfolding change_in event_in
 loop-count-preserved-in-Refused c =
     let l = c.loop-count in
     let within : 6 * l.count ≤ length c.args.bytes.now = omega (arith, c.requires.1, c.loop-count-test.true) in
@@ -489,7 +395,7 @@ loop-count-preserved-in-Refused c =
     let a = c.in-Refused.answer in
     next l.invariant c.loop-count-test.true size within (ended (goal.at.loop-count-preserved-in-Refused c).After-row_known-1) a l.run _ f
     (λ h.
-    let q = refused_change v x a (sym (ap (change_in v c.site-s.result c.transaction-t.result) c.in-Refused.is) ∙ decided_refused at h ∙ parsed_seen v x _ (parse_is_refused at)) in
+    let q = refused_change v x a (sym (ap (change_in v c.site-s.result c.transaction-t.result) c.in-Refused.is) ∙ decided_refused at h ∙ parsed_seen v x _ (sym c.in-Step.ensures.0)) in
     turned_refused l.run x a q.1.0 q.1.1 q.0)
     c.store-in-Refused.ensures
 

@@ -1,0 +1,95 @@
+-- A step that the loop over events read: its site and transaction are the run's, and what is decided of it there.
+use Prim.Native.Nat.{ℕ, ◌≤◌}
+use mathlib.Core.Path.{◌≡◌, refl, sym, ap, ◌∙◌}
+use mathlib.Core.Bool.{true}
+use mathlib.Core.List.{List}
+use mathlib.Core.Option.{some}
+use lib.ListN.{get_or}
+use native.Mathlib.Omega.{arith}
+use Rattle.joint.specs.Event as events
+use Rattle.joint.specs.Event.{parse}
+use Rattle.joint.specs.Program.{has_room, room_for}
+use Rattle.joint.specs.Answers.{site_from, no_site, no_records, transaction_in, run_in}
+use Rattle.joint.specs.Inside.{size, Asks, begins, delivers, times, taken, change_in, Here, step_in, step_site, step_transaction, StepInRange}
+use Rattle.joint.specs.declared.sites.Site.{Site}
+use Rattle.joint.specs.declared.records.Records.{Records}
+use Rattle.joint.specs.declared.transactions.Transaction.{Transaction}
+use Rattle.joint.specs.declared.changes.Change.{Change}
+use Rattle.joint.specs.declared.events.Step.{Step}
+use Rattle.joint.specs.declared.events.Step.TheVariants as steps
+use Rattle.joint.specs.declared.run.Run.{Run}
+use Rattle.joint.proofs.Base.Plans.{site_of}
+use Rattle.joint.proofs.Engine.Reads.{site_read, transaction_read}
+use Rattle.joint.proofs.Engine.Sites.{log-counted}
+use Rattle.joint.proofs.Engine.Turns.{Full, parsed_room}
+
+-- ---- where an event's plan is
+
+asked_site : {e : events.Event} {t s kind p : ℕ} → Asks e t s kind p → s ≡ site_of e
+asked_site (begins t) = refl
+asked_site (delivers t kind p h l u) = refl
+asked_site (times t s h) = refl
+
+step-site : (e : Step) → StepInRange e → step_site e ≡ site_of (step_in e).event
+unfolding step_in
+step-site (steps.Open e) h = refl
+step-site (steps.Input e) h = asked_site h.1.1
+step-site (steps.Force s) h = refl
+step-site (steps.Discard e) h = refl
+step-site (steps.Crash e) h = refl
+step-site (steps.Mark e) h = refl
+
+step_low : (e : Step) → StepInRange e → (step_site e ≤ 8) × (step_transaction e ≤ 7)
+step_low (steps.Open e) h = (omega arith, h)
+step_low (steps.Input e) h = (h.1.0, h.0)
+step_low (steps.Force s) h = (h, omega arith)
+step_low (steps.Discard e) h = (h.1, h.0)
+step_low (steps.Crash e) h = (h, omega arith)
+step_low (steps.Mark e) h = (h.1, h.0)
+
+pub site_low : (q : Step) {s : ℕ} → StepInRange q → s ≡ step_site q → s ≤ 8
+site_low q h e = rw e (step_low q h).0
+
+pub transaction_few : (q : Step) {t : ℕ} → StepInRange q → t ≡ step_transaction q → t ≤ 7
+transaction_few q h e = rw e (step_low q h).1
+
+-- ---- what the run holds at the step's site and transaction
+
+pub record StepRead (r : Run) (q : Step) (s t : ℕ) : Type 0 where
+  pub full : Full r
+  pub within : StepInRange q
+  pub site : s ≡ step_site q
+  pub transaction : t ≡ step_transaction q
+
+module _ {r : Run} {q : Step} {s t : ℕ} (a : StepRead r q s t) where
+  pub low : s ≤ 8
+  low = site_low q a.within a.site
+
+  pub few : t ≤ 7
+  few = transaction_few q a.within a.transaction
+
+  pub its_site : s ≡ site_of (step_in q).event
+  its_site = a.site ∙ step-site q a.within
+
+  pub own : (d : Transaction) {p : Step} → q ≡ p → transaction_in (get_or r.transactions t d) ≡ (run_in r).transaction (step_transaction p)
+  own d p = transaction_read r t d a.full.eight few ∙ ap (run_in r).transaction (a.transaction ∙ ap step_transaction p)
+
+  pub own_site : (d : Site) (e : Records) {p : Step} → q ≡ p → site_from (get_or r.sites s d) (get_or r.records s e).of ≡ (run_in r).site (step_site p)
+  own_site d e p = site_read r s d e a.full.nine a.full.logs low ∙ ap (run_in r).site (a.site ∙ ap step_site p)
+
+  pub here : (d : Site) {p : Step} → q ≡ p → Here (get_or r.sites s d) (run_in r) (step_site p)
+  here d p = ((get_or r.records s no_records).of, (a.full.whole s low, own_site d no_records p))
+
+  -- its log holds 24 records
+  pub held : size ((run_in r).site s) ≤ 24
+  held =
+      let f = a.full in
+      omega (arith, ap size (site_read r s no_site no_records f.nine f.logs low), log-counted (get_or r.sites s no_site) (get_or r.records s no_records).of (f.whole s low))
+
+  pub its_room : (x : List ℕ) {p : Step} → parse x ≡ some (step_in q) → has_room (run_in r) x ≡ true → q ≡ p → room_for (run_in r) (step_in p).event ≡ true
+  its_room x e h p = sym (ap (λ (q : Step). room_for (run_in r) (step_in q).event) p) ∙ parsed_room (run_in r) x _ e h
+
+  -- decided by its kind
+  pub decides : {p : Step} {b c : Change} → q ≡ p → b ≡ c → change_in (run_in r) (step_site p) (step_transaction p) c ≡ taken (run_in r) (step_in p).event (step_in p).cut
+      → change_in (run_in r) s t b ≡ taken (run_in r) (step_in q).event (step_in q).cut
+  decides p e h = rw (a.site, a.transaction, e, p) h
