@@ -34,6 +34,7 @@ fn store(answer: Answer, answers: &mut [u8], at: usize)
 
 // Runs the first `events` events in `bytes`, six bytes each, the last perhaps broken, and stores their answers, four bytes
 // each, in `answers`. Each is read, decided, and what it changes is stored, its forces counted; a refusal changes nothing.
+#[tactic(auto, using(crate::proofs::Engine::Steps::site_low, crate::proofs::Engine::Steps::transaction_few))]
 fn go(run: Run, bytes: &[u8], answers: &mut [u8], events: usize) -> Ran
     requires { (4 * events ≤ length answers.old) × (6 * events ≤ length bytes.now + 5) }
     ensures { Goes (run_in run) (forces_in run) events bytes.now answers.old answers.new result }

@@ -31,7 +31,7 @@ use Rattle.joint.proofs.Engine.Whole.{run-whole}
 use Rattle.joint.proofs.Engine.Refused.{refused-number}
 use Rattle.joint.proofs.Engine.Replays.{adds_none, ahead_start, event_at_lem}
 use Rattle.joint.proofs.Engine.Turns.{Full, Going, Turned, going_next, turned_at, turned_refused, malformed_seen, parsed_seen, parsed_room, happens_seen, restart-stored, restart-refused, refused_change, row_fits, log-stored, site_settled, whole-stored}
-use Rattle.joint.proofs.Engine.Steps.{StepRead, site_low, transaction_few, low, few, its_site, own, own_site, here, held, its_room, decides}
+use Rattle.joint.proofs.Engine.Steps.{StepRead, low, few, its_site, own, own_site, here, held, its_room, decides}
 use Rattle.joint.proofs.replay.go.Goals as goal
 use Rattle.joint.proofs.replay.go.Goals.{After-row_known-1, After-store-arg-in-Restart-1, Joined-writes, After-store-arg-in-Refused-1, then-rest-lt-EVENT_LENGTH, else-rest-lt-EVENT_LENGTH, in-Open, in-Input, in-Force, in-Discard, in-Crash, in-Mark, then-writes, else-writes}
 
@@ -113,24 +113,6 @@ loop-count-preserved-in-Malformed c =
     (λ _. turned_refused l.run x variants.Malformed 0 refl (malformed_seen v x (sym c.in-Malformed.ensures.0)))
     c.store.ensures
 
-pub bounds-run-s : goal.bounds-run-s
-bounds-run-s c = omega (arith, c.in-Restart.ensures.1, c.loop-count.invariant.full.nine, c.loop-count.invariant.full.logs, c.loop-count.invariant.full.counters)
-
-pub bounds-run-s-in-Restart : goal.bounds-run-s-in-Restart
-bounds-run-s-in-Restart c = omega (arith, c.in-Restart.ensures.1, c.loop-count.invariant.full.nine, c.loop-count.invariant.full.logs, c.loop-count.invariant.full.counters)
-
-pub bounds-run-s-in-Accepted : goal.bounds-run-s-in-Accepted
-bounds-run-s-in-Accepted c = omega (arith, c.in-Restart.ensures.1, c.loop-count.invariant.full.nine, c.loop-count.invariant.full.logs, c.loop-count.invariant.full.counters)
-
-pub bounds-run-s-in-Accepted-2 : goal.bounds-run-s-in-Accepted-2
-bounds-run-s-in-Accepted-2 c = omega (arith, c.in-Restart.ensures.1, c.loop-count.invariant.full.nine, c.loop-count.invariant.full.logs, c.loop-count.invariant.full.counters)
-
-pub bounds-run-s-in-Accepted-3 : goal.bounds-run-s-in-Accepted-3
-bounds-run-s-in-Accepted-3 c = omega (arith, c.in-Restart.ensures.1, c.loop-count.invariant.full.nine, c.loop-count.invariant.full.logs, c.loop-count.invariant.full.counters)
-
-pub bounds-run-s-in-Accepted-4 : goal.bounds-run-s-in-Accepted-4
-bounds-run-s-in-Accepted-4 c = omega (arith, c.in-Restart.ensures.1, c.loop-count.invariant.full.nine, c.loop-count.invariant.full.logs, c.loop-count.invariant.full.counters)
-
 pub restart-next-requires : goal.restart-next-requires
 restart-next-requires c = c.in-Restart.ensures.1
 
@@ -182,69 +164,6 @@ loop-count-preserved-in_default c =
     (λ _. turned_refused l.run x s.answer n.0 n.1
     (restart-refused l.run f e.site c.in-Restart.ensures.1 _ _ s _ _ c.restart-next.ensures c.in_default.not-Accepted ∙ parsed_seen v x _ (sym c.in-Restart.ensures.0)))
     c.store-in-Restart.ensures
-
-pub bounds-run-s-in-Step : goal.bounds-run-s-in-Step
-bounds-run-s-in-Step c = let f = c.loop-count.invariant.full in omega (arith, site_low c.in-Step.step c.in-Step.ensures.1 c.site-s.ensures, f.nine, f.logs, f.counters)
-
-pub bounds-run-s-in-Discard : goal.bounds-run-s-in-Discard
-bounds-run-s-in-Discard c = let f = c.loop-count.invariant.full in omega (arith, site_low c.in-Step.step c.in-Step.ensures.1 c.site-s.ensures, f.nine, f.logs, f.counters)
-
-pub bounds-run-s-in-Happens : goal.bounds-run-s-in-Happens
-bounds-run-s-in-Happens c = let f = c.loop-count.invariant.full in omega (arith, site_low c.in-Step.step c.in-Step.ensures.1 c.site-s.ensures, f.nine, f.logs, f.counters)
-
-pub bounds-run-s-in-Happens-2 : goal.bounds-run-s-in-Happens-2
-bounds-run-s-in-Happens-2 c = let f = c.loop-count.invariant.full in omega (arith, site_low c.in-Step.step c.in-Step.ensures.1 c.site-s.ensures, f.nine, f.logs, f.counters)
-
-pub after-after-requires : goal.after-after-requires
-after-after-requires c = let f = c.loop-count.invariant.full in omega (arith, site_low c.in-Step.step c.in-Step.ensures.1 c.site-s.ensures, f.nine, f.logs, f.counters)
-
-pub settle-requires : goal.settle-requires
-settle-requires c = let f = c.loop-count.invariant.full in omega (arith, site_low c.in-Step.step c.in-Step.ensures.1 c.site-s.ensures, f.nine, f.logs, f.counters)
-
-pub bounds-run-s-then-writes : goal.bounds-run-s-then-writes
-bounds-run-s-then-writes c = let f = c.loop-count.invariant.full in omega (arith, site_low c.in-Step.step c.in-Step.ensures.1 c.site-s.ensures, f.nine, f.logs, f.counters)
-
-pub bounds-run-s-then-writes-2 : goal.bounds-run-s-then-writes-2
-bounds-run-s-then-writes-2 c = let f = c.loop-count.invariant.full in omega (arith, site_low c.in-Step.step c.in-Step.ensures.1 c.site-s.ensures, f.nine, f.logs, f.counters)
-
-pub bounds-run-s-then-writes-3 : goal.bounds-run-s-then-writes-3
-bounds-run-s-then-writes-3 c = let f = c.loop-count.invariant.full in omega (arith, site_low c.in-Step.step c.in-Step.ensures.1 c.site-s.ensures, f.nine, f.logs, f.counters)
-
-pub bounds-run-s-else-writes : goal.bounds-run-s-else-writes
-bounds-run-s-else-writes c = let f = c.loop-count.invariant.full in omega (arith, site_low c.in-Step.step c.in-Step.ensures.1 c.site-s.ensures, f.nine, f.logs, f.counters)
-
-pub forget_all-run-requires : goal.forget_all-run-requires
-forget_all-run-requires c = let f = c.loop-count.invariant.full in omega (arith, site_low c.in-Step.step c.in-Step.ensures.1 c.site-s.ensures, f.nine, f.logs, f.counters)
-
-pub overflow_cast-s-in-Happens : goal.overflow_cast-s-in-Happens
-overflow_cast-s-in-Happens c = let f = c.loop-count.invariant.full in omega (arith, site_low c.in-Step.step c.in-Step.ensures.1 c.site-s.ensures, f.nine, f.logs, f.counters)
-
-pub overflow_cast-s-in-Happens-2 : goal.overflow_cast-s-in-Happens-2
-overflow_cast-s-in-Happens-2 c = let f = c.loop-count.invariant.full in omega (arith, site_low c.in-Step.step c.in-Step.ensures.1 c.site-s.ensures, f.nine, f.logs, f.counters)
-
-pub offset_bounds-run-s-then-writes : goal.offset_bounds-run-s-then-writes
-offset_bounds-run-s-then-writes c = let f = c.loop-count.invariant.full in omega (arith, site_low c.in-Step.step c.in-Step.ensures.1 c.site-s.ensures, f.nine, f.logs, f.counters)
-
-pub offset_bounds-run-s-then-writes-2 : goal.offset_bounds-run-s-then-writes-2
-offset_bounds-run-s-then-writes-2 c = let f = c.loop-count.invariant.full in omega (arith, site_low c.in-Step.step c.in-Step.ensures.1 c.site-s.ensures, f.nine, f.logs, f.counters)
-
-pub offset_bounds-run-s-then-writes-3 : goal.offset_bounds-run-s-then-writes-3
-offset_bounds-run-s-then-writes-3 c = let f = c.loop-count.invariant.full in omega (arith, site_low c.in-Step.step c.in-Step.ensures.1 c.site-s.ensures, f.nine, f.logs, f.counters)
-
-pub offset_bounds-run-s-else-writes : goal.offset_bounds-run-s-else-writes
-offset_bounds-run-s-else-writes c = let f = c.loop-count.invariant.full in omega (arith, site_low c.in-Step.step c.in-Step.ensures.1 c.site-s.ensures, f.nine, f.logs, f.counters)
-
-pub bounds-run-t : goal.bounds-run-t
-bounds-run-t c = omega (arith, transaction_few c.in-Step.step c.in-Step.ensures.1 c.transaction-t.ensures, c.loop-count.invariant.full.eight)
-
-pub bounds-run-t-in-Happens : goal.bounds-run-t-in-Happens
-bounds-run-t-in-Happens c = omega (arith, transaction_few c.in-Step.step c.in-Step.ensures.1 c.transaction-t.ensures, c.loop-count.invariant.full.eight)
-
-pub offset_bounds-run-t-in-Happens : goal.offset_bounds-run-t-in-Happens
-offset_bounds-run-t-in-Happens c = omega (arith, transaction_few c.in-Step.step c.in-Step.ensures.1 c.transaction-t.ensures, c.loop-count.invariant.full.eight)
-
-pub overflow_cast-t-then-writes : goal.overflow_cast-t-then-writes
-overflow_cast-t-then-writes c = omega (arith, transaction_few c.in-Step.step c.in-Step.ensures.1 c.transaction-t.ensures, c.loop-count.invariant.full.eight)
 
 pub input-change-requires : goal.input-change-requires
 input-change-requires c = (rw c.in-Input.is at c.in-Step.ensures.1).1.1
