@@ -137,19 +137,8 @@ module _ (a : Arguments) where
 
 -- at the coordinator
 pub call_coordinator : (a : Arguments) → a.cohort.members < 256 → wrong a ≡ false → a.site ≡ 0
-    → site_step a ≡ coordinator_numbers (record {
-      site = 0;
-      kind = a.kind;
-      transaction = a.transaction;
-      participant = a.participant;
-      presumption = a.presumption;
-      phase = a.phase;
-      waiting = a.waiting;
-      cohort = a.cohort;
-      mark = a.mark;
-      taken_out = a.taken_out;
-    })
-unfolding coordinator_numbers in_range_at names_none is_member step_at
+    → site_step a ≡ coordinator_numbers a
+unfolding coordinator_numbers
 call_coordinator a h e z = call_passed a h e ∙ rw z refl
 
 -- at a participant: it waits for nobody, takes nobody out, has a mark and is named itself, as the program tests it
@@ -183,19 +172,7 @@ call_foreign a h e z f =
     call_passed a h e ∙ rw (own a.site a z, f, and-false (receives a.site a.kind), and-false (leb a.site 8)) refl
 
 pub call_participant : (a : Arguments) → a.cohort.members < 256 → wrong a ≡ false → (a.site ≡ 0 → ⊥) → a.site < 9 → foreign a ≡ false
-    → site_step a ≡ participant_numbers (record {
-      site = a.participant;
-      kind = a.kind;
-      transaction = 0;
-      participant = a.participant;
-      presumption = a.presumption;
-      phase = a.phase;
-      waiting = 0;
-      cohort = a.cohort;
-      mark = a.mark;
-      taken_out = 0;
-    })
-unfolding participant_numbers is_member
+    → site_step a ≡ participant_numbers a
 call_participant a h e z l f =
     let mine = eqb-true a.participant a.site (not-false _ (or_none ((not (eqb a.waiting 0) || not (eqb a.taken_out 0)) || ltb 1 a.mark) (not (eqb a.participant a.site)) f).1) in
     call_passed a h e ∙ rw (own a.site a z, f, le-leb a.site 8 (omega (arith, l))) (own_step a.site a z mine)

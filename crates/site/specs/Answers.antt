@@ -1,5 +1,6 @@
 -- What the program's values stand for. Nothing here says what is right: Coordinator, Participant and Numbers do.
-use Rattle.std.specs.Prelude.{ℕ, zero, suc, ◌-◌, ◌/◌, ◌%◌, ◌^◌, Bool, List, [], ◌∷◌, ◌++◌, map, take, get_or, eqb, leb}
+use Rattle.std.specs.Prelude.{ℕ, zero, suc, ◌-◌, ◌/◌, ◌%◌, ◌^◌, Bool, List, [], ◌∷◌, ◌++◌, map, take, get_or, eqb, leb, Option, Some, None, Result, Ok, Err}
+use Rattle.std.proofs.Math.Option as options
 use Rattle.codec.specs.Records.{length_of}
 use Rattle.site.specs.Presumption as outcomes
 use Rattle.site.specs.Cohort.{Cohort}
@@ -18,13 +19,11 @@ use Rattle.site.specs.declared.phases.ParticipantPhase.{ParticipantPhase}
 use Rattle.site.specs.declared.phases.ParticipantPhase.TheVariants as participant
 use Rattle.site.specs.declared.effects.Effects.{Effects}
 use Rattle.site.specs.declared.effects.Summary.{Summary}
-use Rattle.site.specs.declared.coordinator.Coordinator.{Coordinator}
-use Rattle.site.specs.declared.coordinator.CoordinatorRow.{CoordinatorRow}
-use Rattle.site.specs.declared.coordinator.CoordinatorAnswer.{CoordinatorAnswer}
-use Rattle.site.specs.declared.coordinator.CoordinatorAnswer.TheVariants as coordinator-answer
-use Rattle.site.specs.declared.participant.ParticipantRow.{ParticipantRow}
-use Rattle.site.specs.declared.participant.ParticipantAnswer.{ParticipantAnswer}
-use Rattle.site.specs.declared.participant.ParticipantAnswer.TheVariants as participant-answer
+use Rattle.site.specs.declared.row.Row as answered-row
+use Rattle.site.specs.declared.row.Refused.{Refused}
+use Rattle.site.specs.declared.cohort.Cohort as members
+use Rattle.site.specs.declared.coordinator.CoordinatorState.{CoordinatorState}
+use Rattle.site.specs.declared.numbers.Arguments.{Arguments}
 
 -- ---- outcomes, presumptions, phases
 
@@ -51,10 +50,10 @@ participant_in participant.Aborted = participant-step.decided outcomes.abort
 participant_in participant.Unknown = participant-step.unknown
 
 -- its phase and the set taken out
-abbrev pub coordinator_state_in : Coordinator → coordinator-step.Coordinator
+abbrev pub coordinator_state_in : CoordinatorState → coordinator-step.Coordinator
 coordinator_state_in c = record { phase = coordinator_in c.phase; taken_out = c.taken_out }
 
-abbrev pub cohort_in : Coordinator → Cohort
+abbrev pub cohort_in : members.Cohort → Cohort
 cohort_in c = record { members = c.members; presume_commit = c.presume_commit }
 
 -- a set of record kinds, bit k for kind k
@@ -83,23 +82,36 @@ effects_in t e =
 abbrev pub summary_in : Summary → numbers.Summary
 summary_in x = record { first = x.first; last = x.last; forced = x.forced; entered = x.entered; message = x.message; to = x.to }
 
--- ---- rows and answers
+-- ---- rows and answers, by what the state after a row stands for
 
-abbrev pub coordinator_row_in : ℕ → CoordinatorRow → Row coordinator-step.Coordinator
-coordinator_row_in t r = record { effects = effects_in t r.effects; phase = record { phase = coordinator_in r.phase; taken_out = r.taken_out } }
+abbrev pub row_in : {S P : Type 0} → (S → P) → ℕ → answered-row.Row S → Row P
+row_in read t r = record { effects = effects_in t r.effects; phase = read r.after }
 
-abbrev pub participant_row_in : ℕ → ParticipantRow → Row participant-step.ParticipantPhase
-participant_row_in t r = record { effects = effects_in t r.effects; phase = participant_in r.phase }
+abbrev pub found_in : {S P : Type 0} → (S → P) → ℕ → Option (answered-row.Row S) → options.Option (Row P)
+found_in read t None = options.none
+found_in read t (Some r) = options.some (row_in read t r)
 
-abbrev pub coordinator_answer_in : ℕ → CoordinatorAnswer → Answer coordinator-step.Coordinator
-coordinator_answer_in t (coordinator-answer.Row r) = row (coordinator_row_in t r)
-coordinator_answer_in t coordinator-answer.NoRow = no_row
-coordinator_answer_in t coordinator-answer.Refused = refused
+abbrev pub answer_in : {S P : Type 0} → (S → P) → ℕ → Result (Option (answered-row.Row S)) Refused → Answer P
+answer_in read t (Ok None) = no_row
+answer_in read t (Ok (Some r)) = row (row_in read t r)
+answer_in read t (Err e) = refused
 
-abbrev pub participant_answer_in : ℕ → ParticipantAnswer → Answer participant-step.ParticipantPhase
-participant_answer_in t (participant-answer.Row r) = row (participant_row_in t r)
-participant_answer_in t participant-answer.NoRow = no_row
-participant_answer_in t participant-answer.Refused = refused
+abbrev pub coordinator_row_in : ℕ → answered-row.Row CoordinatorState → Row coordinator-step.Coordinator
+coordinator_row_in = row_in coordinator_state_in
+
+abbrev pub participant_row_in : ℕ → answered-row.Row ParticipantPhase → Row participant-step.ParticipantPhase
+participant_row_in = row_in participant_in
+
+abbrev pub coordinator_answer_in : ℕ → Result (Option (answered-row.Row CoordinatorState)) Refused → Answer coordinator-step.Coordinator
+coordinator_answer_in = answer_in coordinator_state_in
+
+abbrev pub participant_answer_in : ℕ → Result (Option (answered-row.Row ParticipantPhase)) Refused → Answer participant-step.ParticipantPhase
+participant_answer_in = answer_in participant_in
+
+-- at restart there is always a row for a participant
+abbrev pub participant_restart_in : ℕ → Result (answered-row.Row ParticipantPhase) Refused → Answer participant-step.ParticipantPhase
+participant_restart_in t (Ok r) = row (participant_row_in t r)
+participant_restart_in t (Err e) = refused
 
 -- ---- the call's arguments
 
@@ -117,3 +129,7 @@ arguments_in s k t p q ph w m pc mark out =
       mark = mark;
       taken_out = out;
     }
+
+abbrev pub call_in : Arguments → numbers.Arguments
+call_in a =
+    arguments_in a.site a.kind a.transaction a.participant a.presumption a.phase a.waiting a.cohort.members a.cohort.presume_commit a.mark a.taken_out

@@ -3,134 +3,82 @@ ghost use Rattle.std.specs.Prelude.{ℕ, ◌≤◌, ◌<◌, ◌≡◌, true};
 ghost use Rattle.codec.specs.Sets as sets;
 ghost use Rattle.site.specs.Cohort as cohort;
 ghost use Rattle.site.specs.Coordinator as coordinator;
-ghost use Rattle.site.specs.Step.{answered};
 ghost use Rattle.site.specs.Numbers.{coordinator_answer};
-ghost use Rattle.site.specs.Answers.{outcome_in, presumption_in, coordinator_in, coordinator_state_in, cohort_in, has_kind, coordinator_row_in, coordinator_answer_in};
+ghost use Rattle.site.specs.Answers.{outcome_in, coordinator_in, coordinator_state_in, cohort_in, has_kind, row_in, found_in, coordinator_row_in, coordinator_answer_in};
 ghost use Rattle.site.specs.Inside.{told_to};
 
+use crate::cohort::Cohort;
 use crate::effects::Effects;
 use crate::inputs::{BEGIN, TIMER};
 use crate::phases::CoordinatorPhase;
-use crate::presumption::{Outcome, Presumption};
+use crate::presumption::Outcome;
 use crate::record_kinds::has;
+use crate::row::{Refused, Row};
 use codec::message::Parts;
 use codec::record::Record;
-use codec::sets::{both, either, member, minus, only, without};
+use codec::sets::{both, either, member, only, without};
 
-// One transaction (the definitions' `Coordinator` is its phase and the set taken out): its phase, its members and those of them that
-// presume commit (01: PC), both as opened, and the set taken out: those that only looked.
+// The coordinator's part of a transaction (the definitions' `Coordinator`): its phase, and the set taken out: those that only looked.
+#[derive(Clone, Copy)]
+pub struct CoordinatorState {
+    pub phase: CoordinatorPhase,
+    pub taken_out: u8,
+}
+
+// One transaction: its cohort as opened, and the coordinator's part.
 #[derive(Clone, Copy)]
 pub struct Coordinator {
-    pub phase: CoordinatorPhase,
-    pub members: u8,
-    pub presume_commit: u8,
-    pub taken_out: u8,
+    pub cohort: Cohort,
+    pub state: CoordinatorState,
 }
 
-#[derive(Clone, Copy)]
-pub struct CoordinatorRow {
-    pub effects: Effects,
-    pub phase: CoordinatorPhase,
-    pub taken_out: u8,
-}
-
-// What a step gives. `NoRow` is not a row without effects: the joint run tells them apart.
-#[derive(Clone, Copy)]
-pub enum CoordinatorAnswer {
-    Row(CoordinatorRow),
-    NoRow,
-    Refused,
-}
+// ---- rows from parts, without the set taken out
 
 // Acks of `waiting` are missing; if none is, the end record.
-fn acked(outcome: Outcome, waiting: u8, taken_out: u8) -> CoordinatorRow
-    ensures { (t : ℕ) → coordinator_row_in t result ≡ coordinator.leaving taken_out (coordinator.acked (outcome_in outcome) (sets.empty waiting) waiting) }
+fn acked(outcome: Outcome, waiting: u8) -> Row<CoordinatorPhase>
+    ensures { (t : ℕ) → row_in coordinator_in t result ≡ coordinator.acked (outcome_in outcome) (sets.empty waiting) waiting }
 {
     if waiting == 0 {
-        let mut effects = Effects::NONE;
-        effects.appended = outcome.end_record();
-        return CoordinatorRow {
-            effects: effects,
-            phase: CoordinatorPhase::Unknown,
-            taken_out: taken_out,
+        return Row {
+            effects: Effects {
+                appended: outcome.end_record(),
+                ..Effects::NONE
+            },
+            after: CoordinatorPhase::Unknown,
         };
     }
-    CoordinatorRow {
+    Row {
         effects: Effects::NONE,
-        phase: CoordinatorPhase::awaiting(outcome, waiting),
-        taken_out: taken_out,
+        after: CoordinatorPhase::awaiting(outcome, waiting),
     }
 }
 
-impl Coordinator {
-    pub fn presumption(self, participant: u8) -> Presumption
-        ensures { presumption_in result ≡ cohort.presumption_of (cohort_in self) participant }
-    {
-        if member(participant, self.presume_commit) {
-            return Presumption::Commit;
-        }
-        Presumption::Abort
-    }
-
-    // The members that owe an ack for an outcome.
-    pub fn owing(self, outcome: Outcome) -> u8
-        ensures { result ≡ cohort.owing (cohort_in self) (outcome_in outcome) }
-    {
-        match outcome {
-            Outcome::Commit => minus(self.members, self.presume_commit),
-            Outcome::Abort => both(self.members, self.presume_commit),
-        }
-    }
-
-    // The cohort without those taken out; phase and set stay.
-    pub fn remaining(self) -> Coordinator
-        ensures { (cohort_in result ≡ cohort.remaining (cohort_in self) self.taken_out) × (result.taken_out ≡ self.taken_out) }
-    {
-        let phase = self.phase;
-        let taken_out = self.taken_out;
-        Coordinator {
-            phase: phase,
-            members: minus(self.members, taken_out),
-            presume_commit: minus(self.presume_commit, taken_out),
-            taken_out: taken_out,
-        }
-    }
-
-    // Whether Init is written at begin.
-    fn writes_init(self) -> bool
-        ensures { result ≡ cohort.writes_init (cohort_in self) }
-    {
-        self.presume_commit != 0
-    }
-
-    fn preparing(self) -> CoordinatorRow
-        ensures { (t : ℕ) → coordinator_row_in t result ≡ coordinator.leaving self.taken_out (coordinator.preparing t (cohort_in self) (cohort.writes_init (cohort_in self))) }
+impl Cohort {
+    fn preparing(self) -> Row<CoordinatorPhase>
+        ensures { (t : ℕ) → row_in coordinator_in t result ≡ coordinator.preparing t (cohort_in self) (cohort.writes_init (cohort_in self)) }
     {
         let members = self.members;
         let forced = self.writes_init();
-        CoordinatorRow {
+        Row {
             effects: Effects {
                 appended: if forced { Record::INIT } else { 0 },
                 first: members,
                 second: self.presume_commit,
-                forced: forced,
-                entered: 0,
+                forced,
                 message: Parts::PREPARE,
                 to: members,
-                owing: 0,
-                last: 0,
+                ..Effects::NONE
             },
-            phase: CoordinatorPhase::Collecting(members),
-            taken_out: self.taken_out,
+            after: CoordinatorPhase::Collecting(members),
         }
     }
 
     // All have voted Yes.
-    fn committing(self) -> CoordinatorRow
-        ensures { (t : ℕ) → coordinator_row_in t result ≡ coordinator.leaving self.taken_out (coordinator.committing t (cohort_in self)) }
+    fn committing(self) -> Row<CoordinatorPhase>
+        ensures { (t : ℕ) → row_in coordinator_in t result ≡ coordinator.committing t (cohort_in self) }
     {
-        let awaited = self.owing(Outcome::Commit);
-        CoordinatorRow {
+        let owing = self.owing(Outcome::Commit);
+        Row {
             effects: Effects {
                 appended: Record::COMMIT,
                 first: self.members,
@@ -139,244 +87,266 @@ impl Coordinator {
                 entered: Effects::COMMIT_ENTERED,
                 message: Parts::COMMIT,
                 to: self.members,
-                owing: awaited,
+                owing,
                 last: 0,
             },
-            phase: CoordinatorPhase::until_acked(Outcome::Commit, awaited),
-            taken_out: self.taken_out,
+            after: CoordinatorPhase::until_acked(Outcome::Commit, owing),
         }
     }
 
     // Nobody remains: nothing is entered, and AbortEnd is appended exactly if Init was.
-    fn deserted(self) -> CoordinatorRow
-        ensures { (t : ℕ) → coordinator_row_in t result ≡ coordinator.leaving self.taken_out (coordinator.voted t (cohort_in self) self.taken_out true true 0) }
+    fn deserted(self) -> Row<CoordinatorPhase>
+        ensures { (t out : ℕ) → row_in coordinator_in t result ≡ coordinator.voted t (cohort_in self) out true true 0 }
     {
-        let mut effects = Effects::NONE;
-        effects.appended = if self.writes_init() {
+        let appended = if self.writes_init() {
             Record::ABORT_END
         } else {
             0
         };
-        CoordinatorRow {
-            effects: effects,
-            phase: CoordinatorPhase::Unknown,
-            taken_out: self.taken_out,
+        Row {
+            effects: Effects {
+                appended,
+                ..Effects::NONE
+            },
+            after: CoordinatorPhase::Unknown,
         }
     }
 
     // A vote came, and votes of `waiting` are still missing.
-    fn counting(self, waiting: u8) -> CoordinatorRow
-        ensures { (t : ℕ) → coordinator_row_in t result ≡ coordinator.leaving self.taken_out (coordinator.counting t (cohort_in self) self.taken_out waiting) }
+    fn counting(self, taken_out: u8, waiting: u8) -> Row<CoordinatorPhase>
+        ensures { (t : ℕ) → row_in coordinator_in t result ≡ coordinator.counting t (cohort_in self) taken_out waiting }
     {
-        let rest = self.remaining();
+        let rest = self.without(taken_out);
         if rest.members == 0 {
             return self.deserted();
         }
         if waiting == 0 {
             return rest.committing();
         }
-        CoordinatorRow {
+        Row {
             effects: Effects::NONE,
-            phase: CoordinatorPhase::Collecting(waiting),
-            taken_out: self.taken_out,
+            after: CoordinatorPhase::Collecting(waiting),
         }
     }
 
     // Abort, told to the set `to`; whether Init was written.
-    fn aborting(self, init: bool, to: u8) -> CoordinatorRow
-        ensures { (t : ℕ) → coordinator_row_in t result ≡ coordinator.leaving self.taken_out (coordinator.aborting t (cohort_in self) init to) }
+    fn aborting(self, init: bool, to: u8) -> Row<CoordinatorPhase>
+        ensures { (t : ℕ) → row_in coordinator_in t result ≡ coordinator.aborting t (cohort_in self) init to }
     {
         let owing = self.owing(Outcome::Abort);
         let waiting = both(to, owing);
         let ended = (waiting == 0) & init;
-        CoordinatorRow {
+        Row {
             effects: Effects {
-                appended: 0,
-                first: 0,
-                second: 0,
-                forced: false,
                 entered: Effects::ABORT_ENTERED,
                 message: Parts::ABORT,
-                to: to,
-                owing: owing,
+                to,
+                owing,
                 last: if ended { Record::ABORT_END } else { 0 },
+                ..Effects::NONE
             },
-            phase: CoordinatorPhase::until_acked(Outcome::Abort, waiting),
-            taken_out: self.taken_out,
+            after: CoordinatorPhase::until_acked(Outcome::Abort, waiting),
         }
     }
 
+    // At restart: an outcome entered again; whether it is told to all.
+    fn resuming(self, outcome: Outcome, tells: bool) -> Row<CoordinatorPhase>
+        ensures { (t : ℕ) → row_in coordinator_in t result ≡ coordinator.resuming t (cohort_in self) (outcome_in outcome) tells }
+    {
+        let owing = self.owing(outcome);
+        Row {
+            effects: Effects {
+                entered: outcome.number(),
+                message: outcome.message(),
+                to: if tells { self.members } else { 0 },
+                owing,
+                ..Effects::NONE
+            },
+            after: CoordinatorPhase::until_acked(outcome, owing),
+        }
+    }
+}
+
+// ---- with the set taken out after them
+
+impl Row<CoordinatorPhase> {
+    #[tactic(auto, unfolding(crate::specs::Coordinator::leaving))]
+    fn leaving(self, taken_out: u8) -> Row<CoordinatorState>
+        ensures { (t : ℕ) → coordinator_row_in t result ≡ coordinator.leaving taken_out (row_in coordinator_in t self) }
+    {
+        Row {
+            effects: self.effects,
+            after: CoordinatorState {
+                phase: self.after,
+                taken_out,
+            },
+        }
+    }
+}
+
+#[tactic(auto, unfolding(crate::specs::Coordinator::leaving_if))]
+fn leaving_if(row: Option<Row<CoordinatorPhase>>, taken_out: u8) -> Option<Row<CoordinatorState>>
+    ensures { (t : ℕ) → found_in coordinator_state_in t result ≡ coordinator.leaving_if taken_out (found_in coordinator_in t row) }
+{
+    Some(row?.leaving(taken_out))
+}
+
+impl Coordinator {
     // An outcome told to a set, those first that owe an ack for it, and nothing else; the phase stays.
-    fn telling(self, outcome: Outcome, to: u8) -> CoordinatorRow
-        ensures { (t : ℕ) → coordinator_row_in t result ≡ coordinator.leaving self.taken_out (told_to t (cohort_in self) (outcome_in outcome) to (coordinator_in self.phase)) }
+    fn telling(self, outcome: Outcome, to: u8) -> Row<CoordinatorPhase>
+        ensures { (t : ℕ) → row_in coordinator_in t result ≡ told_to t (cohort_in self.cohort) (outcome_in outcome) to (coordinator_in self.state.phase) }
     {
-        let mut effects = Effects::NONE;
-        effects.message = outcome.message();
-        effects.to = to;
-        effects.owing = self.owing(outcome);
-        let phase = self.phase;
-        CoordinatorRow {
-            effects: effects,
-            phase: phase,
-            taken_out: self.taken_out,
+        Row {
+            effects: Effects {
+                message: outcome.message(),
+                to,
+                owing: self.cohort.owing(outcome),
+                ..Effects::NONE
+            },
+            after: self.state.phase,
         }
     }
 
-    fn on_begin(self) -> CoordinatorAnswer
-        ensures { (t : ℕ) → coordinator_answer_in t result ≡ answered (coordinator.leaving_if self.taken_out (coordinator.on_begin t (cohort_in self) (coordinator_in self.phase))) }
+    fn on_begin(self) -> Option<Row<CoordinatorPhase>>
+        ensures { (t : ℕ) → found_in coordinator_in t result ≡ coordinator.on_begin t (cohort_in self.cohort) (coordinator_in self.state.phase) }
     {
-        let phase = self.phase;
-        match phase {
-            CoordinatorPhase::Open => CoordinatorAnswer::Row(self.preparing()),
-            _ => CoordinatorAnswer::NoRow,
+        match self.state.phase {
+            CoordinatorPhase::Open => Some(self.cohort.preparing()),
+            _ => None,
         }
     }
 
-    fn on_yes(self, participant: u8) -> CoordinatorAnswer
-        requires { sets.member participant self.members ≡ true }
-        ensures { (t : ℕ) → coordinator_answer_in t result ≡ answered (coordinator.leaving_if self.taken_out (coordinator.on_yes t (cohort_in self) self.taken_out participant (coordinator_in self.phase))) }
+    fn on_yes(self, participant: u8) -> Option<Row<CoordinatorPhase>>
+        requires { sets.member participant self.cohort.members ≡ true }
+        ensures { (t : ℕ) → found_in coordinator_in t result ≡ coordinator.on_yes t (cohort_in self.cohort) self.state.taken_out participant (coordinator_in self.state.phase) }
     {
-        let phase = self.phase;
-        match phase {
-            CoordinatorPhase::Open => CoordinatorAnswer::NoRow,
+        let taken_out = self.state.taken_out;
+        match self.state.phase {
+            CoordinatorPhase::Open => None,
             CoordinatorPhase::Collecting(w) => {
-                if member(participant, self.taken_out) {
-                    return CoordinatorAnswer::NoRow;
+                if member(participant, taken_out) {
+                    return None;
                 }
-                CoordinatorAnswer::Row(self.counting(without(participant, w)))
+                Some(self.cohort.counting(taken_out, without(participant, w)))
             }
-            CoordinatorPhase::Committing(_) => CoordinatorAnswer::Row(self.telling(
-                Outcome::Commit,
-                only(participant),
-            )),
-            CoordinatorPhase::Aborting(_) => CoordinatorAnswer::Row(self.telling(
-                Outcome::Abort,
-                only(participant),
-            )),
+            CoordinatorPhase::Committing(_) => {
+                Some(self.telling(Outcome::Commit, only(participant)))
+            }
+            CoordinatorPhase::Aborting(_) => Some(self.telling(Outcome::Abort, only(participant))),
             CoordinatorPhase::Unknown => {
-                let presumption = self.presumption(participant);
-                CoordinatorAnswer::Row(self.telling(presumption.silence(), only(participant)))
+                let presumption = self.cohort.presumption(participant);
+                Some(self.telling(presumption.silence(), only(participant)))
             }
         }
     }
 
-    fn on_no(self, participant: u8) -> CoordinatorAnswer
-        ensures { (t : ℕ) → coordinator_answer_in t result ≡ answered (coordinator.leaving_if self.taken_out (coordinator.on_no t (cohort_in self) self.taken_out participant (coordinator_in self.phase))) }
+    fn on_no(self, participant: u8) -> Option<Row<CoordinatorPhase>>
+        ensures { (t : ℕ) → found_in coordinator_in t result ≡ coordinator.on_no t (cohort_in self.cohort) self.state.taken_out participant (coordinator_in self.state.phase) }
     {
-        let phase = self.phase;
-        match phase {
+        let taken_out = self.state.taken_out;
+        match self.state.phase {
             CoordinatorPhase::Collecting(_) => {
-                if member(participant, self.taken_out) {
-                    return CoordinatorAnswer::NoRow;
+                if member(participant, taken_out) {
+                    return None;
                 }
-                let rest = self.remaining();
+                let rest = self.cohort.without(taken_out);
                 let told = without(participant, rest.members);
-                CoordinatorAnswer::Row(rest.aborting(self.writes_init(), told))
+                Some(rest.aborting(self.cohort.writes_init(), told))
             }
-            _ => CoordinatorAnswer::NoRow,
+            _ => None,
         }
     }
 
-    // The participant is taken out.
-    fn on_read_only(self, participant: u8) -> CoordinatorAnswer
-        ensures { (t : ℕ) → coordinator_answer_in t result ≡ answered (coordinator.leaving_if (coordinator.taking_out participant self.taken_out) (coordinator.on_read_only t (cohort_in self) self.taken_out participant (coordinator_in self.phase))) }
+    // The participant is taken out after the row.
+    fn on_read_only(self, participant: u8) -> Option<Row<CoordinatorPhase>>
+        ensures { (t : ℕ) → found_in coordinator_in t result ≡ coordinator.on_read_only t (cohort_in self.cohort) self.state.taken_out participant (coordinator_in self.state.phase) }
     {
-        let phase = self.phase;
-        match phase {
+        let taken_out = self.state.taken_out;
+        match self.state.phase {
             CoordinatorPhase::Collecting(w) => {
-                if member(participant, self.taken_out) {
-                    return CoordinatorAnswer::NoRow;
+                if member(participant, taken_out) {
+                    return None;
                 }
-                let after = Coordinator {
-                    phase: phase,
-                    members: self.members,
-                    presume_commit: self.presume_commit,
-                    taken_out: either(self.taken_out, only(participant)),
-                };
-                CoordinatorAnswer::Row(after.counting(without(participant, w)))
+                let out = either(taken_out, only(participant));
+                Some(self.cohort.counting(out, without(participant, w)))
             }
-            _ => CoordinatorAnswer::NoRow,
+            _ => None,
         }
     }
 
-    fn on_timer(self) -> CoordinatorAnswer
-        ensures { (t : ℕ) → coordinator_answer_in t result ≡ answered (coordinator.leaving_if self.taken_out (coordinator.coordinator_timer t (cohort_in self) self.taken_out (coordinator_in self.phase))) }
+    fn on_timer(self) -> Option<Row<CoordinatorPhase>>
+        ensures { (t : ℕ) → found_in coordinator_in t result ≡ coordinator.coordinator_timer t (cohort_in self.cohort) self.state.taken_out (coordinator_in self.state.phase) }
     {
-        let phase = self.phase;
-        match phase {
+        match self.state.phase {
             CoordinatorPhase::Collecting(_) => {
-                let rest = self.remaining();
-                CoordinatorAnswer::Row(rest.aborting(self.writes_init(), rest.members))
+                let rest = self.cohort.without(self.state.taken_out);
+                Some(rest.aborting(self.cohort.writes_init(), rest.members))
             }
-            CoordinatorPhase::Committing(w) => CoordinatorAnswer::Row(self.telling(
-                Outcome::Commit,
-                w,
-            )),
-            CoordinatorPhase::Aborting(w) => CoordinatorAnswer::Row(self.telling(
-                Outcome::Abort,
-                w,
-            )),
-            _ => CoordinatorAnswer::NoRow,
+            CoordinatorPhase::Committing(w) => Some(self.telling(Outcome::Commit, w)),
+            CoordinatorPhase::Aborting(w) => Some(self.telling(Outcome::Abort, w)),
+            _ => None,
         }
     }
 
-    fn on_ack(self, outcome: Outcome, participant: u8) -> CoordinatorAnswer
-        ensures { (t : ℕ) → coordinator_answer_in t result ≡ answered (coordinator.leaving_if self.taken_out (coordinator.on_ack (outcome_in outcome) participant (coordinator_in self.phase))) }
+    fn on_ack(self, outcome: Outcome, participant: u8) -> Option<Row<CoordinatorPhase>>
+        ensures { (t : ℕ) → found_in coordinator_in t result ≡ coordinator.on_ack (outcome_in outcome) participant (coordinator_in self.state.phase) }
     {
-        let phase = self.phase;
-        match outcome {
-            Outcome::Commit => match phase {
-                CoordinatorPhase::Committing(w) => CoordinatorAnswer::Row(acked(
-                    outcome,
-                    without(participant, w),
-                    self.taken_out,
-                )),
-                _ => CoordinatorAnswer::NoRow,
-            },
-            Outcome::Abort => match phase {
-                CoordinatorPhase::Aborting(w) => CoordinatorAnswer::Row(acked(
-                    outcome,
-                    without(participant, w),
-                    self.taken_out,
-                )),
-                _ => CoordinatorAnswer::NoRow,
-            },
+        match (outcome, self.state.phase) {
+            (Outcome::Commit, CoordinatorPhase::Committing(w)) => {
+                Some(acked(outcome, without(participant, w)))
+            }
+            (Outcome::Abort, CoordinatorPhase::Aborting(w)) => {
+                Some(acked(outcome, without(participant, w)))
+            }
+            _ => None,
         }
     }
 
     // A message: one of what is no member, or of a kind that the coordinator never receives, is refused.
-    pub(crate) fn on_message(self, kind: u8, participant: u8) -> CoordinatorAnswer
+    pub(crate) fn on_message(
+        self,
+        kind: u8,
+        participant: u8,
+    ) -> Result<Option<Row<CoordinatorState>>, Refused>
         requires { kind < 16 }
-        ensures { (t : ℕ) → coordinator_answer_in t result ≡ coordinator_answer t (cohort_in self) kind participant (coordinator_state_in self) }
+        ensures { (t : ℕ) → coordinator_answer_in t result ≡ coordinator_answer t (cohort_in self.cohort) kind participant (coordinator_state_in self.state) }
     {
-        if !member(participant, self.members) {
-            return CoordinatorAnswer::Refused;
+        if !member(participant, self.cohort.members) {
+            return Err(Refused);
         }
+        let taken_out = self.state.taken_out;
         match kind {
-            Parts::YES => self.on_yes(participant),
-            Parts::NO => self.on_no(participant),
-            Parts::COMMIT_ACK => self.on_ack(Outcome::Commit, participant),
-            Parts::ABORT_ACK => self.on_ack(Outcome::Abort, participant),
-            Parts::READ_ONLY => self.on_read_only(participant),
-            Parts::PREPARE | Parts::COMMIT..=Parts::ABORT | 8..=255 => CoordinatorAnswer::Refused,
+            Parts::YES => Ok(leaving_if(self.on_yes(participant), taken_out)),
+            Parts::NO => Ok(leaving_if(self.on_no(participant), taken_out)),
+            Parts::COMMIT_ACK => Ok(leaving_if(
+                self.on_ack(Outcome::Commit, participant),
+                taken_out,
+            )),
+            Parts::ABORT_ACK => Ok(leaving_if(self.on_ack(Outcome::Abort, participant), taken_out)),
+            Parts::READ_ONLY => {
+                let out = either(taken_out, only(participant));
+                Ok(leaving_if(self.on_read_only(participant), out))
+            }
+            Parts::PREPARE | Parts::COMMIT..=Parts::ABORT | 8..=255 => Err(Refused),
         }
     }
 
     // Begin and the timer, which are no message.
-    pub(crate) fn on_own(self, kind: u8) -> CoordinatorAnswer
+    pub(crate) fn on_own(self, kind: u8) -> Result<Option<Row<CoordinatorState>>, Refused>
         requires { 16 ≤ kind }
-        ensures { (t p : ℕ) → coordinator_answer_in t result ≡ coordinator_answer t (cohort_in self) kind p (coordinator_state_in self) }
+        ensures { (t p : ℕ) → coordinator_answer_in t result ≡ coordinator_answer t (cohort_in self.cohort) kind p (coordinator_state_in self.state) }
     {
+        let taken_out = self.state.taken_out;
         match kind {
-            BEGIN => self.on_begin(),
-            TIMER => self.on_timer(),
-            0..=15 | 18..=255 => CoordinatorAnswer::Refused,
+            BEGIN => Ok(leaving_if(self.on_begin(), taken_out)),
+            TIMER => Ok(leaving_if(self.on_timer(), taken_out)),
+            0..=15 | 18..=255 => Err(Refused),
         }
     }
 
     // The step by the kind's number: a kind that the coordinator never receives, and a message of what is no member, is refused.
-    pub fn step(self, kind: u8, participant: u8) -> CoordinatorAnswer
-        ensures { (t : ℕ) → coordinator_answer_in t result ≡ coordinator_answer t (cohort_in self) kind participant (coordinator_state_in self) }
+    pub fn step(self, kind: u8, participant: u8) -> Result<Option<Row<CoordinatorState>>, Refused>
+        ensures { (t : ℕ) → coordinator_answer_in t result ≡ coordinator_answer t (cohort_in self.cohort) kind participant (coordinator_state_in self.state) }
     {
         if kind < BEGIN {
             return self.on_message(kind, participant);
@@ -384,42 +354,26 @@ impl Coordinator {
         self.on_own(kind)
     }
 
-    // At restart: an outcome entered again; whether it is told to all.
-    fn resuming(self, outcome: Outcome, tells: bool) -> CoordinatorRow
-        ensures { (t : ℕ) → coordinator_row_in t result ≡ coordinator.leaving 0 (coordinator.resuming t (cohort_in self) (outcome_in outcome) tells) }
+    // From the kinds of record that the stable log has of the transaction, bit k for kind k. The cohort is that of the record from which
+    // it resumes: of Commit where there is one, else of Init. The coordinator's part is not looked at.
+    pub fn restart(self, records: u16) -> Row<CoordinatorState>
+        ensures { (t : ℕ) → coordinator_row_in t result ≡ coordinator.coordinator_restart t (has_kind records) (λ k. cohort_in self.cohort) }
     {
-        let owing = self.owing(outcome);
-        let mut effects = Effects::NONE;
-        effects.entered = outcome.number();
-        effects.message = outcome.message();
-        effects.to = if tells { self.members } else { 0 };
-        effects.owing = owing;
-        CoordinatorRow {
-            effects: effects,
-            phase: CoordinatorPhase::until_acked(outcome, owing),
-            taken_out: 0,
-        }
-    }
-
-    // From the kinds of record that the stable log has of the transaction, bit k for kind k. The masks are those of the record from which
-    // it resumes: of Commit where there is one, else of Init. Phase and set taken out are not looked at.
-    pub fn restart(self, records: u16) -> CoordinatorRow
-        ensures { (t : ℕ) → coordinator_row_in t result ≡ coordinator.coordinator_restart t (has_kind records) (λ k. cohort_in self) }
-    {
+        let cohort = self.cohort;
         let init = has(records, Record::INIT);
         let commit = has(records, Record::COMMIT);
         let commit_end = has(records, Record::COMMIT_END);
         let abort_end = has(records, Record::ABORT_END);
-        if commit & !commit_end {
-            return self.resuming(Outcome::Commit, self.owing(Outcome::Commit) != 0);
-        }
-        if init & !commit & !abort_end {
-            return self.resuming(Outcome::Abort, true);
-        }
-        CoordinatorRow {
-            effects: Effects::NONE,
-            phase: CoordinatorPhase::Unknown,
-            taken_out: 0,
-        }
+        let row = if commit & !commit_end {
+            cohort.resuming(Outcome::Commit, cohort.owing(Outcome::Commit) != 0)
+        } else if init & !commit & !abort_end {
+            cohort.resuming(Outcome::Abort, true)
+        } else {
+            Row {
+                effects: Effects::NONE,
+                after: CoordinatorPhase::Unknown,
+            }
+        };
+        row.leaving(0)
     }
 }

@@ -2,6 +2,7 @@
 
 #![tactic(auto)]
 
+pub mod cohort;
 pub mod coordinator;
 pub mod effects;
 pub mod inputs;
@@ -10,3 +11,4 @@ pub mod participant;
 pub mod phases;
 pub mod presumption;
 pub mod record_kinds;
+pub mod row;

@@ -6,11 +6,13 @@ ghost use Rattle.site.specs.Coordinator.{coordinator_restart};
 ghost use Rattle.site.specs.Numbers as numbers;
 ghost use Rattle.site.specs.Answers.{presumption_in, coordinator_in, participant_in, has_kind};
 
-use site::coordinator::{Coordinator, CoordinatorAnswer};
+use site::cohort::Cohort;
+use site::coordinator::{Coordinator, CoordinatorState};
 use site::numbers::{coordinator_result, participant_result};
 use site::participant::Participant;
 use site::phases::{CoordinatorPhase, ParticipantPhase};
 use site::presumption::Presumption;
+use site::row::Refused;
 
 pub const REFUSED: u64 = 1;
 
@@ -27,17 +29,16 @@ pub fn coordinator_restart(members: u8, presume_commit: u8, kinds: u16) -> u64
     ensures { result ≡ numbers.packed (numbers.coordinator_result 255 0 0 (row (coordinator_restart 0 (has_kind kinds) (λ k. record { members = members; presume_commit = presume_commit })))) }
 {
     let coordinator = Coordinator {
-        phase: CoordinatorPhase::Unknown,
-        members: members,
-        presume_commit: presume_commit,
-        taken_out: 0,
+        cohort: Cohort {
+            members,
+            presume_commit,
+        },
+        state: CoordinatorState {
+            phase: CoordinatorPhase::Unknown,
+            taken_out: 0,
+        },
     };
-    coordinator_result(
-        CoordinatorAnswer::Row(coordinator.restart(kinds)),
-        NO_PHASE,
-        0,
-        0,
-    )
+    coordinator_result(Ok(Some(coordinator.restart(kinds))), NO_PHASE, 0, 0)
 }
 
 pub fn participant_restart(number: u8, presumption: Presumption, kinds: u16) -> u64
@@ -45,11 +46,14 @@ pub fn participant_restart(number: u8, presumption: Presumption, kinds: u16) -> 
 {
     let participant = Participant {
         phase: ParticipantPhase::Unknown,
-        presumption: presumption,
-        number: number,
+        presumption,
+        number,
         marked: false,
     };
-    participant_result(participant.restart(kinds), NO_PHASE)
+    match participant.restart(kinds) {
+        Ok(row) => participant_result(Ok(Some(row)), NO_PHASE),
+        Err(Refused) => REFUSED,
+    }
 }
 
 // A step of the coordinator of members 1, 2 and 3, of which 2 presumes commit and some are taken out.
@@ -57,10 +61,11 @@ pub fn coordinator_step(phase: CoordinatorPhase, taken_out: u8, kind: u8, partic
     ensures { result ≡ numbers.packed (numbers.coordinator_result 255 0 0 (numbers.coordinator_answer 0 (record { members = 7; presume_commit = 2 }) kind participant (record { phase = coordinator_in phase; taken_out = taken_out }))) }
 {
     let coordinator = Coordinator {
-        phase: phase,
-        members: 7,
-        presume_commit: 2,
-        taken_out: taken_out,
+        cohort: Cohort {
+            members: 7,
+            presume_commit: 2,
+        },
+        state: CoordinatorState { phase, taken_out },
     };
     coordinator_result(coordinator.step(kind, participant), NO_PHASE, 0, 0)
 }
@@ -70,8 +75,8 @@ pub fn participant_step(phase: ParticipantPhase, presumption: Presumption, kind:
     ensures { result ≡ numbers.packed (numbers.participant_result 255 (numbers.participant_answer (presumption_in presumption) 2 false kind (participant_in phase))) }
 {
     let participant = Participant {
-        phase: phase,
-        presumption: presumption,
+        phase,
+        presumption,
         number: 2,
         marked: false,
     };

@@ -1,13 +1,11 @@
-use Rattle.site.specs.Step.{answered}
-use Rattle.site.specs.Coordinator.{leaving_if, on_begin}
+use Rattle.site.specs.Coordinator.{on_begin}
 use Rattle.site.specs.Answers.{cohort_in}
 use Rattle.site.proofs.NoRow.{no_begin}
 use Rattle.site.proofs.coordinator.Coordinator.on_begin.Goals as goal
 
 pub returns-in-Open : goal.returns-in-Open
-unfolding answered leaving_if on_begin
+unfolding on_begin
 returns-in-Open c t = rw (c.preparing.ensures t, c.in-Open.is)
 
 pub returns-in_default : goal.returns-in_default
-unfolding answered leaving_if
-returns-in_default c t = rw (no_begin t (cohort_in c.args.self) c.args.self.phase c.in_default.not-Open)
+returns-in_default c t = rw (no_begin t (cohort_in c.args.self.cohort) c.args.self.state.phase c.in_default.not-Open)

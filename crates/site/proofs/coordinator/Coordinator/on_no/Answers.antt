@@ -1,31 +1,28 @@
 use mathlib.Core.Path.{sym, ◌∙◌}
 use Rattle.codec.specs.Lists.{only_if}
-use Rattle.site.specs.Step.{answered}
-use Rattle.site.specs.Coordinator.{on_no, leaving_if}
+use Rattle.site.specs.Coordinator.{on_no}
 use Rattle.site.specs.Answers.{cohort_in}
 use Rattle.site.proofs.NoRow.{no_no}
 use Rattle.site.proofs.coordinator.Coordinator.on_no.Goals as goal
 
 pub returns-then-member : goal.returns-then-member
-unfolding answered leaving_if on_no only_if
+unfolding on_no only_if
 returns-then-member c t = rw (c.in-Collecting.is, sym c.member.ensures ∙ c.if-member.true)
 
 pub returns-else-member : goal.returns-else-member
-unfolding answered leaving_if on_no only_if
+unfolding on_no only_if
 returns-else-member c t =
-    let r = c.remaining-rest.ensures in
+    let r = c.without-rest.ensures in
     rw (
       c.aborting.ensures t,
       c.writes_init.ensures,
       c.without-told.ensures,
       c.in-Collecting.is,
       sym c.member.ensures ∙ c.if-member.false,
-      sym r.0,
-      sym r.1,
+      sym r,
     )
 
 pub returns-in_default : goal.returns-in_default
-unfolding answered leaving_if
 returns-in_default c t =
     let s = c.args in
-    rw (no_no t (cohort_in s.self) s.self.taken_out s.participant s.self.phase c.in_default.not-Collecting)
+    rw (no_no t (cohort_in s.self.cohort) s.self.state.taken_out s.participant s.self.state.phase c.in_default.not-Collecting)

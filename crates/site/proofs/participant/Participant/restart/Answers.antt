@@ -1,22 +1,19 @@
 use mathlib.Core.Path.{sym}
-use native.Mathlib.Omega.{arith}
-use Rattle.codec.specs.Laws.Members.{numbered}
-use Rattle.site.specs.Answers.{has_kind, effects_in, closing, sending}
+use Rattle.site.specs.Answers.{presumption_in, has_kind, effects_in, closing, sending}
 use Rattle.site.specs.Numbers.{appending, entry_of}
 use Rattle.site.specs.Step.{messages, given}
 use Rattle.site.specs.Participant.{restart_with, participant_restart}
 use Rattle.site.specs.Laws.Order.{ordered-none}
-use Rattle.site.proofs.ByKind.{no_restart, restarts}
+use Rattle.site.proofs.ByKind.{restarts}
 use Rattle.site.proofs.participant.Participant.restart.Goals as goal
-
-pub returns-then-number : goal.returns-then-number
-returns-then-number c t = rw (no_restart c.args.self (omega arith) (has_kind c.args.records) c.if-number.true)
 
 pub returns-then-has : goal.returns-then-has
 unfolding participant_restart restart_with effects_in appending entry_of closing sending messages given
 returns-then-has c t =
+    let s = c.args.self in
+    let h = rw c.in_ok-own.was at c.own.ensures in
     rw (
-      restarts c.args.self (omega arith) (has_kind c.args.records) c.if-number.false,
+      sym (restarts (presumption_in s.presumption) s.number (has_kind c.args.records) h.1.1),
       sym c.has.ensures,
       c.if-has.true,
       ordered-none t 0,
@@ -25,8 +22,10 @@ returns-then-has c t =
 pub returns-then-has-2 : goal.returns-then-has-2
 unfolding participant_restart restart_with effects_in appending entry_of closing sending messages given
 returns-then-has-2 c t =
+    let s = c.args.self in
+    let h = rw c.in_ok-own.was at c.own.ensures in
     rw (
-      restarts c.args.self (omega arith) (has_kind c.args.records) c.if-number.false,
+      sym (restarts (presumption_in s.presumption) s.number (has_kind c.args.records) h.1.1),
       sym c.has.ensures,
       sym c.has-2.ensures,
       c.if-has.false,
@@ -34,16 +33,16 @@ returns-then-has-2 c t =
       ordered-none t 0,
     )
 
-pub voting-requires : goal.voting-requires
-voting-requires c =
-    (numbered c.args.self.number c.if-number.false, omega arith)
-
 pub returns-then-has-3 : goal.returns-then-has-3
 unfolding participant_restart restart_with messages
 returns-then-has-3 c t =
+    let s = c.args.self in
+    let h = rw c.in_ok-own.was at c.own.ensures in
     rw (
       c.voting.ensures t,
-      restarts c.args.self (omega arith) (has_kind c.args.records) c.if-number.false,
+      sym (restarts (presumption_in s.presumption) s.number (has_kind c.args.records) h.1.1),
+      h.0,
+      h.1.0,
       sym c.has.ensures,
       sym c.has-2.ensures,
       sym c.has-3.ensures,
@@ -55,8 +54,10 @@ returns-then-has-3 c t =
 pub returns : goal.returns
 unfolding participant_restart restart_with effects_in appending entry_of closing sending messages given
 returns c t =
+    let s = c.args.self in
+    let h = rw c.in_ok-own.was at c.own.ensures in
     rw (
-      restarts c.args.self (omega arith) (has_kind c.args.records) c.if-number.false,
+      sym (restarts (presumption_in s.presumption) s.number (has_kind c.args.records) h.1.1),
       sym c.has.ensures,
       sym c.has-2.ensures,
       sym c.has-3.ensures,

@@ -1,8 +1,0 @@
-use Rattle.site.specs.Answers.{cohort_in}
-use Rattle.site.proofs.Accepted.{out_fits}
-use Rattle.site.proofs.coordinator.Coordinator.taken_out_in_range.Goals as goal
-
-pub returns : goal.returns
-returns c =
-    let s = c.args in
-    rw (c.part.ensures, c.both-awaited.ensures) (out_fits (cohort_in s.self) s.phase s.waiting s.self.taken_out)
