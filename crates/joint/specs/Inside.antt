@@ -1,5 +1,6 @@
 -- What the program's inner functions promise each other. No reader has to believe it: proofs/ shows what it has to do with 01.
 use Rattle.std.specs.Prelude.{ℕ, zero, suc, ◌+◌, ◌-◌, ◌*◌, ◌≤◌, min, Bool, true, false, cond, not, ◌&&◌, ◌||◌, List, [], ◌∷◌, ◌++◌, ◌≡◌, length, take, drop, get_or, set, eqb, leb}
+use Rattle.std.specs.Prelude as std
 use Rattle.std.proofs.Math.Option.{Option, none, some}
 use Rattle.codec.specs.Lists.{select}
 use Rattle.codec.specs.Sets.{member}
@@ -30,8 +31,6 @@ use Rattle.joint.specs.declared.sites.Site.{Site}
 use Rattle.joint.specs.declared.rows.Then.{Then}
 use Rattle.joint.specs.declared.rows.Then.TheVariants as follows
 use Rattle.joint.specs.declared.rows.Row.{Row}
-use Rattle.joint.specs.declared.rows.Found.{Found}
-use Rattle.joint.specs.declared.rows.Found.TheVariants as found
 use Rattle.joint.specs.declared.changes.Change.{Change}
 use Rattle.joint.specs.declared.changes.Change.TheVariants as change
 use Rattle.joint.specs.declared.events.Step.{Step}
@@ -143,9 +142,9 @@ row_site t x a = then_site t x.then (site_after t (effects_in t x.effects) a)
 abbrev pub plan_in : ℕ → ℕ → Row → Plan
 plan_in s t x = record { site = s; acts = acting t (effects_in t x.effects); settle = then_in s t x.then }
 
-unfoldable pub found_in : ℕ → ℕ → Found → Option Plan
-found_in s t (found.Row x) = some (plan_in s t x)
-found_in s t found.None = none
+unfoldable pub found_in : ℕ → ℕ → std.Option Row → Option Plan
+found_in s t (std.Some x) = some (plan_in s t x)
+found_in s t std.None = none
 
 -- what site s receives: a participant its own messages, the coordinator those of members
 unfoldable pub MayReceive : plain.Transaction → ℕ → ℕ → ℕ → Type 0

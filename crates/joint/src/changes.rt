@@ -14,7 +14,7 @@ ghost use Rattle.joint.specs.Program.{room_for};
 use crate::answers::Answer;
 use crate::events::{Discarding, Input, Marking, Opening};
 use crate::records::Records;
-use crate::rows::{Found, Row, Then};
+use crate::rows::{Row, Then};
 use crate::run::Run;
 use crate::sites::Site;
 use crate::transactions::Transaction;
@@ -107,10 +107,9 @@ pub(crate) fn input(site: Site, before: Transaction, e: Input) -> Change
     if (e.kind <= Parts::LAST_KIND) & !before.sent(e.participant, e.kind) {
         return Change::Refused(Answer::NeverSent);
     }
-    let found = Row::step(before, e.site, e.kind, e.participant);
-    match found {
-        Found::Row(row) => carry(site, e.transaction, row, e.cut, e.keep),
-        Found::None => {
+    match Row::step(before, e.site, e.kind, e.participant) {
+        Some(row) => carry(site, e.transaction, row, e.cut, e.keep),
+        None => {
             if BEGIN <= e.kind {
                 return Change::Refused(Answer::NotAllowed);
             }

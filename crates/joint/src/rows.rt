@@ -46,12 +46,6 @@ pub struct Row {
     pub then: Then,
 }
 
-#[derive(Clone, Copy)]
-pub enum Found {
-    Row(Row),
-    None,
-}
-
 impl Row {
     // A message that finds no row has no effect.
     pub const NOTHING: Row = Row {
@@ -60,15 +54,14 @@ impl Row {
     };
 
     // Whether it appends, drops or keeps a record.
+    #[tactic(auto, using(crate::proofs::Engine::RowSites::unmoved), unfolding(crate::specs::Inside::writes_log, crate::specs::Inside::moves))]
     pub fn writes(self) -> bool
         ensures { result ≡ writes_log self }
     {
-        let effects = self.effects;
-        let then = self.then;
-        if (effects.appended != 0) | (effects.last != 0) {
+        if (self.effects.appended != 0) | (self.effects.last != 0) {
             return true;
         }
-        match then {
+        match self.then {
             Then::Discarded(_) => true,
             Then::Down(keep) => keep != 0,
             _ => false,
@@ -79,11 +72,7 @@ impl Row {
     pub fn goes_down(self) -> bool
         ensures { result ≡ goes_down self.then }
     {
-        let then = self.then;
-        match then {
-            Then::Down(_) => true,
-            _ => false,
-        }
+        matches!(self.then, Then::Down(_))
     }
 
     fn participant(transaction: Transaction, number: u8) -> Participant
@@ -100,46 +89,40 @@ impl Row {
     }
 
     // The coordinator's, upon a message of a member, begin or its timer.
-    fn coordinator_step(transaction: Transaction, kind: u8, participant: u8) -> Found
+    fn coordinator_step(transaction: Transaction, kind: u8, participant: u8) -> Option<Row>
         requires { (receives 0 kind && (leb 16 kind || member participant (transaction_in transaction).cohort.members)) ≡ true }
         ensures { (w : plain.Run) (t : ℕ) → transaction_in transaction ≡ w.transaction t → found_in 0 t result ≡ plan.step w t 0 (input_of kind participant) }
     {
         let coordinator = transaction.coordinator();
-        let answer = coordinator.step(kind, participant);
-        let CoordinatorAnswer::Row(row) = answer else {
-            return Found::None;
+        let CoordinatorAnswer::Row(row) = coordinator.step(kind, participant) else {
+            return None;
         };
-        let effects = row.effects;
-        let phase = row.phase;
-        Found::Row(Row {
-            effects,
+        Some(Row {
+            effects: row.effects,
             then: Then::Coordinator {
-                phase,
+                phase: row.phase,
                 taken_out: row.taken_out,
             },
         })
     }
 
     // A participant's, upon a message or its timer.
-    fn participant_step(transaction: Transaction, number: u8, kind: u8) -> Found
+    fn participant_step(transaction: Transaction, number: u8, kind: u8) -> Option<Row>
         requires { (1 ≤ number) × ((number ≤ 8) × (receives 1 kind ≡ true)) }
         ensures { (w : plain.Run) (t : ℕ) → transaction_in transaction ≡ w.transaction t → found_in number t result ≡ plan.step w t number (input_of kind number) }
     {
         let participant = Row::participant(transaction, number);
-        let answer = participant.step(kind);
-        let ParticipantAnswer::Row(row) = answer else {
-            return Found::None;
+        let ParticipantAnswer::Row(row) = participant.step(kind) else {
+            return None;
         };
-        let effects = row.effects;
-        let phase = row.phase;
-        Found::Row(Row {
-            effects,
-            then: Then::Participant(phase),
+        Some(Row {
+            effects: row.effects,
+            then: Then::Participant(row.phase),
         })
     }
 
     // Of a site: the coordinator upon a message of a member, begin or its timer, a participant upon its own message or its timer.
-    pub(crate) fn step(transaction: Transaction, site: u8, kind: u8, participant: u8) -> Found
+    pub(crate) fn step(transaction: Transaction, site: u8, kind: u8, participant: u8) -> Option<Row>
         requires { MayReceive (transaction_in transaction) site kind participant }
         ensures { (w : plain.Run) (t : ℕ) → transaction_in transaction ≡ w.transaction t → found_in site t result ≡ plan.step w t site (input_of kind participant) }
     {
@@ -165,26 +148,21 @@ impl Row {
         if site == 0 {
             let coordinator = records.cohort(t, has(kinds, Record::COMMIT), count);
             let row = coordinator.restart(kinds);
-            let effects = row.effects;
-            let phase = row.phase;
             return Row {
-                effects,
+                effects: row.effects,
                 then: Then::Coordinator {
-                    phase,
+                    phase: row.phase,
                     taken_out: row.taken_out,
                 },
             };
         }
         let participant = Row::participant(transaction, site);
-        let answer = participant.restart(kinds);
-        let ParticipantAnswer::Row(row) = answer else {
+        let ParticipantAnswer::Row(row) = participant.restart(kinds) else {
             return Row::NOTHING;
         };
-        let effects = row.effects;
-        let phase = row.phase;
         Row {
-            effects,
-            then: Then::Participant(phase),
+            effects: row.effects,
+            then: Then::Participant(row.phase),
         }
     }
 }

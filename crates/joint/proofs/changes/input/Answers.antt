@@ -46,8 +46,8 @@ returns-then-e-sent c =
     (struck_by w e.transaction e.site e.participant (λ x. leb e.kind 7 && not (x.sent e.participant e.kind)) own c.opened.ensures c.takes_part.ensures (up_here a.site w e.site here)
     ∙ rw (c.if-not-opened.false, c.if-not-takes_part.false, c.if-not-site.false, sym c.sent.ensures, c.if-e-sent.true) refl)
 
-pub step-found-requires : goal.step-found-requires
-step-found-requires c =
+pub step-requires : goal.step-requires
+step-requires c =
     input_received c.requires (transaction_in c.args.before) (ap not (sym c.takes_part.ensures ∙ c.if-not-takes_part.false))
 
 pub returns-then-e-ge-BEGIN : goal.returns-then-e-ge-BEGIN
@@ -59,20 +59,20 @@ returns-then-e-ge-BEGIN c =
     let passed : input_struck w e.transaction e.site e.kind e.participant ≡ 0 =
     struck_by w e.transaction e.site e.participant (λ x. leb e.kind 7 && not (x.sent e.participant e.kind)) own c.opened.ensures c.takes_part.ensures (up_here a.site w e.site here)
     ∙ rw (c.if-not-opened.false, c.if-not-takes_part.false, c.if-not-site.false, sym c.sent.ensures, c.if-e-sent.false) refl in
-    let none = rw c.in-None.is at (c.step-found.ensures w e.transaction own) in
+    let none = rw c.in-None.is at (c.step.ensures w e.transaction own) in
     input_unallowed w c.requires (cut_from e.cut e.keep) passed none (omega arith)
 
-pub returns-in-Row : goal.returns-in-Row
+pub returns-in-Some : goal.returns-in-Some
 unfolding found_in
-returns-in-Row c =
+returns-in-Some c =
     λ w here own room.
     let a = c.args in
     let e = a.e in
     let passed : input_struck w e.transaction e.site e.kind e.participant ≡ 0 =
     struck_by w e.transaction e.site e.participant (λ x. leb e.kind 7 && not (x.sent e.participant e.kind)) own c.opened.ensures c.takes_part.ensures (up_here a.site w e.site here)
     ∙ rw (c.if-not-opened.false, c.if-not-takes_part.false, c.if-not-site.false, sym c.sent.ensures, c.if-e-sent.false) refl in
-    let row = c.in-Row.row in
-    let found = rw c.in-Row.is at (c.step-found.ensures w e.transaction own) in
+    let row = c.in-Some.row in
+    let found = rw c.in-Some.is at (c.step.ensures w e.transaction own) in
     c.carry.ensures w e.site here (input_fits w c.requires (cut_from e.cut e.keep) passed row found room)
     ∙ sym (input_carried w c.requires (cut_from e.cut e.keep) passed row found)
 
@@ -85,6 +85,6 @@ returns-else-e-ge-BEGIN c =
     let passed : input_struck w e.transaction e.site e.kind e.participant ≡ 0 =
     struck_by w e.transaction e.site e.participant (λ x. leb e.kind 7 && not (x.sent e.participant e.kind)) own c.opened.ensures c.takes_part.ensures (up_here a.site w e.site here)
     ∙ rw (c.if-not-opened.false, c.if-not-takes_part.false, c.if-not-site.false, sym c.sent.ensures, c.if-e-sent.false) refl in
-    let none = rw c.in-None.is at (c.step-found.ensures w e.transaction own) in
+    let none = rw c.in-None.is at (c.step.ensures w e.transaction own) in
     c.carry-in-None.ensures w e.site here (nothing_fits a.site w e.site e.transaction here)
     ∙ sym (input_nothing w c.requires (cut_from e.cut e.keep) passed none (omega arith))
