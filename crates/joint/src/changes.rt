@@ -17,9 +17,8 @@ use crate::records::Records;
 use crate::rows::{Row, Then};
 use crate::run::Run;
 use crate::sites::Site;
-use crate::transactions::Transaction;
+use crate::transactions::{Transaction, names};
 use codec::message::Parts;
-use codec::sets::member;
 use site::effects::Effects;
 use site::inputs::BEGIN;
 use site::phases::ParticipantPhase;
@@ -54,26 +53,19 @@ fn carry(site: Site, transaction: u8, row: Row, cut: u8, keep: u8) -> Change
 }
 
 // Whether the coordinator and the members are up.
-fn all_up(sites: [Site; Run::SITES], members: u8) -> bool
-    ensures { result ≡ not (any (λ s. not (get_or sites s no_site).up) (0 ∷ listed members)) }
+fn all_up(sites: &[Site; Run::SITES], members: u8) -> bool
+    ensures { result ≡ not (any (λ s. not (get_or sites.now s no_site).up) (0 ∷ listed members)) }
 {
-    let coordinator = sites[0];
-    if !coordinator.up {
-        return false;
-    }
-    let mut i: u8 = 1;
-    while i <= Run::LAST_SITE {
-        let site = sites[i as usize];
-        if member(i, members) & !site.up {
+    for (i, site) in sites.iter().enumerate() {
+        if names(members, i as u8) && !site.up {
             return false;
         }
-        i += 1;
     }
     true
 }
 
-pub(crate) fn open(sites: [Site; Run::SITES], before: Transaction, e: Opening) -> Change
-    ensures { (w : plain.Run) → ((i : ℕ) → (get_or sites i no_site).up ≡ (w.site i).up) → transaction_in before ≡ w.transaction e.transaction → change_in w 0 e.transaction result ≡ taken w (event.opening e.transaction e.members e.presume_commit) none }
+pub(crate) fn open(sites: &[Site; Run::SITES], before: Transaction, e: Opening) -> Change
+    ensures { (w : plain.Run) → ((i : ℕ) → (get_or sites.now i no_site).up ≡ (w.site i).up) → transaction_in before ≡ w.transaction e.transaction → change_in w 0 e.transaction result ≡ taken w (event.opening e.transaction e.members e.presume_commit) none }
 {
     if before.opened() {
         return Change::Refused(Answer::OpenedBefore);

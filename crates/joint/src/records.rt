@@ -274,16 +274,14 @@ impl Records {
         self.oldest(transaction, 0, count) < count
     }
 
-    // The image of the first `count`, as the log of site `number`, from `at` on: 0, or 21, 23, 27, 28, 24, 25 and the buffer as it was.
-    pub(crate) fn write_log(self, number: u8, count: usize, buffer: &mut [u8], at: usize) -> u8
-        requires { count ≤ 24 }
-        ensures { written result buffer.new ≡ write_image number (take count (map record_in self.of)) at buffer.old }
+    // The image of the stable records, as the log of site `number`, from `at` on: 0, or 21, 23, 27, 28, 24, 25 and the buffer as it was.
+    pub(crate) fn write_log(&self, number: u8, site: Site, buffer: &mut [u8], at: usize) -> u8
+        ensures { written result buffer.new ≡ write_image number (site_from site self.now.of).stable at buffer.old }
     {
-        let records = self.of;
         let log = Log {
             site: number,
-            count,
-            records,
+            count: site.stable_count(),
+            records: self.of,
         };
         write_image(log, buffer, at)
     }

@@ -85,10 +85,7 @@ fn go(run: Run, bytes: &[u8], answers: &mut [u8], events: usize) -> Ran
                 let site = run.sites[s];
                 let transaction = run.transactions[t];
                 let change = match step {
-                    Step::Open(e) => {
-                        let sites = run.sites;
-                        open(sites, transaction, e)
-                    }
+                    Step::Open(e) => open(&run.sites, transaction, e),
                     Step::Input(e) => input(site, transaction, e),
                     Step::Force(_) => force(site),
                     Step::Discard(e) => {

@@ -34,18 +34,14 @@ pub struct Restarted {
 
 // The phase at a site is Unknown in every transaction.
 pub(crate) fn forget_all(
-    transactions: [Transaction; Run::TRANSACTIONS],
+    mut transactions: [Transaction; Run::TRANSACTIONS],
     site: usize,
 ) -> [Transaction; Run::TRANSACTIONS]
     requires { site ≤ 8 }
     ensures { transactions_in result ≡ (λ t. forgotten site (transactions_in transactions t)) }
 {
-    let mut transactions = transactions;
-    let mut i: usize = 0;
-    while i < Run::TRANSACTIONS {
-        let transaction = transactions[i];
-        transactions[i] = transaction.forget(site);
-        i += 1;
+    for transaction in transactions.iter_mut() {
+        *transaction = transaction.forget(site);
     }
     transactions
 }

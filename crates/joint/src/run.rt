@@ -78,99 +78,84 @@ impl Run {
 
     // ---- what can be seen of a run; what is no site or no transaction is as in a fresh run
 
-    pub fn up(self, site: u8) -> bool
-        ensures { result ≡ ((run_in self).site site).up }
+    pub fn up(&self, site: u8) -> bool
+        ensures { result ≡ ((run_in self.now).site site).up }
     {
-        if Run::LAST_SITE < site {
-            return true;
-        }
-        let at = site as usize;
-        let found = self.sites[at];
-        found.up
+        self.sites
+            .get(usize::from(site))
+            .copied()
+            .unwrap_or(Site::NEW)
+            .up
     }
 
-    pub(crate) fn transaction(self, transaction: u8) -> Transaction
-        ensures { transaction_in result ≡ (run_in self).transaction transaction }
+    pub(crate) fn transaction(&self, transaction: u8) -> Transaction
+        ensures { transaction_in result ≡ (run_in self.now).transaction transaction }
     {
-        if Parts::LAST_TRANSACTION < transaction {
-            return Transaction::new();
-        }
-        let at = transaction as usize;
-        self.transactions[at]
+        self.transactions
+            .get(usize::from(transaction))
+            .copied()
+            .unwrap_or(Transaction::new())
     }
 
-    pub fn members(self, transaction: u8) -> u8
-        ensures { result ≡ ((run_in self).transaction transaction).cohort.members }
+    pub fn members(&self, transaction: u8) -> u8
+        ensures { result ≡ ((run_in self.now).transaction transaction).cohort.members }
     {
-        let found = self.transaction(transaction);
-        let part = found.part;
-        part.members
+        self.transaction(transaction).part.members
     }
 
-    pub fn presume_commit(self, transaction: u8) -> u8
-        ensures { result ≡ ((run_in self).transaction transaction).cohort.presume_commit }
+    pub fn presume_commit(&self, transaction: u8) -> u8
+        ensures { result ≡ ((run_in self.now).transaction transaction).cohort.presume_commit }
     {
-        let found = self.transaction(transaction);
-        let part = found.part;
-        part.presume_commit
+        self.transaction(transaction).part.presume_commit
     }
 
-    pub fn coordinator_phase(self, transaction: u8) -> CoordinatorPhase
-        ensures { coordinator_in result ≡ ((run_in self).transaction transaction).coordinator.phase }
+    pub fn coordinator_phase(&self, transaction: u8) -> CoordinatorPhase
+        ensures { coordinator_in result ≡ ((run_in self.now).transaction transaction).coordinator.phase }
     {
-        let found = self.transaction(transaction);
-        let part = found.part;
-        part.phase
+        self.transaction(transaction).part.phase
     }
 
     // The participants that the coordinator has taken out.
-    pub fn taken_out(self, transaction: u8) -> u8
-        ensures { result ≡ ((run_in self).transaction transaction).coordinator.taken_out }
+    pub fn taken_out(&self, transaction: u8) -> u8
+        ensures { result ≡ ((run_in self.now).transaction transaction).coordinator.taken_out }
     {
-        let found = self.transaction(transaction);
-        found.taken_out
+        self.transaction(transaction).taken_out
     }
 
-    pub fn participant_phase(self, transaction: u8, participant: u8) -> ParticipantPhase
-        ensures { participant_in result ≡ ((run_in self).transaction transaction).participant participant }
+    pub fn participant_phase(&self, transaction: u8, participant: u8) -> ParticipantPhase
+        ensures { participant_in result ≡ ((run_in self.now).transaction transaction).participant participant }
     {
-        let found = self.transaction(transaction);
-        found.participant_phase(participant)
+        self.transaction(transaction).participant_phase(participant)
     }
 
     // Whether a participant is marked as one that only looked.
-    pub fn marked(self, transaction: u8, participant: u8) -> bool
-        ensures { result ≡ ((run_in self).transaction transaction).marked participant }
+    pub fn marked(&self, transaction: u8, participant: u8) -> bool
+        ensures { result ≡ ((run_in self.now).transaction transaction).marked participant }
     {
-        let found = self.transaction(transaction);
-        found.marked(participant)
+        self.transaction(transaction).marked(participant)
     }
 
     // Whether a message of a kind, to a participant or from it, was sent.
-    pub fn sent(self, transaction: u8, participant: u8, kind: u8) -> bool
-        ensures { result ≡ ((run_in self).transaction transaction).sent participant kind }
+    pub fn sent(&self, transaction: u8, participant: u8, kind: u8) -> bool
+        ensures { result ≡ ((run_in self.now).transaction transaction).sent participant kind }
     {
-        let found = self.transaction(transaction);
-        found.sent(participant, kind)
+        self.transaction(transaction).sent(participant, kind)
     }
 
-    pub fn entered(self, transaction: u8, site: u8, outcome: Outcome) -> bool
-        ensures { result ≡ ((run_in self).transaction transaction).entered site (outcome_in outcome) }
+    pub fn entered(&self, transaction: u8, site: u8, outcome: Outcome) -> bool
+        ensures { result ≡ ((run_in self.now).transaction transaction).entered site (outcome_in outcome) }
     {
-        let found = self.transaction(transaction);
-        found.entered(site, outcome)
+        self.transaction(transaction).entered(site, outcome)
     }
 
     // A site's log image from `at` on: 0, or the number that refuses it, 21, 23, 27, 28, 24 or 25, and the buffer as it was.
-    pub fn write_log(self, site: u8, buffer: &mut [u8], at: usize) -> u8
-        ensures { written result buffer.new ≡ write_image site ((run_in self).site site).stable at buffer.old }
+    pub fn write_log(&self, site: u8, buffer: &mut [u8], at: usize) -> u8
+        ensures { written result buffer.new ≡ write_image site ((run_in self.now).site site).stable at buffer.old }
     {
         if Run::LAST_SITE < site {
             return Log::OVER_LIMIT;
         }
         let i = site as usize;
-        let found = self.sites[i];
-        let records = self.records[i];
-        records.write_log(site, found.stable_count(), buffer, at)
+        self.records[i].write_log(site, self.sites[i], buffer, at)
     }
 }

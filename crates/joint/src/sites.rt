@@ -32,21 +32,13 @@ impl Site {
     pub fn stable_count(self) -> usize
         ensures { result ≡ stable_of self }
     {
-        let stable = self.stable as usize;
-        if Log::COORDINATOR_MOST < stable {
-            return Log::COORDINATOR_MOST;
-        }
-        stable
+        usize::from(self.stable).min(Log::COORDINATOR_MOST)
     }
 
     pub fn count(self) -> usize
         ensures { result ≡ count_of self }
     {
-        let count = (self.stable as usize) + (self.unforced as usize);
-        if Log::COORDINATOR_MOST < count {
-            return Log::COORDINATOR_MOST;
-        }
-        count
+        (usize::from(self.stable) + usize::from(self.unforced)).min(Log::COORDINATOR_MOST)
     }
 
     pub fn unforced_count(self) -> usize
@@ -60,13 +52,12 @@ impl Site {
     fn append(self, kind: u8) -> Site
         ensures { (rs : List Record) (x : Record) → x.kind ≡ kind → length rs ≡ 24 → Fits (appending kind (record_in x).fields) (site_from self rs) → site_from result (put_at (count_of self) x rs) ≡ site_after x.transaction (appending kind (record_in x).fields) (site_from self rs) }
     {
-        if (kind == 0) | (Log::COORDINATOR_MOST <= self.count()) {
+        if kind == 0 || Log::COORDINATOR_MOST <= self.count() {
             return self;
         }
         Site {
-            up: self.up,
-            stable: self.stable,
             unforced: self.unforced + 1,
+            ..self
         }
     }
 
@@ -74,28 +65,25 @@ impl Site {
         ensures { (rs : List Record) → length rs ≡ 24 → site_from result rs ≡ forced (site_from self rs) }
     {
         Site {
-            up: self.up,
             stable: self.count() as u8,
             unforced: 0,
+            ..self
         }
     }
 
     fn force_if(self, forced: bool) -> Site
         ensures { (rs : List Record) (t : ℕ) → length rs ≡ 24 → site_from result rs ≡ site_after t (given forced (force ∷ [])) (site_from self rs) }
     {
-        if forced {
-            return self.force();
-        }
-        self
+        if forced { self.force() } else { self }
     }
 
     // With a row's records and its force.
     pub(crate) fn after(self, effects: Effects) -> Site
         ensures { (rs : List Record) (t : ℕ) → length rs ≡ 24 → Fits (effects_in t effects) (site_from self rs) → site_from result (put_row (count_of self) t effects rs) ≡ site_after t (effects_in t effects) (site_from self rs) }
     {
-        let first = self.append(effects.appended);
-        let forced = first.force_if(effects.forced);
-        forced.append(effects.last)
+        self.append(effects.appended)
+            .force_if(effects.forced)
+            .append(effects.last)
     }
 
     // Whether every set bit of a mask stands for an unforced record.
@@ -111,17 +99,15 @@ impl Site {
     {
         Site {
             up: false,
-            stable: self.stable,
             unforced: 0,
+            ..self
         }
     }
 
     pub(crate) fn start(self) -> Site
         ensures { (rs : List Record) → site_from result rs ≡ started (site_from self rs) }
     {
-        let mut site = self;
-        site.up = true;
-        site
+        Site { up: true, ..self }
     }
 
     // After a row that leaves the records where they are.
@@ -129,10 +115,8 @@ impl Site {
         requires { writes_log row ≡ false }
         ensures { (rs : List Record) (t : ℕ) → length rs ≡ 24 → site_from result rs ≡ row_site t row (site_from self rs) }
     {
-        let effects = row.effects;
-        let then = row.then;
-        let after = self.force_if(effects.forced);
-        match then {
+        let after = self.force_if(row.effects.forced);
+        match row.then {
             Then::Down(_) => after.stop(),
             _ => after,
         }

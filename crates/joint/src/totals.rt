@@ -17,14 +17,11 @@ pub struct Totals {
 }
 
 // A total stays at its highest value once there.
+#[tactic(auto, unfolding(crate::specs::Totals::held, crate::specs::Totals::highest))]
 pub(crate) fn add_held(total: u64, more: u8) -> u64
     ensures { result ≡ held (total + more) }
 {
-    let more = more as u64;
-    if u64::MAX - total < more {
-        return u64::MAX;
-    }
-    total + more
+    total.saturating_add(u64::from(more))
 }
 
 impl Totals {
@@ -32,54 +29,36 @@ impl Totals {
     fn of(forces: u64, handovers: u64) -> Totals
         ensures { totals_seen result ≡ totals_of forces handovers }
     {
-        if handovers == 0 {
-            return Totals {
-                forces,
-                handovers,
-                quotient: 0,
-                remainder: forces,
-            };
-        }
         Totals {
             forces,
             handovers,
-            quotient: forces / handovers,
-            remainder: forces % handovers,
+            quotient: forces.checked_div(handovers).unwrap_or(0),
+            remainder: forces.checked_rem(handovers).unwrap_or(forces),
         }
     }
 }
 
 impl Run {
     // Forced writes so far.
-    fn forces(self, site: u8) -> u64
-        ensures { result ≡ forces_in self site }
+    fn forces(&self, site: u8) -> u64
+        ensures { result ≡ forces_in self.now site }
     {
-        if Run::LAST_SITE < site {
-            return 0;
-        }
-        let at = site as usize;
-        self.forces[at]
+        self.forces.get(usize::from(site)).copied().unwrap_or(0)
     }
 
     // Handovers opened with a site; those of the coordinator are all.
-    fn handovers(self, site: u8) -> u64
-        ensures { result ≡ handovers_in (run_in self) site }
+    fn handovers(&self, site: u8) -> u64
+        ensures { result ≡ handovers_in (run_in self.now) site }
     {
-        let mut count: u64 = 0;
-        let mut i: u8 = 0;
-        while i <= Parts::LAST_TRANSACTION {
-            let transaction = self.transaction(i);
-            if transaction.opened() & transaction.takes_part(site) {
-                count += 1;
-            }
-            i += 1;
-        }
-        count
+        self.transactions
+            .iter()
+            .filter(|t| t.opened() && t.takes_part(site))
+            .count() as u64
     }
 
     // Of a site above 8: as in a fresh run.
-    pub fn totals(self, site: u8) -> Totals
-        ensures { totals_seen result ≡ totals_in self site }
+    pub fn totals(&self, site: u8) -> Totals
+        ensures { totals_seen result ≡ totals_in self.now site }
     {
         Totals::of(self.forces(site), self.handovers(site))
     }

@@ -3,7 +3,7 @@ ghost use Rattle.std.specs.Prelude.{◌≡◌, not, ◌||◌, ℕ, ◌≤◌};
 ghost use Rattle.codec.specs.Sets.{empty, member};
 ghost use Rattle.site.specs.Numbers.{entry_of};
 ghost use Rattle.site.specs.Answers.{coordinator_state_in, cohort_in, participant_in, outcome_in, sending, effects_in};
-ghost use Rattle.joint.specs.State.{takes_part, with_coordinator, with_participant, with_marked, forgotten};
+ghost use Rattle.joint.specs.State.{names, takes_part, with_coordinator, with_participant, with_marked, forgotten};
 ghost use Rattle.joint.specs.Plan.{opened_as};
 ghost use Rattle.joint.specs.Answers.{part_in, transaction_in, no_transaction};
 ghost use Rattle.joint.specs.Inside.{transaction_after, then_transaction};
@@ -57,6 +57,13 @@ fn with_all(set: u8, to: u8) -> u8
     either(set, to)
 }
 
+// Whether members name a site: each participant among them, and the coordinator in any case.
+pub(crate) fn names(members: u8, site: u8) -> bool
+    ensures { result ≡ names members site }
+{
+    site == 0 || member(site, members)
+}
+
 impl Held {
     pub const UNKNOWN: Held = Held {
         phase: ParticipantPhase::Unknown,
@@ -104,14 +111,11 @@ impl Transaction {
     }
 
     // The coordinator takes part in each transaction, a participant in those that it is a member of.
+    #[tactic(auto, unfolding(crate::specs::Answers::transaction_in, crate::specs::State::takes_part))]
     pub fn takes_part(self, site: u8) -> bool
         ensures { result ≡ takes_part (transaction_in self) site }
     {
-        let part = self.part;
-        if site == 0 {
-            return true;
-        }
-        member(site, part.members)
+        names(self.part.members, site)
     }
 
     pub fn marked(self, participant: u8) -> bool

@@ -1,47 +1,38 @@
-use Rattle.joint.proofs.Engine.Reads.{get_or-within}
 use Prim.Native.Nat.{ℕ, ◌≤◌}
-use mathlib.Core.Path.{◌≡◌, sym, ap, ap₂, ◌∙◌}
-use mathlib.Core.Bool.{Bool, not, ◌&&◌}
+use mathlib.Core.Path.{◌≡◌, sym, ap, ◌∙◌}
+use mathlib.Core.Bool.{not}
 use mathlib.Core.List.{List}
 use lib.ListN.{length, get_or}
 use native.Mathlib.Omega.{arith}
-use borrow.Author.Rules.{rules}
 use Rattle.joint.specs.Answers.{no_site}
 use Rattle.joint.specs.declared.sites.Site.{Site}
 use Rattle.joint.proofs.Engine.Arrays.{length-shown}
-use Rattle.joint.proofs.Engine.Ups.{first-down, reach_starts, one_down, reach_next, reach_ends}
+use Rattle.joint.proofs.Engine.Reads.{get_or-within}
+use Rattle.joint.proofs.Engine.Ups.{reach_starts, one_down, reach_up, reach_unnamed, reach_ends}
 use Rattle.joint.proofs.changes.all_up.Goals as goal
+use Rattle.joint.proofs.changes.all_up.Goals.{else-names-via-then-names+else-not-site, else-names-via-else-names}
 
 read : (l : List Site) (i : ℕ) (d : Site) → length l ≡ 9 → i ≤ 8 → not (get_or l i no_site).up ≡ not (get_or l i d).up
 read l i d n h = ap (λ (x : Site). not x.up) (get_or-within l i no_site d (omega (arith, n, h)))
 
-pub returns-then-not-coordinator : goal.returns-then-not-coordinator
-returns-then-not-coordinator c =
-    let a = c.args in
-    let n : length a.sites ≡ 9 = search length-shown in
-    first-down _ _ (read a.sites 0 _ n (omega arith) ∙ c.if-not-coordinator.true)
-
 pub loop-i-init : goal.loop-i-init
-loop-i-init c =
-    let a = c.args in
-    let n : length a.sites ≡ 9 = search length-shown in
-    reach_starts _ _ (read a.sites 0 _ n (omega arith) ∙ c.if-not-coordinator.false)
+loop-i-init c = reach_starts _ _
 
-pub returns-then-member-site : goal.returns-then-member-site
-returns-then-member-site c =
+pub returns-then-not-site : goal.returns-then-not-site
+returns-then-not-site c =
     let l = c.loop-i in
-    let a = c.args in
-    let n : length a.sites ≡ 9 = search length-shown in
-    one_down _ _ l.i l.invariant (search rules)
-    (ap₂ (λ (p q : Bool). p && q) (sym c.member.ensures) (read a.sites l.i _ n (search rules)) ∙ c.if-member-site.true)
+    let n : length c.args.sites.now ≡ 9 = search length-shown in
+    one_down _ _ l.i l.invariant (omega arith) (sym c.if-names.ensures) (read _ l.i _ n (omega arith) ∙ ap not c.if-not-site.true)
 
 pub loop-i-preserved : goal.loop-i-preserved
 loop-i-preserved c =
     let l = c.loop-i in
-    let a = c.args in
-    let n : length a.sites ≡ 9 = search length-shown in
-    reach_next _ _ l.i l.invariant (search rules)
-    (ap₂ (λ (p q : Bool). p && q) (sym c.member.ensures) (read a.sites l.i _ n (search rules)) ∙ c.if-member-site.false)
+    let n : length c.args.sites.now ≡ 9 = search length-shown in
+    let low : l.i ≤ 8 = omega arith in
+    elim c.else-names.branch [
+      | else-names-via-then-names+else-not-site w ↦ reach_up _ _ l.i l.invariant low (read _ l.i _ n low ∙ ap not w.if-not-site.false)
+      | else-names-via-else-names w ↦ reach_unnamed _ _ l.i l.invariant low (sym w.if-names.ensures)
+    ]
 
 pub returns : goal.returns
-returns c = reach_ends _ _ _ c.loop-i.invariant (search rules)
+returns c = reach_ends _ _ _ c.loop-i.invariant (omega arith)

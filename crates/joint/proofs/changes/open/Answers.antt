@@ -21,7 +21,7 @@ returns-then-not-all_up c =
     let a = c.args in
     let e = a.e in
     open_down w e.transaction e.members e.presume_commit (rw (sym own) (sym c.opened.ensures ∙ c.if-opened.false))
-    (one_down a.sites w e.members ups _ _ c.all_up.ensures (ap not c.if-not-all_up.true))
+    (one_down a.sites.now w e.members ups _ _ c.all_up.ensures (ap not c.if-not-all_up.true))
 
 pub returns : goal.returns
 unfolding change_in then_in opened
@@ -30,4 +30,4 @@ returns c =
     let a = c.args in
     let e = a.e in
     open_opens w e.transaction e.members e.presume_commit (rw (sym own) (sym c.opened.ensures ∙ c.if-opened.false))
-    (one_down a.sites w e.members ups _ _ c.all_up.ensures (ap not c.if-not-all_up.false)) (follows.Opened e.members e.presume_commit) refl
+    (one_down a.sites.now w e.members ups _ _ c.all_up.ensures (ap not c.if-not-all_up.false)) (follows.Opened e.members e.presume_commit) refl

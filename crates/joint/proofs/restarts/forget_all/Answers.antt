@@ -8,12 +8,9 @@ use Rattle.joint.specs.State as plain
 use Rattle.joint.specs.State.{update, forgotten, with_coordinator, with_participant}
 use Rattle.joint.specs.Answers.{no_held, transaction_in, no_transaction}
 use Rattle.joint.specs.declared.transactions.Held.{Held}
-use Rattle.joint.specs.declared.transactions.Transaction.{Transaction}
-use Rattle.joint.proofs.Engine.Arrays.{length-shown, all-default, pass_starts, pass_stores, pass_ends}
+use Rattle.joint.proofs.Engine.Arrays.{length-shown, all-default, pass_ends}
 use Rattle.joint.proofs.Base.Placed.{update-own}
-use Rattle.joint.proofs.Engine.Transactions.{read_any}
 use Rattle.joint.proofs.restarts.forget_all.Goals as goal
-use Rattle.joint.proofs.restarts.forget_all.Goals.{Start}
 
 -- a transaction that was never opened has no phase to forget
 none_forgotten : (s : ℕ) → transaction_in no_transaction ≡ forgotten s (transaction_in no_transaction)
@@ -33,24 +30,8 @@ none_forgotten s = go s
     go zero = λ i. record { cohort = x.cohort; coordinator = x.coordinator; participant = same 0 i; marked = x.marked; sent = x.sent; entered = x.entered }
     go (suc n) = λ i. record { cohort = x.cohort; coordinator = x.coordinator; participant = same (suc n) i; marked = x.marked; sent = x.sent; entered = x.entered }
 
-size : (b : Start) → length b.args.transactions ≡ 8
-size b = search length-shown
-
-pub loop-i-init : goal.loop-i-init
-loop-i-init c = (pass_starts transaction_in _ no_transaction _, omega arith)
-
-pub loop-i-preserved : goal.loop-i-preserved
-loop-i-preserved c =
-    let s = c.args.site in
-    let now = c.loop-i.transactions in
-    let below = c.loop-i-test.true in
-    let p = c.loop-i.invariant.0 in
-    let n = size c.before.before.before.before in (
-      pass_stores transaction_in (forgotten s) no_transaction _ now c.loop-i.i c.forget.result p (omega (arith, below, n))
-          (c.forget.ensures ∙ ap (λ (x : Transaction). forgotten s (transaction_in x)) (read_any now c.loop-i.i _ no_transaction (omega (arith, below, n, p.length_kept)))),
-      omega (arith, below),
-    )
-
 pub returns : goal.returns
 returns c =
-    pass_ends transaction_in (forgotten c.args.site) no_transaction _ c.loop-i.transactions c.loop-i.i c.loop-i.invariant.0 (omega (arith, size c.before.before, c.loop-i-test.false)) (none_forgotten _)
+    let n : length c.args.transactions ≡ 8 = search length-shown in
+    let l = c.loop-transaction in
+    pass_ends transaction_in (forgotten c.args.site) no_transaction _ l.transaction-items l.transaction-index l.invariant (omega (arith, n, c.loop-transaction-test.false)) (none_forgotten _)

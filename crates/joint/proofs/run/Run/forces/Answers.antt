@@ -1,23 +1,15 @@
-use Rattle.joint.proofs.Engine.Reads.{get_or-within}
-use mathlib.Core.Path.{◌≡◌, refl, sym, ap, ◌∙◌}
-use lib.ListN.{length}
+use Prim.Native.Nat.{◌<◌}
+use mathlib.Core.Path.{◌≡◌}
 use native.Mathlib.Omega.{arith}
+use lib.ListN.{get_or}
+use borrow.Author.Rules.{rules}
 use Rattle.joint.specs.Totals.{highest, held}
 use Rattle.joint.specs.Answers.{forces_in}
-use Rattle.joint.proofs.Engine.Arrays.{length-shown, get_or_past}
-use Rattle.joint.proofs.Engine.Whole.{run-held}
 use Rattle.joint.proofs.run.Run.forces.Goals as goal
 
-pub returns-then-site-gt-LAST_SITE : goal.returns-then-site-gt-LAST_SITE
-unfolding forces_in
-returns-then-site-gt-LAST_SITE c =
-    let a = c.args in
-    let counters : length a.self.forces ≡ 9 = search length-shown in
-    sym (ap held (get_or_past a.self.forces a.site 0 (omega (arith, counters, c.if-site-gt-LAST_SITE.true))) ∙ unfold held highest in refl)
-
 pub returns : goal.returns
-unfolding forces_in
+unfolding forces_in held highest
 returns c =
-    let a = c.args in
-    let counters : length a.self.forces ≡ 9 = search length-shown in
-    get_or-within a.self.forces a.site _ 0 (omega (arith, counters, c.if-site-gt-LAST_SITE.false)) ∙ run-held a.self _ c.well_formed.0 a.site
+    let e : c.unwrap_or.result ≡ get_or c.args.self.now.forces c.args.site 0 = search rules in
+    let f : c.unwrap_or.result < 18446744073709551616 = c.unwrap_or.type_inv in
+    omega (arith, e, f)

@@ -1,19 +1,11 @@
-use Rattle.joint.proofs.Engine.Reads.{transaction_read, transaction_past}
-use mathlib.Core.Path.{◌≡◌, sym, ap, ◌∙◌}
-use lib.ListN.{length}
+use mathlib.Core.Path.{◌≡◌, ap}
+use lib.ListN.{get_or}
 use borrow.Author.Rules.{rules}
-use Rattle.joint.specs.Answers.{transaction_in}
-use Rattle.joint.proofs.Engine.Arrays.{length-shown}
+use Rattle.joint.specs.Answers.{transaction_in, run_in}
 use Rattle.joint.proofs.run.Run.transaction.Goals as goal
 
-pub returns-then-transaction-gt-LAST_TRANSACTION : goal.returns-then-transaction-gt-LAST_TRANSACTION
-returns-then-transaction-gt-LAST_TRANSACTION c =
-    let a = c.args in
-    let e : length a.self.transactions ≡ 8 = search length-shown in
-    ap transaction_in c.new.ensures ∙ sym (transaction_past a.self a.transaction e (search rules))
-
 pub returns : goal.returns
+unfolding run_in
 returns c =
-    let a = c.args in
-    let e : length a.self.transactions ≡ 8 = search length-shown in
-    transaction_read a.self a.transaction _ e (search rules)
+    let e : c.unwrap_or.result ≡ get_or c.args.self.now.transactions c.args.transaction c.new.result = search rules in
+    ap transaction_in (rw c.new.ensures at e)

@@ -7,8 +7,9 @@ use Rattle.codec.specs.Lists.{first}
 use Rattle.codec.specs.Records.{LogRecord}
 use Rattle.codec.specs.Image.{over_limit, log_refusals, write_refusals, write_unless, write_image}
 use Rattle.codec.specs.Answers.{written}
+use Rattle.joint.specs.State as plain
 use Rattle.joint.proofs.Engine.Arrays.{length-shown}
-use Rattle.joint.proofs.Engine.Whole.{log_read}
+use Rattle.joint.proofs.Engine.Reads.{site_read}
 use borrow.Author.Rules.{rules}
 use Rattle.joint.proofs.run.Run.write_log.Goals as goal
 
@@ -24,8 +25,7 @@ returns-then-site-gt-LAST_SITE c =
 pub returns : goal.returns
 returns c =
     let a = c.args in
-    let sites : length a.self.sites ≡ 9 = search length-shown in
-    let logs : length a.self.records ≡ 9 = search length-shown in
-    c.write_log.ensures
-    ∙ ap (λ (l : List LogRecord). write_image a.site l a.at a.buffer.now)
-    (log_read a.self _ c.well_formed.0 a.site _ _ _ sites logs (search rules) c.stable_count.ensures)
+    let r = a.self.now in
+    let sites : length r.sites ≡ 9 = search length-shown in
+    let logs : length r.records ≡ 9 = search length-shown in
+    c.write_log.ensures ∙ ap (λ (x : plain.Site). write_image a.site x.stable a.at a.buffer.now) (site_read r a.site _ _ sites logs (search rules))

@@ -25,12 +25,12 @@ returns c = λ rs t all fits.
     let r = room t (site_from s.self rs) e fits in
     let ps = put_at (count_of s.self) x rs in
     let all' : length ps ≡ 24 = put_length (count_of s.self) x rs ∙ all in
-    let forced = c.force_if-forced in
-    let two = forced.ensures ps t all' ∙ ap (site_after t (given e.forced (force ∷ []))) (c.append-first.ensures rs x refl all r.0) in
+    let forced = c.force_if in
+    let two = forced.ensures ps t all' ∙ ap (site_after t (given e.forced (force ∷ []))) (c.append.ensures rs x refl all r.0) in
     let at : count_of forced.result ≡ count_of s.self + cond (eqb e.appended 0) 0 1 =
     sym (log-counted forced.result ps all') ∙ ap size two ∙ size-first t e.appended _ e.forced (site_from s.self rs)
     ∙ ap (λ (n : ℕ). n + cond (eqb e.appended 0) 0 1) (log-counted s.self rs all) in
     rw (← at)
-    (c.append.ensures ps y refl all' (rw two r.1)
+    (c.append-2.ensures ps y refl all' (rw two r.1)
     ∙ ap (site_after t (appending e.last (fields_by e.last 0 0))) two
     ∙ sym (site-row t (site_from s.self rs) e))

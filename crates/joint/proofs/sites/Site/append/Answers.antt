@@ -1,29 +1,19 @@
-use Prim.Native.Nat.{◌<◌}
-use mathlib.Core.Path.{◌≡◌}
+use mathlib.Core.Path.{refl, ◌∙◌}
 use native.Mathlib.Omega.{arith}
-use borrow.Author.Tests.{eqb-false, leb-false}
-use lib.Dec.{eqb, leb}
-use Rattle.codec.specs.Laws.Tests.{or_none}
+use borrow.Author.Tests.{eq-eqb, ne_eqb, le-leb}
 use Rattle.joint.specs.Inside.{count_of}
 use Rattle.joint.proofs.Engine.Sites.{kept_stands, put_stands}
 use Rattle.joint.proofs.sites.Site.append.Goals as goal
-use Rattle.joint.proofs.sites.Site.append.Goals.{After-struct_known-1}
+use Rattle.joint.proofs.sites.Site.append.Goals.{then-kind-eq0-via-then-kind-eq0, then-kind-eq0-via-else-kind-eq0+then-count-ge-COORDINATOR_MOST}
 
--- a record, and room for it
-left : (c : After-struct_known-1) → let s = c.args in (s.kind ≡ 0 → ⊥) × (count_of s.self < 24)
-left c =
-    let s = c.args in
-    let n = c.count in
-    let h = or_none (eqb s.kind 0) (leb 24 n.result) c.if-kind-count.false in
-    (eqb-false s.kind 0 h.0, rw n.ensures at (leb-false 24 n.result h.1))
-
-pub returns-then-kind-count : goal.returns-then-kind-count
-returns-then-kind-count c = λ rs x e all. let s = c.args in
-    rw (← e) (λ fits. kept_stands s.self rs x all fits (rw (← c.count.ensures, e) c.if-kind-count.true))
-
-pub overflow_add-result : goal.overflow_add-result
-overflow_add-result c = omega (arith, left c)
+pub returns-then-kind-eq0 : goal.returns-then-kind-eq0
+returns-then-kind-eq0 c = λ rs x e all.
+    let s = c.args.self in
+    rw (← e) (λ fits. elim c.then-kind-eq0.branch [
+      | then-kind-eq0-via-then-kind-eq0 w ↦ kept_stands s rs x all fits (rw (eq-eqb x.kind 0 (e ∙ w.if-kind-eq0.true)) refl)
+      | then-kind-eq0-via-else-kind-eq0+then-count-ge-COORDINATOR_MOST w ↦ kept_stands s rs x all fits (rw (ne_eqb x.kind 0 (rw e w.if-kind-eq0.false), le-leb 24 (count_of s) (omega (arith, w.count.ensures))) refl)
+    ])
 
 pub returns : goal.returns
 returns c = λ rs x e all. let s = c.args in
-    rw (← e) (λ fits. put_stands s.self rs x all fits (rw e (left c).0) (left c).1)
+    rw (← e) (λ fits. put_stands s.self rs x all fits (rw e c.if-kind-eq0.false) (omega (arith, c.count.ensures, c.if-count-ge-COORDINATOR_MOST.false)))

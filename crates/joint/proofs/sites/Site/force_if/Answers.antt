@@ -7,6 +7,6 @@ pub returns-then-forced : goal.returns-then-forced
 unfolding given site_after
 returns-then-forced c = λ rs t all. rw c.if-forced.true (c.force.ensures rs all)
 
-pub returns : goal.returns
+pub returns-else-forced : goal.returns-else-forced
 unfolding given site_after
-returns c = λ rs t all. rw c.if-forced.false refl
+returns-else-forced c = λ rs t all. rw c.if-forced.false refl
