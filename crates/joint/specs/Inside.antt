@@ -85,7 +85,7 @@ Here x w s = (rs : List Record) × ((length rs ≡ 24) × (site_from x rs ≡ w.
 
 unfoldable pub then_in : ℕ → ℕ → Then → plain.Run → plain.Run
 then_in s t follows.Same = λ r. r
-then_in s t (follows.Coordinator c out) = at_transaction t (with_coordinator 0 (part_in c out))
+then_in s t (follows.Coordinator c) = at_transaction t (with_coordinator 0 (part_in c.phase c.taken_out))
 then_in s t (follows.Participant c) = at_transaction t (with_participant s (participant_in c))
 then_in s t (follows.Opened m c) = at_transaction t (opened_as (record { members = m; presume_commit = c }))
 then_in s t (follows.Discarded last) = λ r. forgotten_unless (not last) t s (at_site s (trimmed t) r)
@@ -95,7 +95,7 @@ then_in s t follows.Marked = at_transaction t (with_marked s)
 -- the same on the site, and on the transaction
 unfoldable pub then_site : ℕ → Then → plain.Site → plain.Site
 then_site t follows.Same a = a
-then_site t (follows.Coordinator c out) a = a
+then_site t (follows.Coordinator c) a = a
 then_site t (follows.Participant c) a = a
 then_site t (follows.Opened m c) a = a
 then_site t (follows.Discarded last) a = trimmed t a
@@ -104,7 +104,7 @@ then_site t follows.Marked a = a
 
 unfoldable pub then_transaction : ℕ → Then → plain.Transaction → plain.Transaction
 then_transaction s follows.Same x = x
-then_transaction s (follows.Coordinator c out) x = with_coordinator 0 (part_in c out) x
+then_transaction s (follows.Coordinator c) x = with_coordinator 0 (part_in c.phase c.taken_out) x
 then_transaction s (follows.Participant c) x = with_participant s (participant_in c) x
 then_transaction s (follows.Opened m c) x = opened_as (record { members = m; presume_commit = c }) x
 then_transaction s (follows.Discarded last) x = cond last (with_participant s ParticipantPhase.unknown x) x
@@ -113,7 +113,7 @@ then_transaction s follows.Marked x = with_marked s x
 
 unfoldable pub goes_down : Then → Bool
 goes_down follows.Same = false
-goes_down (follows.Coordinator c out) = false
+goes_down (follows.Coordinator c) = false
 goes_down (follows.Participant c) = false
 goes_down (follows.Opened m c) = false
 goes_down (follows.Discarded last) = false
@@ -123,7 +123,7 @@ goes_down follows.Marked = false
 -- records may move: one is dropped, or some of the unforced ones survive
 unfoldable pub moves : Then → Bool
 moves follows.Same = false
-moves (follows.Coordinator c out) = false
+moves (follows.Coordinator c) = false
 moves (follows.Participant c) = false
 moves (follows.Opened m c) = false
 moves (follows.Discarded last) = true

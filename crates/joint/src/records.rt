@@ -17,9 +17,8 @@ use codec::log::Log;
 use codec::message::Parts;
 use codec::record::Record;
 use codec::writer::write_image;
-use site::coordinator::Coordinator;
+use site::cohort::Cohort;
 use site::effects::Effects;
-use site::phases::CoordinatorPhase;
 
 #[derive(Clone, Copy)]
 pub struct Records {
@@ -212,26 +211,22 @@ impl Records {
     }
 
     // The cohort in the oldest of the first `count` records of a transaction that is Commit, or that is Init.
-    pub(crate) fn cohort(self, transaction: u8, commit: bool, count: usize) -> Coordinator
+    pub(crate) fn cohort(self, transaction: u8, commit: bool, count: usize) -> Cohort
         requires { count ≤ 24 }
         ensures { cohort_in result ≡ recorded_cohort transaction (cond commit 2 1) (take count (map record_in self.of)) }
     {
         let kind = if commit { Record::COMMIT } else { Record::INIT };
         let oldest = self.oldest(transaction, kind, count);
         if count <= oldest {
-            return Coordinator {
-                phase: CoordinatorPhase::Unknown,
+            return Cohort {
                 members: 0,
                 presume_commit: 0,
-                taken_out: 0,
             };
         }
         let x = self.of[oldest];
-        Coordinator {
-            phase: CoordinatorPhase::Unknown,
+        Cohort {
             members: x.first,
             presume_commit: x.second,
-            taken_out: 0,
         }
     }
 

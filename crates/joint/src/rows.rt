@@ -14,9 +14,9 @@ ghost use Rattle.joint.specs.Inside.{plan_in, found_in, writes_log, goes_down, M
 use crate::records::Records;
 use crate::transactions::Transaction;
 use codec::record::Record;
-use site::coordinator::CoordinatorAnswer;
+use site::coordinator::{Coordinator, CoordinatorState};
 use site::effects::Effects;
-use site::participant::{Participant, ParticipantAnswer};
+use site::participant::Participant;
 use site::phases::{CoordinatorPhase, ParticipantPhase};
 use site::record_kinds::has;
 
@@ -26,15 +26,9 @@ use site::record_kinds::has;
 #[derive(Clone, Copy)]
 pub enum Then {
     Same,
-    Coordinator {
-        phase: CoordinatorPhase,
-        taken_out: u8,
-    },
+    Coordinator(CoordinatorState),
     Participant(ParticipantPhase),
-    Opened {
-        members: u8,
-        presume_commit: u8,
-    },
+    Opened { members: u8, presume_commit: u8 },
     Discarded(bool),
     Down(u8),
     Marked,
@@ -82,7 +76,7 @@ impl Row {
         let coordinator = transaction.coordinator();
         Participant {
             phase: transaction.participant_phase(number),
-            presumption: coordinator.presumption(number),
+            presumption: coordinator.cohort.presumption(number),
             number,
             marked: transaction.marked(number),
         }
@@ -94,15 +88,13 @@ impl Row {
         ensures { (w : plain.Run) (t : ℕ) → transaction_in transaction ≡ w.transaction t → found_in 0 t result ≡ plan.step w t 0 (input_of kind participant) }
     {
         let coordinator = transaction.coordinator();
-        let CoordinatorAnswer::Row(row) = coordinator.step(kind, participant) else {
+        let Ok(found) = coordinator.step(kind, participant) else {
             return None;
         };
+        let row = found?;
         Some(Row {
             effects: row.effects,
-            then: Then::Coordinator {
-                phase: row.phase,
-                taken_out: row.taken_out,
-            },
+            then: Then::Coordinator(row.after),
         })
     }
 
@@ -112,12 +104,13 @@ impl Row {
         ensures { (w : plain.Run) (t : ℕ) → transaction_in transaction ≡ w.transaction t → found_in number t result ≡ plan.step w t number (input_of kind number) }
     {
         let participant = Row::participant(transaction, number);
-        let ParticipantAnswer::Row(row) = participant.step(kind) else {
+        let Ok(found) = participant.step(kind) else {
             return None;
         };
+        let row = found?;
         Some(Row {
             effects: row.effects,
-            then: Then::Participant(row.phase),
+            then: Then::Participant(row.after),
         })
     }
 
@@ -146,23 +139,26 @@ impl Row {
         ensures { (w : plain.Run) → transaction_in transaction ≡ w.transaction t → ((k : ℕ) → k ≤ 7 → has_kind kinds k ≡ holds t k (w.site site).stable) → take count (map record_in records.of) ≡ (w.site site).stable → plan_in site t result ≡ plan.restarting w site t }
     {
         if site == 0 {
-            let coordinator = records.cohort(t, has(kinds, Record::COMMIT), count);
+            let coordinator = Coordinator {
+                cohort: records.cohort(t, has(kinds, Record::COMMIT), count),
+                state: CoordinatorState {
+                    phase: CoordinatorPhase::Unknown,
+                    taken_out: 0,
+                },
+            };
             let row = coordinator.restart(kinds);
             return Row {
                 effects: row.effects,
-                then: Then::Coordinator {
-                    phase: row.phase,
-                    taken_out: row.taken_out,
-                },
+                then: Then::Coordinator(row.after),
             };
         }
         let participant = Row::participant(transaction, site);
-        let ParticipantAnswer::Row(row) = participant.restart(kinds) else {
+        let Ok(row) = participant.restart(kinds) else {
             return Row::NOTHING;
         };
         Row {
             effects: row.effects,
-            then: Then::Participant(row.phase),
+            then: Then::Participant(row.after),
         }
     }
 }

@@ -13,7 +13,8 @@ use crate::rows::Then;
 use crate::run::Run;
 use codec::message::Parts;
 use codec::sets::{either, member};
-use site::coordinator::Coordinator;
+use site::cohort::Cohort;
+use site::coordinator::{Coordinator, CoordinatorState};
 use site::effects::Effects;
 use site::phases::{CoordinatorPhase, ParticipantPhase};
 use site::presumption::Outcome;
@@ -91,15 +92,17 @@ impl Transaction {
 
     // As its step takes it.
     pub(crate) fn coordinator(self) -> Coordinator
-        ensures { (cohort_in result ≡ (transaction_in self).cohort) × (coordinator_state_in result ≡ (transaction_in self).coordinator) }
+        ensures { (cohort_in result.cohort ≡ (transaction_in self).cohort) × (coordinator_state_in result.state ≡ (transaction_in self).coordinator) }
     {
-        let part = self.part;
-        let phase = part.phase;
         Coordinator {
-            phase,
-            members: part.members,
-            presume_commit: part.presume_commit,
-            taken_out: self.taken_out,
+            cohort: Cohort {
+                members: self.part.members,
+                presume_commit: self.part.presume_commit,
+            },
+            state: CoordinatorState {
+                phase: self.part.phase,
+                taken_out: self.taken_out,
+            },
         }
     }
 
@@ -245,7 +248,7 @@ impl Transaction {
         ensures { transaction_in result ≡ then_transaction site then (transaction_in self) }
     {
         match then {
-            Then::Coordinator { phase, taken_out } => self.with_coordinator(phase, taken_out),
+            Then::Coordinator(state) => self.with_coordinator(state.phase, state.taken_out),
             Then::Participant(phase) => self.with_participant(site as usize, phase),
             Then::Opened {
                 members,

@@ -37,7 +37,7 @@ use Rattle.joint.proofs.Engine.Restarts.{resumes, resumed_by, resumed-joined}
 stays_up : (s t : ℕ) (h : Then) → ((x : plain.Run) → (then_in s t h x).site ≡ x.site) → goes_down h ≡ false
 unfolding then_in goes_down down stopped fresh
 stays_up s t follows.Same k = refl
-stays_up s t (follows.Coordinator c out) k = refl
+stays_up s t (follows.Coordinator c) k = refl
 stays_up s t (follows.Participant c) k = refl
 stays_up s t (follows.Opened m c) k = refl
 stays_up s t (follows.Discarded b) k = refl

@@ -21,7 +21,7 @@ use Rattle.joint.proofs.Engine.Effects.{site-row, kind-none}
 pub unmoved : (x : Then) → ((last : Bool) → x ≡ follows.Discarded last → ⊥) → ((keep : ℕ) → x ≡ follows.Down keep → ⊥) → moves x ≡ false
 unfolding moves
 unmoved follows.Same off cut = refl
-unmoved (follows.Coordinator c out) off cut = refl
+unmoved (follows.Coordinator c) off cut = refl
 unmoved (follows.Participant c) off cut = refl
 unmoved (follows.Opened m c) off cut = refl
 unmoved (follows.Discarded last) off cut = absurd (off last refl)
@@ -38,7 +38,7 @@ pub unchanged : (x : Then) → ((keep : ℕ) → x ≡ follows.Down keep → ⊥
     → (t : ℕ) (a : Site) → a ≡ then_site t x a
 unfolding moves then_site
 unchanged follows.Same off d t a = refl
-unchanged (follows.Coordinator c out) off d t a = refl
+unchanged (follows.Coordinator c) off d t a = refl
 unchanged (follows.Participant c) off d t a = refl
 unchanged (follows.Opened m c) off d t a = refl
 unchanged (follows.Discarded last) off d t a = absurd (clash d)

@@ -4,31 +4,29 @@ use mathlib.Core.Path.{◌≡◌, refl, sym, ap, ap₂, ◌∙◌}
 use mathlib.Core.Bool.{Bool, true, false, cond, ◌&&◌, ◌||◌}
 use mathlib.Core.List.{List, []}
 use mathlib.Core.Option.{Option, none, some}
+use Rattle.std.specs.Prelude as std
 use lib.Dec.{eqb, ltb, leb}
 use native.Mathlib.Omega.{arith}
 use borrow.Author.Tests.{le-ltb}
 use Rattle.codec.specs.Lists.{any}
 use Rattle.codec.specs.Sets.{participants, member}
 use Rattle.codec.specs.Laws.Tests.{below_at, true_of}
-use Rattle.site.specs.Step.{Row, Effect, Answer, refused, no_row, row, answered, answer_if, given}
+use Rattle.site.specs.Step as step_of
+use Rattle.site.specs.Step.{Row, Effect, Answer, refused, no_row, row, answer_if, given}
 use Rattle.site.specs.Cohort.{Cohort, presumption_of}
 use Rattle.site.specs.Coordinator as part
 use Rattle.site.specs.Coordinator.{coordinator_step, coordinator_restart}
 use Rattle.site.specs.Participant.{participant_step, participant_restart}
 use Rattle.site.specs.Numbers.{input_of, receives, coordinator_answer, participant_answer, participant_restarted, appending, entry_of}
-use Rattle.site.specs.Answers.{coordinator_state_in, participant_in, presumption_in, cohort_in, effects_in, closing, sending, coordinator_row_in, coordinator_answer_in, participant_answer_in}
+use Rattle.site.specs.Answers.{coordinator_state_in, participant_in, presumption_in, cohort_in, effects_in, closing, sending, answer_in, coordinator_row_in, coordinator_answer_in, participant_row_in, participant_answer_in, participant_restart_in}
 use Rattle.site.specs.Laws.Remaining.{restart_by}
 use Rattle.site.specs.declared.effects.Effects.{Effects}
 use Rattle.site.specs.declared.coordinator.Coordinator.{Coordinator}
-use Rattle.site.specs.declared.coordinator.CoordinatorRow.{CoordinatorRow}
-use Rattle.site.specs.declared.coordinator.CoordinatorAnswer.{CoordinatorAnswer}
-use Rattle.site.specs.declared.coordinator.CoordinatorAnswer.TheVariants as coordinator
+use Rattle.site.specs.declared.coordinator.CoordinatorState.{CoordinatorState}
 use Rattle.site.specs.declared.participant.Participant.{Participant}
-use Rattle.site.specs.declared.participant.ParticipantRow.{ParticipantRow}
-use Rattle.site.specs.declared.participant.ParticipantAnswer.{ParticipantAnswer}
-use Rattle.site.specs.declared.phases.CoordinatorPhase.{CoordinatorPhase}
+use Rattle.site.specs.declared.row.Row as answered
+use Rattle.site.specs.declared.row.Refused.{Refused}
 use Rattle.site.specs.declared.phases.ParticipantPhase.{ParticipantPhase}
-use Rattle.site.specs.declared.participant.ParticipantAnswer.TheVariants as participant
 use Rattle.site.specs.Laws.Order.{ordered-none}
 use Rattle.joint.specs.State as plain
 use Rattle.joint.specs.State.{holds, recorded_cohort, update, with_coordinator, with_participant, with_marked, at_site, at_transaction, forgotten, stopped, down, perform_all}
@@ -55,7 +53,7 @@ no_effects_lem t = rw (ordered-none t 0) refl
 pub not-down : (th : Then) → ((keep : ℕ) → th ≡ follows.Down keep → ⊥) → false ≡ goes_down th
 unfolding goes_down
 not-down follows.Same k = refl
-not-down (follows.Coordinator c out) k = refl
+not-down (follows.Coordinator c) k = refl
 not-down (follows.Participant c) k = refl
 not-down (follows.Opened m c) k = refl
 not-down (follows.Discarded b) k = refl
@@ -63,12 +61,12 @@ not-down (follows.Down keep) k = absurd (k keep refl)
 not-down follows.Marked k = refl
 
 pub kept_transaction : (s : ℕ) (th : Then) (x : plain.Transaction)
-    → ((p : CoordinatorPhase) (out : ℕ) → th ≡ follows.Coordinator p out → ⊥) → ((p : ParticipantPhase) → th ≡ follows.Participant p → ⊥)
+    → ((p : CoordinatorState) → th ≡ follows.Coordinator p → ⊥) → ((p : ParticipantPhase) → th ≡ follows.Participant p → ⊥)
     → ((m c : ℕ) → th ≡ follows.Opened m c → ⊥) → ((last : Bool) → th ≡ follows.Discarded last → ⊥) → (th ≡ follows.Marked → ⊥)
     → x ≡ then_transaction s th x
 unfolding then_transaction
 kept_transaction s follows.Same x a b c d e = refl
-kept_transaction s (follows.Coordinator p out) x a b c d e = absurd (a p out refl)
+kept_transaction s (follows.Coordinator p) x a b c d e = absurd (a p refl)
 kept_transaction s (follows.Participant p) x a b c d e = absurd (b p refl)
 kept_transaction s (follows.Opened m n) x a b c d e = absurd (c m n refl)
 kept_transaction s (follows.Discarded last) x a b c d e = absurd (d last refl)
@@ -90,7 +88,7 @@ module _ (s t : ℕ) (a : plain.Site) (x : plain.Transaction) (w : plain.Run) wh
       }
   unfolding then_in then_site then_transaction goes_down forgotten_unless at_site down
   then_placed follows.Same = refl
-  then_placed (follows.Coordinator c out) = placed_changed s t (with_coordinator 0 (part_in c out)) a x w
+  then_placed (follows.Coordinator c) = placed_changed s t (with_coordinator 0 (part_in c.phase c.taken_out)) a x w
   then_placed (follows.Participant c) = placed_changed s t (with_participant s (participant_in c)) a x w
   then_placed (follows.Opened m c) = placed_changed s t (plan.opened_as (record { members = m; presume_commit = c })) a x w
   then_placed (follows.Discarded true) =
@@ -131,28 +129,22 @@ row_of no_row = none
 row_of (row r) = some r
 
 row-answered : {P : Type 0} (o : Option (Row P)) (b : Bool) → b ≡ true → row_of (answer_if b o) ≡ o
-unfolding answer_if answered
+unfolding answer_if step_of.answered
 row-answered none true e = refl
 row-answered (some r) true e = refl
 row-answered o false e = cc
 
-pub no_coordinator-row : (t : ℕ) (a : CoordinatorAnswer) → ((r : CoordinatorRow) → a ≡ coordinator.Row r → ⊥) → none ≡ row_of (coordinator_answer_in t a)
-no_coordinator-row t (coordinator.Row r) k = absurd (k r refl)
-no_coordinator-row t coordinator.NoRow k = refl
-no_coordinator-row t coordinator.Refused k = refl
-
-pub no_participant-row : (t : ℕ) (a : ParticipantAnswer) → ((r : ParticipantRow) → a ≡ participant.Row r → ⊥) → none ≡ row_of (participant_answer_in t a)
-no_participant-row t (participant.Row r) k = absurd (k r refl)
-no_participant-row t participant.NoRow k = refl
-no_participant-row t participant.Refused k = refl
+-- what site's step gives
+abbrev pub Answered : Type 0 → Type 0
+Answered S = std.Result (std.Option (answered.Row S)) Refused
 
 -- ---- the coordinator
 
 -- c: the coordinator, as the program hands it to its step
-pub coordinator_found : (x : plain.Transaction) (c : Coordinator) → (cohort_in c ≡ x.cohort) × (coordinator_state_in c ≡ x.coordinator)
+pub coordinator_found : (x : plain.Transaction) (c : Coordinator) → (cohort_in c.cohort ≡ x.cohort) × (coordinator_state_in c.state ≡ x.coordinator)
     → (w : plain.Run) (t : ℕ) → x ≡ w.transaction t
-    → (kind p : ℕ) (a : CoordinatorAnswer) → (receives 0 kind && (leb 16 kind || member p x.cohort.members)) ≡ true
-    → coordinator_answer_in t a ≡ coordinator_answer t (cohort_in c) kind p (coordinator_state_in c)
+    → (kind p : ℕ) (a : Answered CoordinatorState) → (receives 0 kind && (leb 16 kind || member p x.cohort.members)) ≡ true
+    → coordinator_answer_in t a ≡ coordinator_answer t (cohort_in c.cohort) kind p (coordinator_state_in c.state)
     → planned 0 t (with_coordinator 0) (row_of (coordinator_answer_in t a)) ≡ step w t 0 (input_of kind p)
 unfolding step coordinator_answer
 coordinator_found x c stands w t own kind p a h e =
@@ -165,7 +157,7 @@ unfolding coordinator_restart
 same_kinds t a b told q = rw (q 1 (omega arith), q 2 (omega arith), q 3 (omega arith), q 4 (omega arith)) refl
 
 -- g: the cohort in the record from which it resumes
-pub coordinator_restarts : (w : plain.Run) (t : ℕ) (f : ℕ → Bool) (g : Cohort) (r : CoordinatorRow) → coordinator_row_in t r ≡ coordinator_restart t f (λ k. g)
+pub coordinator_restarts : (w : plain.Run) (t : ℕ) (f : ℕ → Bool) (g : Cohort) (r : answered.Row CoordinatorState) → coordinator_row_in t r ≡ coordinator_restart t f (λ k. g)
     → ((k : ℕ) → k ≤ 7 → f k ≡ holds t k (w.site 0).stable)
     → g ≡ recorded_cohort t (cond (f 2) 2 1) (w.site 0).stable
     → row_plan 0 t (with_coordinator 0) (coordinator_row_in t r) ≡ restarting w 0 t
@@ -204,7 +196,7 @@ module _ (x : Transaction) (w : plain.Run) (t : ℕ) (own : transaction_in x ≡
   -- r: this participant, as the program hands it to its step
   module _ (r : Participant) (number : r.number ≡ n) (phase : participant_in r.phase ≡ (transaction_in x).participant n)
       (presumption : presumption_in r.presumption ≡ presumption_of (transaction_in x).cohort n) (mark : r.marked ≡ (transaction_in x).marked n) where
-    pub participant_found : (kind : ℕ) (a : ParticipantAnswer) → receives 1 kind ≡ true
+    pub participant_found : (kind : ℕ) (a : Answered ParticipantPhase) → receives 1 kind ≡ true
         → participant_answer_in t a ≡ participant_answer (presumption_in r.presumption) r.number r.marked kind (participant_in r.phase)
         → planned n t (with_participant n) (row_of (participant_answer_in t a)) ≡ step w t n (input_of kind n)
     unfolding participant_answer
@@ -213,9 +205,9 @@ module _ (x : Transaction) (w : plain.Run) (t : ℕ) (own : transaction_in x ≡
         ∙ ap (λ (y : plain.Transaction). planned n t (with_participant n) (participant_step (presumption_of y.cohort n) n (y.marked n) (input_of kind n) (y.participant n))) own
         ∙ step_of_participant w t n kind low
 
-    pub participant_restarts : (f : ℕ → Bool) (a : ParticipantAnswer) → participant_answer_in t a ≡ participant_restarted (presumption_in r.presumption) r.number f
+    pub participant_restarts : (f : ℕ → Bool) (a : std.Result (answered.Row ParticipantPhase) Refused) → participant_restart_in t a ≡ participant_restarted (presumption_in r.presumption) r.number f
         → ((k : ℕ) → k ≤ 7 → f k ≡ holds t k (w.site n).stable)
-        → planned n t (with_participant n) (row_of (participant_answer_in t a)) ≡ some (restarting w n t)
+        → planned n t (with_participant n) (row_of (participant_restart_in t a)) ≡ some (restarting w n t)
     unfolding participant_restarted planned participant_restart
     participant_restarts f a e h =
         ap (planned n t (with_participant n)) (ap row_of (rw (number, presumption, h 5 (omega arith), h 6 (omega arith), h 7 (omega arith)) at e) ∙ row-answered _ _ numbered)
