@@ -1,6 +1,6 @@
 -- The steps by the kind's number, from what the program has tested. Assumes nothing.
-use mathlib.Core.Path.{◌≡◌, refl, ap, sym, ◌∙◌}
-use mathlib.Core.Bool.{Bool, true, false, not, ◌||◌, and-false, or-true, ◌&&◌, false≢true}
+use mathlib.Core.Path.{◌≡◌, refl, ap, ◌∙◌}
+use mathlib.Core.Bool.{Bool, true, false, not, ◌||◌, and-false, or-true, ◌&&◌}
 use mathlib.Core.Logic.{◌⊎◌, inl, inr}
 use Prim.Native.Nat.{ℕ, ◌<◌}
 use lib.Dec.{eqb, leb, ltb}
@@ -9,7 +9,7 @@ use borrow.Author.Tests.{ne_eqb, lt-ltb, le-ltb}
 use Rattle.codec.specs.Lists.{any}
 use Rattle.codec.specs.Sets.{participants, member}
 use Rattle.codec.specs.Laws.Tests.{alike, alike_eq, below_at}
-use Rattle.codec.specs.Laws.Members.{no_participant, numbered, member-participant}
+use Rattle.codec.specs.Laws.Members.{no_participant, member-participant}
 use Rattle.std.specs.Prelude.{Option, None, Some, Result, Ok}
 use Rattle.site.specs.Step.{refused, row, answered, answer_if}
 use Rattle.site.specs.Laws.Sets.{Numbered}
