@@ -20,6 +20,7 @@ use codec::sets::{both, member, part};
 const REFUSED: u64 = 1;
 
 // The bytes of a result, the lowest first: answer 0, phase, waiting set, set taken out, and the numbers of the row.
+#[tactic(auto, unfolding(crate::specs::Numbers::packed))]
 fn packed(phase: u8, waiting: u8, taken_out: u8, row: Summary) -> u64
     requires { (row.forced ≤ 1) × (row.entered ≤ 2) × (row.message ≤ 7) }
     ensures { result ≡ numbers.packed (0 ∷ phase ∷ waiting ∷ taken_out ∷ (row.first + 16 * row.last) ∷ (row.forced + 2 * row.entered) ∷ row.message ∷ row.to ∷ []) }

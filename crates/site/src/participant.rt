@@ -87,6 +87,7 @@ impl Own {
     }
 
     // One that only looked sends a read-only vote, writes nothing and is Unknown.
+    #[tactic(auto, unfolding(crate::specs::Participant::first_vote, crate::specs::Step::messages))]
     fn first_vote(self, marked: bool) -> Row<ParticipantPhase>
         ensures { (t : ℕ) → participant_row_in t result ≡ participant.first_vote (presumption_in self.presumption) self.number marked }
     {
