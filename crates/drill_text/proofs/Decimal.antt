@@ -114,15 +114,24 @@ module _ (k n c : ℕ) (h : (48 ≤ c) × (c ≤ 57)) where
       let last : 48 + with_digit n c % 10 ≡ c = omega (arith, h.0, h.1) in
       decimal_more k (with_digit n c) (omega arith) ∙ rw (front, last, e)
 
-digit_in : (l : List ℕ) → AllDigits l → (k : ℕ) → k < length l → (48 ≤ get_or l k 0) × (get_or l k 0 ≤ 57)
-digit_in l digits k h = let e = get_or_default_zero l k 48 h in rw e at (digits k)
+-- a character that is a digit
+abbrev pub Digit : ℕ → Type 0
+Digit c = (48 ≤ c) × (c ≤ 57)
+
+pub five_digits : {a b c d e : ℕ} → Digit a → Digit b → Digit c → Digit d → Digit e → AllDigits (a ∷ b ∷ c ∷ d ∷ e ∷ [])
+five_digits p q r s t zero = p
+five_digits p q r s t (suc zero) = q
+five_digits p q r s t (suc (suc zero)) = r
+five_digits p q r s t (suc (suc (suc zero))) = s
+five_digits p q r s t (suc (suc (suc (suc zero)))) = t
+five_digits p q r s t (suc (suc (suc (suc (suc k))))) = (omega arith, omega arith)
 
 module _ (l : List ℕ) (five : length l ≡ 5) (digits : AllDigits l) where
   abbrev at : ℕ → ℕ
   at k = get_or l k 0
 
-  digit : (k : ℕ) → k < 5 → (48 ≤ at k) × (at k ≤ 57)
-  digit k h = digit_in l digits k (omega (arith, five))
+  pub digit : (k : ℕ) → k < 5 → Digit (at k)
+  digit k h = let e = get_or_default_zero l k 48 (omega (arith, five)) in rw e at (digits k)
 
   spelled : l ≡ at 0 ∷ at 1 ∷ at 2 ∷ at 3 ∷ at 4 ∷ []
   spelled = text_from_reads l (at 0 ∷ at 1 ∷ at 2 ∷ at 3 ∷ at 4 ∷ []) five (refl, (refl, (refl, (refl, (refl, tt)))))
@@ -162,73 +171,16 @@ module _ (l : List ℕ) (five : length l ≡ 5) (digits : AllDigits l) where
       let four = next_digit 3 _ (at 3) (digit 3 (omega arith)) _ (omega (arith, a.0, n)) three in
       ap (λ (m : List ℕ). decimal 5 (value m)) spelled ∙ next_digit 4 _ (at 4) (digit 4 (omega arith)) _ (omega (arith, a.0, n)) four
 
--- ---- one more
-
-value_from-append : (n : ℕ) (cs ds : List ℕ) → value_from n (cs ++ ds) ≡ value_from (value_from n cs) ds
-unfolding value_from
-value_from-append n [] ds = refl
-value_from-append n (c ∷ cs) ds = value_from-append (with_digit n c) cs ds
-
-tenfold : (n c : ℕ) → 10 * n ≤ with_digit n c
-tenfold n c = omega arith
-
-value_from-least : (n : ℕ) (cs : List ℕ) → n * tens (length cs) ≤ value_from n cs
-unfolding value_from
-value_from-least n [] = omega arith
-value_from-least n (c ∷ cs) = omega (arith, value_from-least (with_digit n c) cs, mul-le-mul_right (tens (length cs)) (tenfold n c))
-
--- five digits of which those from `at` on became 0, so that one more is carried to those before: they stood for n
-pub record Carried (n at : ℕ) (digits : List ℕ) : Type 0 where
-  pub most : at ≤ 5
-  pub size : length digits ≡ 5
-  pub carried : n + 1 ≡ value_from (value (take at digits) + 1) (drop at digits)
-
-pub carried_start : (l : List ℕ) → length l ≡ 5 → Carried (value l) 5 l
-unfolding value_from
-carried_start l e =
-    record { most = omega arith; size = e; carried = rw (drop_of_length-le l {i = 5} (omega (arith, e)), take_all 5 l (omega (arith, e))) }
-
-module _ {n at : ℕ} {l : List ℕ} (c : Carried n at l) (i : ℕ) (p : at ≡ i + 1) where
-  abbrev here : ℕ
-  here = get_or l i 0
-
-  -- one is added to the digits up to i
-  added : n + 1 ≡ value_from (with_digit (value (take i l)) here + 1) (drop (i + 1) l)
+  -- the number
+  pub value_is : value l + 533328 ≡ 10000 * at 0 + 1000 * at 1 + 100 * at 2 + 10 * at 3 + at 4
   unfolding value_from
-  added =
-      let inside : i < length l = omega (arith, c.size, c.most, p) in
-      rw (take_more l i 0 inside, value_from-append 0 (take i l) (here ∷ [])) at (rw p at c.carried)
+  value_is =
+      ap (λ (m : List ℕ). value m + 533328) spelled
+      ∙ omega (arith, digit 0 (omega arith), digit 1 (omega arith), digit 2 (omega arith), digit 3 (omega arith), digit 4 (omega arith))
 
-  stored_digit : (d : ℕ) → value (set l i d) ≡ value_from (value (take i l)) (d ∷ drop (i + 1) l)
-  stored_digit d =
-      let inside : i < length l = omega (arith, c.size, c.most, p) in
-      let front = take-append-drop i (set l i d) in
-      ap value (sym front)
-      ∙ value_from-append 0 (take i (set l i d)) (drop i (set l i d))
-      ∙ rw (set_front l i d inside, take-set-le i l i d (omega arith), add-one) refl
-
-  pub carried_next : AllDigits l → 57 ≤ here → Carried n i (set l i 48)
-  unfolding value_from
-  carried_next digits e =
-      let inside : i < length l = omega (arith, c.size, c.most, p) in
-      let digit = digit_in l digits i inside in
-      let same : with_digit (value (take i l)) here + 1 ≡ with_digit (value (take i l) + 1) 48 = omega (arith, e, digit.1) in
-      record {
-        most = omega (arith, c.most, p);
-        size = simp length-set c.size;
-        carried = added ∙ rw (set_front l i 48 inside, take-set-le i l i 48 (omega arith), same, add-one i) refl;
-      }
-
-  pub carried_last : AllDigits l → value (set l i (here + 1)) ≡ n + 1
-  unfolding value_from
-  carried_last digits =
-      let digit = digit_in l digits i (omega (arith, c.size, c.most, p)) in
-      let same : with_digit (value (take i l)) (here + 1) ≡ with_digit (value (take i l)) here + 1 = omega (arith, digit.0) in
-      stored_digit (here + 1) ∙ rw (value_from, same) (sym added)
-
-pub carried_end : {n at : ℕ} {l : List ℕ} → Carried n at l → at ≤ 0 → 99999 ≤ n
-unfolding value_from
-carried_end {n} {at} {l} c h =
-    let none : at ≡ 0 = omega arith in
-    let least : 1 * tens 5 ≤ value_from 1 l = rw c.size at (value_from-least 1 l) in
-    omega (arith, rw none at c.carried, least)
+-- five digits that show n
+pub digits_of : {a b c d e : ℕ} → Digit a → Digit b → Digit c → Digit d → Digit e → (n : ℕ) → n + 533328 ≡ 10000 * a + 1000 * b + 100 * c + 10 * d + e
+    → AllDigits (a ∷ b ∷ c ∷ d ∷ e ∷ []) × (value (a ∷ b ∷ c ∷ d ∷ e ∷ []) ≡ n)
+digits_of {a} {b} {c} {d} {e} p q r s t n h =
+    let all = five_digits p q r s t in
+    (all, omega (arith, value_is (a ∷ b ∷ c ∷ d ∷ e ∷ []) refl all, h))

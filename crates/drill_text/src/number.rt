@@ -60,12 +60,12 @@ impl Number {
         requires { value self.old.digits < 99999 }
         ensures { value self.new.digits ≡ value self.old.digits + 1 }
     {
-        for at in (0..5).rev() {
-            if self.digits[at] < b'9' {
-                self.digits[at] += 1;
-                return;
-            }
-            self.digits[at] = b'0';
-        }
+        self.digits = match self.digits {
+            [a, b, c, d, e] if e < b'9' => [a, b, c, d, e + 1],
+            [a, b, c, d, _] if d < b'9' => [a, b, c, d + 1, b'0'],
+            [a, b, c, _, _] if c < b'9' => [a, b, c + 1, b'0', b'0'],
+            [a, b, _, _, _] if b < b'9' => [a, b + 1, b'0', b'0', b'0'],
+            [a, _, _, _, _] => [a + 1, b'0', b'0', b'0', b'0'],
+        };
     }
 }
