@@ -1,5 +1,5 @@
 -- The lines of a drill: what they are as bytes. Assumes nothing.
-use Rattle.std.proofs.Common.{ℕ, zero, suc, ◌+◌, ◌*◌, ◌≤◌, ◌<◌, ◌≡◌, refl, sym, ap, ◌∙◌, List, [], ◌∷◌, ◌++◌, length, get_or, drop, arith, drop-cons, length-append, drop_of_length-le}
+use Rattle.std.proofs.Common.{ℕ, zero, suc, ◌+◌, ◌*◌, ◌≤◌, ◌<◌, ◌≡◌, refl, sym, ap, ◌∙◌, List, [], ◌∷◌, ◌++◌, length, get_or, drop, arith, drop-cons, eqb, eqb-true, length-append, drop_of_length-le}
 use native.Mathlib.Nat.{mod-eq_of_lt}
 use native.Mathlib.Numerals.{add-one}
 use mathlib.Core.List.{map, flatten, append-nil}
@@ -7,10 +7,12 @@ use lib.ListN.{get_or-map}
 use lib.Seq.{append_snoc}
 use borrow.Author.Tests.{eq-eqb, ne_eqb}
 use Rattle.std.proofs.lemmas.Grind.{get_or_default_zero}
+use Rattle.std.specs.Int.Bits.{bit_or}
 use Rattle.std.proofs.lemmas.Slice.Eq.{text_from_reads}
 use Rattle.codec.specs.Lists.{select}
 use Rattle.codec.specs.Sets.{participants, empty}
 use Rattle.codec.specs.Laws.Stored.{Next}
+use Rattle.codec.specs.Laws.Tests.{true_of, below_at}
 use Rattle.joint.specs.Laws.Numbered.{numbered_at, numbered_from}
 use Rattle.joint.specs.State.{Run, opened}
 use Rattle.joint.specs.Plan.{transactions}
@@ -29,6 +31,12 @@ pub field_last : (k n : ℕ) → Next (line k (n ∷ [])) (decimal k n ++ (10 �
 unfolding line newline
 field_last k n = record { split = sym (append-nil (decimal k n ++ (10 ∷ []))) }
 
+-- a number of one digit, whose bits do not meet those of the character 0: tested by computation
+one_digit : (k n : ℕ) → n < 10 → decimal k n ≡ bit_or 48 n ∷ []
+one_digit k n h =
+    let joined = eqb-true _ _ (true_of _ (below_at 10 (λ i. eqb (bit_or 48 i) (48 + i)) tt n h)) in
+    decimal_one k n h ∙ ap (◌∷ []) (sym joined)
+
 -- the four numbers of an answer
 module _ (a : List ℕ) (four : length a ≡ 4) where
   abbrev at : ℕ → ℕ
@@ -39,11 +47,11 @@ module _ (a : List ℕ) (four : length a ≡ 4) where
 
   -- of one digit each
   pub line_short : at 0 + at 1 + at 2 + at 3 < 10
-      → line 5 a ≡ (48 + at 0) ∷ 32 ∷ (48 + at 1) ∷ 32 ∷ (48 + at 2) ∷ 32 ∷ (48 + at 3) ∷ 10 ∷ []
+      → line 5 a ≡ bit_or 48 (at 0) ∷ 32 ∷ bit_or 48 (at 1) ∷ 32 ∷ bit_or 48 (at 2) ∷ 32 ∷ bit_or 48 (at 3) ∷ 10 ∷ []
   unfolding line space newline
   line_short h =
       ap (line 5) spelled
-      ∙ rw (decimal_one 5 (at 0) (omega arith), decimal_one 5 (at 1) (omega arith), decimal_one 5 (at 2) (omega arith), decimal_one 5 (at 3) (omega arith))
+      ∙ rw (one_digit 5 (at 0) (omega arith), one_digit 5 (at 1) (omega arith), one_digit 5 (at 2) (omega arith), one_digit 5 (at 3) (omega arith))
 
   -- of any
   wide : (k : ℕ) → at k < 1000000 → decimal 19 (at k) ≡ decimal 5 (at k)

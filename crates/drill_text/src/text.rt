@@ -71,7 +71,8 @@ impl<'a> Text<'a> {
         }
     }
 
-    // The four numbers of an answer. Where their sum is below 10, as it mostly is, each has one digit.
+    // The four numbers of an answer. Where their sum is below 10, as it mostly is, each has one digit. (With `|` for `+` the eight
+    // bytes are joined in one word, which is faster.)
     fn push_answer(&mut self, answer: &[u8; 4])
         requires { Room self.old (line 5 answer.now) }
         ensures { Pushed self.old self.new (line 5 answer.now) }
@@ -79,13 +80,13 @@ impl<'a> Text<'a> {
         let [number, records, forces, sends] = *answer;
         if number as u64 + records as u64 + forces as u64 + (sends as u64) < 10 {
             self.push(&[
-                b'0' + number,
+                b'0' | number,
                 b' ',
-                b'0' + records,
+                b'0' | records,
                 b' ',
-                b'0' + forces,
+                b'0' | forces,
                 b' ',
-                b'0' + sends,
+                b'0' | sends,
                 b'\n',
             ]);
         } else {
