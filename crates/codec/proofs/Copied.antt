@@ -1,37 +1,52 @@
--- What the reader's answer tells the copier. Assumes nothing.
+-- What the reader's answer tells the checker and the copier. Assumes nothing.
 use mathlib.Core.Path.{◌≡◌, ap, sym, ◌∙◌}
 use mathlib.Core.List.{List, map}
-use Prim.Native.Nat.{ℕ}
+use Prim.Native.Nat.{ℕ, ◌+◌, ◌*◌, ◌≤◌}
+use lib.ListN.{length}
+use Rattle.std.specs.Prelude.{Ok, Err}
 use Rattle.codec.specs.Lists.{first}
 use Rattle.codec.specs.Records.{record_of}
-use Rattle.codec.specs.Image.{Reading, accepted, refused, site_in, records_in, read_image, log_refusals, write_image, copy_reading, copy_image}
-use Rattle.codec.specs.Answers.{Values, log_in, values, image_values, written}
-use Rattle.codec.specs.declared.reader.ImageAnswer.{ImageAnswer}
-use Rattle.codec.specs.Laws.Readings.{values-number, accepted_by_zero}
+use Rattle.codec.specs.Image.{Reading, accepted, refused, site_in, records_in, read_image, check_image, log_refusals, write_image, copy_reading, copy_image}
+use Rattle.codec.specs.Answers.{Values, refusal_number, log_in, values, image_values, written}
+use Rattle.codec.specs.declared.log.Log.{Log}
+use Rattle.codec.specs.declared.reader.BadImage.{BadImage}
+use Rattle.codec.specs.Laws.Readings.{values-number, values-index, accepted_by_zero}
 use Rattle.codec.specs.Laws.RoundTrip.{readable_writable}
+use Rattle.codec.proofs.Held.{passed_few}
+use Rattle.codec.proofs.Passed.{refusal_not_zero}
 
-module _ (bytes : List ℕ) (r : ImageAnswer) (e : image_values r ≡ values (read_image bytes)) (at : ℕ) (buffer : List ℕ) where
-  pub copy_refused : (r.answer ≡ 0 → ⊥) → copy_image bytes at buffer ≡ written r.answer buffer
-  unfolding copy_image copy_reading image_values values
-  copy_refused h = by (read_image bytes) (ap (λ (v : Values). v.answer) e)
-    where
-      by : (v : Reading) → r.answer ≡ (values v).answer → copy_reading v at buffer ≡ written r.answer buffer
-      by (accepted s log) a = absurd (h a)
-      by (refused n i) a = rw a
+-- number and index of the reading
+pub checked : (bytes : List ℕ) (v : Values) → v ≡ values (read_image bytes) → v.answer + 256 * v.index ≡ check_image bytes
+unfolding check_image
+checked bytes v e = rw (e, values-number (read_image bytes), values-index (read_image bytes))
 
-  module _ (h : r.answer ≡ 0) where
-    sound : read_image bytes ≡ accepted (site_in bytes) (map record_of (records_in bytes))
-    unfolding image_values
-    sound = accepted_by_zero bytes (sym (values-number (read_image bytes)) ∙ sym (ap (λ (v : Values). v.answer) e) ∙ h)
+-- an image that is refused
+pub copy_refused : (bytes : List ℕ) (b : BadImage) → image_values (Err b) ≡ values (read_image bytes)
+    → (at : ℕ) (buffer : List ℕ) → copy_image bytes at buffer ≡ written (refusal_number b.refusal) buffer
+unfolding copy_image copy_reading image_values values
+copy_refused bytes b e at buffer = by (read_image bytes) (ap (λ (v : Values). v.answer) e)
+  where
+    by : (v : Reading) → refusal_number b.refusal ≡ (values v).answer → copy_reading v at buffer ≡ written (refusal_number b.refusal) buffer
+    by (accepted s log) a = absurd (refusal_not_zero b.refusal a)
+    by (refused n i) a = rw a
 
-    same_log : (r.log.site ≡ site_in bytes) × (log_in r.log ≡ map record_of (records_in bytes))
-    unfolding image_values values
-    same_log = let v = rw sound at e in (ap (λ (v : Values). v.site) v, ap (λ (v : Values). v.log) v)
+-- an image that holds a log
+module _ (bytes : List ℕ) (l : Log) (e : image_values (Ok l) ≡ values (read_image bytes)) where
+  sound : read_image bytes ≡ accepted (site_in bytes) (map record_of (records_in bytes))
+  unfolding image_values
+  sound = accepted_by_zero bytes (sym (values-number (read_image bytes)) ∙ sym (ap (λ (v : Values). v.answer) e))
 
-    pub copy_accepted : copy_image bytes at buffer ≡ write_image r.log.site (log_in r.log) at buffer
-    unfolding copy_image copy_reading
-    copy_accepted = rw (sound, same_log.1, same_log.0)
+  same_log : (l.site ≡ site_in bytes) × (l.count ≡ length (map record_of (records_in bytes))) × (log_in l ≡ map record_of (records_in bytes))
+  unfolding image_values values
+  same_log = let v = rw sound at e in (ap (λ (v : Values). v.site) v, ap (λ (v : Values). v.count) v, ap (λ (v : Values). v.log) v)
 
-    -- a log that was read is not refused
-    pub read_passed : first (log_refusals r.log.site (log_in r.log)) ≡ 0
-    read_passed = rw (same_log.1, same_log.0) (readable_writable bytes _ _ sound)
+  pub copy_accepted : (at : ℕ) (buffer : List ℕ) → copy_image bytes at buffer ≡ write_image l.site (log_in l) at buffer
+  unfolding copy_image copy_reading
+  copy_accepted at buffer = rw (sound, same_log.2, same_log.0)
+
+  -- it is not refused
+  pub read_passed : first (log_refusals l.site (log_in l)) ≡ 0
+  read_passed = rw (same_log.2, same_log.0) (readable_writable bytes _ _ sound)
+
+  pub read_few : l.count ≤ 24
+  read_few = rw (same_log.1, ← same_log.2) (passed_few l.site (log_in l) read_passed)

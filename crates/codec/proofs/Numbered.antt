@@ -12,13 +12,8 @@ use lib.Dec.{ltb}
 use lib.ListN.{set}
 use Rattle.codec.specs.Lists.{every, only_if}
 use Rattle.codec.specs.Messages.{Parts, message_number, message_parts, message_answer, parts_written, is_message, number_of, number_answer}
-use Rattle.codec.specs.Answers.{written, parts_values}
-use Rattle.codec.specs.declared.message.PartsAnswer.{PartsAnswer}
-use Rattle.codec.specs.declared.message.PartsAnswer.TheVariants.{Message, Refused}
+use Rattle.codec.specs.Answers.{written}
 use Rattle.codec.specs.Laws.Tests.{or_none, leb-ltb, lt_or_le}
-use denote.Enum.Declared.{tag_of}
-use types.Run.{OneOf}
-use Rattle.codec.specs.contracts.message.PartsAnswer.{the_type}
 
 -- ---- a number stepped down
 
@@ -85,10 +80,10 @@ unfolding message_answer parts_written
 parts_written_lem none t p k parts e = let z : ◌≡◌ {A = ℕ} 26 0 = cc in absurd (omega arith)
 parts_written_lem (some m) t p k parts e = cc
 
-pub parts_refused : (o : Option Parts) (parts : List ℕ) → message_answer o ≡ 26 ∷ [] → parts_written o parts ≡ written 26 parts
+pub parts_refused : (o : Option Parts) (n : ℕ) (parts : List ℕ) → message_answer o ≡ n ∷ [] → parts_written o parts ≡ written n parts
 unfolding message_answer parts_written
-parts_refused none parts e = refl
-parts_refused (some m) parts e = let z : ◌≡◌ {A = ℕ} 26 0 = cc in absurd (omega arith)
+parts_refused none n parts e = cc
+parts_refused (some m) n parts e = absurd cc
 
 -- ---- a message's number
 
@@ -191,9 +186,3 @@ parts_again m n e =
     let is = only_if_lem (is_message m) (message_number m) n e in
     let r = in_range_lem m (not-true (wrong m) (sym (is_message_lem m) ∙ is.0)) in
     ⊎_elim (low_parts m n r is.1) (λ h. vote_parts m n r is.1 (omega arith)) (lt_or_le m.kind 7)
-
--- an answer with the second tag was refused
-pub refused-values : (a : PartsAnswer) → OneOf (1 ∷ []) (tag_of the_type a) → parts_values a ≡ 26 ∷ []
-unfolding parts_values
-refused-values (Message m) k = absurd (omega arith)
-refused-values Refused k = refl

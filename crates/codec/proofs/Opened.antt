@@ -1,52 +1,29 @@
 -- The tests on an image before its records, in their order. Assumes nothing.
-use native.Mathlib.Numerals.{add-one}
-use lib.Seq.{drop-cons, get_or-take}
-use mathlib.Core.Path.{◌≡◌, refl, ◌∙◌}
-use mathlib.Core.Bool.{true, false, not, ◌&&◌, ◌||◌, not-not}
-use mathlib.Core.List.{List}
-use Prim.Native.Nat.{ℕ, zero, suc, ◌+◌, ◌<◌, ◌≤◌}
+use mathlib.Core.Path.{◌≡◌, refl}
+use mathlib.Core.Bool.{true, false, not, ◌||◌, not-not}
+use mathlib.Core.List.{List, [], ◌∷◌}
+use Rattle.std.proofs.lemmas.Bool.Decides.{nat_tests}
+use Rattle.std.specs.Cmp.Lexicographic.{pointwise}
+use Prim.Native.Nat.{ℕ, zero, suc, ◌<◌, ◌≤◌}
 use native.Mathlib.Omega.{arith}
-use borrow.Author.Tests.{lt-ltb, le-ltb, ltb-false, eq-eqb, ne_eqb, not-true, not-false}
+use borrow.Author.Tests.{lt-ltb, le-ltb, ltb-false, not-true, not-false}
 use lib.Dec.{eqb, ltb}
-use lib.ListN.{length, get_or, take, drop, length-take, drop_of_length-le}
+use lib.ListN.{length, take}
 use Rattle.codec.specs.Laws.Tests.{or_none}
 use Rattle.codec.specs.Lists.{first, same}
 use Rattle.codec.specs.Image.{magic, site_in, count_in, most, over_limit, table_exact, head_refusals, refused, read_records, read_unless, read_image}
 
--- ---- the opening, compared byte by byte
+-- ---- the opening, as the library compares it
 
-same_at : (l m : List ℕ) (i : ℕ) → i < length l → i < length m
-    → same (drop i l) (drop i m) ≡ (eqb (get_or l i 0) (get_or m i 0) && same (drop (i + 1) l) (drop (i + 1) m))
+compared : (m n : ℕ) → eqb n m ≡ eqb m n
+compared m n = grind (arith, nat_tests)
+
+pub opening_same : (l m : List ℕ) → pointwise eqb m l ≡ same l m
 unfolding same
-same_at l m i h g = rw (drop-cons l i 0 h, drop-cons m i 0 g, add-one)
-
--- the first i bytes are those of the opening
-pub record Opening (bytes : List ℕ) (i : ℕ) : Type 0 where
-  pub upto : i ≤ 4
-  pub long : 6 ≤ length bytes
-  pub left : same (take 4 bytes) magic ≡ same (drop i (take 4 bytes)) (drop i magic)
-
-pub opening-start : (bytes : List ℕ) → 6 ≤ length bytes → Opening bytes 0
-opening-start bytes h = record { upto = omega arith; long = h; left = refl }
-
-module _ (bytes : List ℕ) (i : ℕ) (o : Opening bytes i) where
-  pub opening_end : 4 ≤ i → same (take 4 bytes) magic ≡ true
-  unfolding same magic
-  opening_end h =
-      o.left ∙ rw (drop_of_length-le (take 4 bytes) {i = i} (simp length-take (omega arith)), drop_of_length-le magic {i = i} h)
-
-  module _ (more : i < 4) where
-    here : same (take 4 bytes) magic ≡ (eqb (get_or bytes i 0) (get_or magic i 0) && same (drop (i + 1) (take 4 bytes)) (drop (i + 1) magic))
-    unfolding magic
-    here =
-        o.left ∙ same_at (take 4 bytes) magic i (simp length-take (omega (arith, o.long))) more
-        ∙ rw (get_or-take 4 bytes i 0 more)
-
-    pub opening_next : get_or bytes i 0 ≡ get_or magic i 0 → Opening bytes (i + 1)
-    opening_next e = record { upto = omega arith; long = o.long; left = here ∙ rw (eq-eqb (get_or bytes i 0) (get_or magic i 0) e) }
-
-    pub opening_differs : (get_or bytes i 0 ≡ get_or magic i 0 → ⊥) → same (take 4 bytes) magic ≡ false
-    opening_differs n = here ∙ rw (ne_eqb (get_or bytes i 0) (get_or magic i 0) n)
+opening_same [] [] = refl
+opening_same [] (n ∷ ns) = refl
+opening_same (m ∷ ms) [] = refl
+opening_same (m ∷ ms) (n ∷ ns) = rw (compared m n, opening_same ms ns)
 
 -- ---- before the records
 

@@ -1,12 +1,12 @@
 -- What the program's inner functions promise each other. No reader has to believe it: proofs/ shows what it has to do with 01.
-use Rattle.std.specs.Prelude.{ℕ, ◌+◌, ◌*◌, ◌/◌, ◌%◌, ◌^◌, ◌≤◌, ◌≡◌, Bool, true, false, not, List, [], ◌∷◌, map, length, take, get_or, eqb, leb, ltb}
+use Rattle.std.specs.Prelude.{ℕ, ◌+◌, ◌*◌, ◌/◌, ◌%◌, ◌^◌, ◌≤◌, ◌≡◌, Bool, true, false, not, List, [], ◌∷◌, map, length, get_or, eqb, leb, ltb, Result, Ok, Err}
 use Rattle.codec.specs.Lists.{every}
 use Rattle.codec.specs.Records.{LogRecord, bytes_of, record_of, kind_and_length, fields_in_range, agrees}
 use Rattle.codec.specs.Image.{count_in, table_exact}
 use Rattle.codec.specs.Answers.{record_in}
 use Rattle.codec.specs.declared.record.Record.{Record}
-use Rattle.codec.specs.declared.record.RecordAnswer.{RecordAnswer}
-use Rattle.codec.specs.declared.record.RecordAnswer.TheVariants.{Accepted, WrongKind, WrongTransaction, WrongField, OutOfSequence}
+use Rattle.codec.specs.declared.refusal.Refusal.{Refusal}
+use Rattle.codec.specs.declared.refusal.Refusal.TheVariants.{WrongKind, WrongTransaction, WrongField, OutOfSequence}
 
 -- ---- one record
 
@@ -24,21 +24,21 @@ may_follow y x =
     every (leb y.kind 7 ∷ leb x.kind 7 ∷ eqb (get_or next_kinds y.kind 0 / 2 ^ x.kind % 2) 1 ∷ agrees y x ∷ [])
 
 -- by the tests 23, 27, 28 and 24
-unfoldable pub answer_to : Bool → Bool → Bool → Bool → Record → RecordAnswer
-answer_to true b c d x = WrongKind
-answer_to false true c d x = WrongTransaction
-answer_to false false true d x = WrongField
-answer_to false false false true x = OutOfSequence
-answer_to false false false false x = Accepted x
+unfoldable pub answer_to : Bool → Bool → Bool → Bool → Record → Result Record Refusal
+answer_to true b c d x = Err WrongKind
+answer_to false true c d x = Err WrongTransaction
+answer_to false false true d x = Err WrongField
+answer_to false false false true x = Err OutOfSequence
+answer_to false false false false x = Ok x
 
 -- bytes of a record x at site s, behind y, the newest record of its transaction
-abbrev pub answer_on : ℕ → List ℕ → LogRecord → Record → RecordAnswer
+abbrev pub answer_on : ℕ → List ℕ → LogRecord → Record → Result Record Refusal
 answer_on s bytes y x =
     answer_to (not (kind_and_length s bytes)) (ltb 7 (record_of bytes).transaction) (not (fields_in_range (record_of bytes))) (not (may_follow y (record_of bytes))) x
 
--- the first `count` of an array's records, as bytes
-abbrev pub bytes_in : ℕ → List Record → List (List ℕ)
-bytes_in count records = map bytes_of (take count (map record_in records))
+-- records as bytes
+abbrev pub bytes_in : List Record → List (List ℕ)
+bytes_in records = map bytes_of (map record_in records)
 
 -- ---- reading
 

@@ -6,5 +6,6 @@ pub mod log;
 pub mod message;
 pub mod reader;
 pub mod record;
+pub mod refusal;
 pub mod sets;
 pub mod writer;

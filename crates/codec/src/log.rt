@@ -1,13 +1,14 @@
 // The stable records of a site, as an image holds them.
-ghost use Rattle.std.specs.Prelude.{◌≡◌};
+ghost use Rattle.std.specs.Prelude.{◌≡◌, ◌≤◌, take};
 ghost use Rattle.codec.specs.Lists.{first};
-ghost use Rattle.codec.specs.Image.{over_limit, log_refusals};
-ghost use Rattle.codec.specs.Answers.{log_in, no_log};
+ghost use Rattle.codec.specs.Image.{head_length, over_limit, log_refusals};
+ghost use Rattle.codec.specs.Answers.{log_in, no_log, result_number};
 
 use crate::message::Parts;
-use crate::record::{Newest, Record, RecordAnswer};
+use crate::record::{Newest, Record};
+use crate::refusal::Refusal;
 
-// The first `count` of `records`, in log order. A count above 24 is refused by 21.
+// The first `count` of `records`, in log order. Any bytes can stand in the fields: `check` refuses what no image holds.
 #[derive(Clone, Copy)]
 pub struct Log {
     pub site: u8,
@@ -29,14 +30,6 @@ impl Log {
     pub const COORDINATOR_MOST: usize = 24;
 
     pub const PARTICIPANT_MOST: usize = 16;
-    // The numbers that refuse an image as a whole, and the one that refuses a lent buffer.
-    pub const NO_OPENING: u8 = 20;
-
-    pub const OVER_LIMIT: u8 = 21;
-
-    pub const TABLE_NOT_EXACT: u8 = 22;
-
-    pub const NO_ROOM: u8 = 25;
 
     pub fn new(site: u8) -> Log
         ensures { result ≡ no_log site }
@@ -61,27 +54,33 @@ impl Log {
         Log::PARTICIPANT_MOST < count
     }
 
-    // The number that refuses to write the log, 21, 23, 27, 28 or 24; or 0.
-    pub fn refusal(self) -> u8
-        ensures { result ≡ first (log_refusals self.site (log_in self)) }
+    // Where the records of an image begin: behind the opening, site, count and a pair for each.
+    #[tactic(auto, unfolding(crate::specs::Image::head_length))]
+    pub(crate) fn head_length(count: u8) -> usize
+        ensures { result ≡ head_length count }
     {
-        let site = self.site;
-        let count = self.count;
-        if Log::over_limit(site, count) {
-            return Log::OVER_LIMIT;
+        Log::FIXED + Log::PAIR * (count as usize)
+    }
+
+    // The records that the log holds.
+    pub(crate) fn held(&self) -> &[Record]
+        requires { self.now.count ≤ 24 }
+        ensures { result.now ≡ take self.now.count self.now.records }
+    {
+        &self.records[..self.count]
+    }
+
+    // Whether the log can be written: refused by 21, or by 23, 27, 28 or 24 at the first bad record.
+    pub fn check(&self) -> Result<(), Refusal>
+        ensures { result_number result ≡ first (log_refusals self.now.site (log_in self.now)) }
+    {
+        if Log::over_limit(self.site, self.count) {
+            return Err(Refusal::OverLimit);
         }
-        let records = self.records;
         let mut newest = Newest::none();
-        let mut i = 0;
-        while i < count {
-            let next = records[i];
-            let answer = next.judged(site, newest.behind(next));
-            let RecordAnswer::Accepted(record) = answer else {
-                return answer.number();
-            };
-            newest = newest.with(record);
-            i += 1;
+        for record in self.held() {
+            newest = newest.with(record.judged(self.site, newest.behind(*record))?);
         }
-        0
+        Ok(())
     }
 }

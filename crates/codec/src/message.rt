@@ -3,23 +3,14 @@ ghost use Rattle.std.specs.Prelude.{◌≡◌, ◌+◌, ◌*◌, ◌<◌};
 ghost use Rattle.codec.specs.Messages.{message_parts, message_answer, parts_written, number_of, number_answer};
 ghost use Rattle.codec.specs.Answers.{parts_in, parts_values, number_values, written};
 
+use crate::refusal::Refusal;
+
+// Any bytes can stand in the fields: `number` refuses those of no message.
 #[derive(Clone, Copy)]
 pub struct Parts {
     pub transaction: u8,
     pub participant: u8,
     pub kind: u8,
-}
-
-#[derive(Clone, Copy)]
-pub enum PartsAnswer {
-    Message(Parts),
-    Refused,
-}
-
-#[derive(Clone, Copy)]
-pub enum NumberAnswer {
-    Number(u16),
-    Refused,
 }
 
 // A number stepped down: how many steps it had, and the rest.
@@ -78,8 +69,6 @@ impl Parts {
     pub const LAST_PARTICIPANT: u8 = 8;
 
     pub const LAST_KIND: u8 = Parts::READ_ONLY;
-    // The number that refuses.
-    pub const REFUSED: u8 = 26;
     // From a transaction's numbers to those of the next, and from a participant's.
     const TRANSACTION_STEP: u16 = 56;
 
@@ -89,15 +78,15 @@ impl Parts {
 
     const READ_ONLY_STEP: u16 = 8;
 
-    pub fn from_number(number: u16) -> PartsAnswer
+    pub fn from_number(number: u16) -> Result<Parts, Refusal>
         ensures { parts_values result ≡ message_answer (message_parts number) }
     {
         if Parts::LAST < number {
-            return PartsAnswer::Refused;
+            return Err(Refusal::NoMessage);
         }
         if Parts::FIRST_READ_ONLY <= number {
             let votes = Stepped::down(number - Parts::FIRST_READ_ONLY, Parts::READ_ONLY_STEP);
-            return PartsAnswer::Message(Parts {
+            return Ok(Parts {
                 transaction: votes.steps,
                 participant: votes.rest as u8 + 1,
                 kind: Parts::READ_ONLY,
@@ -105,14 +94,14 @@ impl Parts {
         }
         let transactions = Stepped::down(number, Parts::TRANSACTION_STEP);
         let participants = Stepped::down(transactions.rest, Parts::PARTICIPANT_STEP);
-        PartsAnswer::Message(Parts {
+        Ok(Parts {
             transaction: transactions.steps,
             participant: participants.steps + 1,
             kind: participants.rest as u8,
         })
     }
 
-    pub fn number(self) -> NumberAnswer
+    pub fn number(self) -> Result<u16, Refusal>
         ensures { number_values result ≡ number_answer (number_of (parts_in self)) }
     {
         let transaction = self.transaction;
@@ -123,15 +112,15 @@ impl Parts {
             | (Parts::LAST_PARTICIPANT < participant)
             | (Parts::LAST_KIND < kind);
         if wrong {
-            return NumberAnswer::Refused;
+            return Err(Refusal::NoMessage);
         }
         let place = (participant - 1) as u16;
         if kind == Parts::READ_ONLY {
-            return NumberAnswer::Number(
+            return Ok(
                 Parts::FIRST_READ_ONLY + Parts::READ_ONLY_STEP * (transaction as u16) + place,
             );
         }
-        NumberAnswer::Number(
+        Ok(
             Parts::TRANSACTION_STEP * (transaction as u16)
                 + Parts::PARTICIPANT_STEP * place
                 + (kind as u16),
@@ -143,12 +132,13 @@ impl Parts {
 pub fn dpr_message_parts(number: u16, parts: &mut [u8; 3]) -> u8
     ensures { written result parts.new ≡ parts_written (message_parts number) parts.old }
 {
-    let answer = Parts::from_number(number);
-    let PartsAnswer::Message(message) = answer else {
-        return Parts::REFUSED;
-    };
-    parts[0] = message.transaction;
-    parts[1] = message.participant;
-    parts[2] = message.kind;
-    0
+    match Parts::from_number(number) {
+        Ok(message) => {
+            parts[0] = message.transaction;
+            parts[1] = message.participant;
+            parts[2] = message.kind;
+            0
+        }
+        Err(refusal) => refusal.number(),
+    }
 }

@@ -1,30 +1,27 @@
 // Reading a log image.
 ghost use Rattle.std.specs.Prelude.{◌≡◌, ◌+◌, ◌*◌, ◌≤◌, ◌<◌, not, ◌||◌, ltb, length, take};
 ghost use Rattle.codec.specs.Lists.{same};
-ghost use Rattle.codec.specs.Image.{magic, refused, read_records, read_image, check_image, table_exact};
+ghost use Rattle.codec.specs.Image.{magic, read_records, read_image, check_image, table_exact};
 ghost use Rattle.codec.specs.Answers.{values, image_values};
-ghost use Rattle.codec.specs.Inside.{word_at, Readable, Within};
+ghost use Rattle.codec.specs.Inside.{word_at, Readable};
 
 use crate::log::Log;
-use crate::record::{Newest, Record, RecordAnswer};
+use crate::record::{Newest, Record};
+use crate::refusal::Refusal;
 
-// 0, the count and the log; or the number that refuses, the index from 0 of the first bad record, and no log.
+// What refuses an image, and the index from 0 of the first bad record.
 #[derive(Clone, Copy)]
-pub struct ImageAnswer {
-    pub answer: u8,
+pub struct BadImage {
+    pub refusal: Refusal,
     pub index: u8,
-    pub log: Log,
 }
 
-impl ImageAnswer {
-    fn refused(answer: u8, index: u8) -> ImageAnswer
-        ensures { image_values result ≡ values (refused answer index) }
+impl BadImage {
+    // Refused before its records.
+    fn whole(refusal: Refusal) -> BadImage
+        ensures { result ≡ record { refusal = refusal; index = 0 } }
     {
-        ImageAnswer {
-            answer,
-            index,
-            log: Log::new(0),
-        }
+        BadImage { refusal, index: 0 }
     }
 }
 
@@ -32,25 +29,18 @@ impl ImageAnswer {
 fn opens(bytes: &[u8]) -> bool
     ensures { result ≡ not (ltb (length bytes.now) 6 || not (same (take 4 bytes.now) magic)) }
 {
-    if bytes.len() < Log::FIXED {
-        return false;
-    }
-    let mut i: usize = 0;
-    while i < 4 {
-        if bytes[i] != Log::OPENING[i] {
-            return false;
-        }
-        i += 1;
-    }
-    true
+    Log::FIXED <= bytes.len() && bytes.starts_with(&Log::OPENING)
 }
 
-// 16 bits, low byte first.
-fn word(bytes: &[u8], at: usize) -> usize
-    requires { at + 1 < length bytes.now }
-    ensures { (result ≡ word_at bytes.now at) × (result < 65536) }
+// Offset and length of record i, 16 bits each, low byte first.
+fn pair(bytes: &[u8], i: usize) -> (u16, u16)
+    requires { 6 + 4 * i + 4 ≤ length bytes.now }
+    ensures { result ≡ (word_at bytes.now (6 + 4 * i), word_at bytes.now (6 + 4 * i + 2)) }
 {
-    (bytes[at] as usize) + 256 * (bytes[at + 1] as usize)
+    let at = Log::FIXED + Log::PAIR * i;
+    let offset = u16::from_le_bytes([bytes[at], bytes[at + 1]]);
+    let length = u16::from_le_bytes([bytes[at + 2], bytes[at + 3]]);
+    (offset, length)
 }
 
 // Whether the pair table is there whole, without gaps, up to the end.
@@ -58,79 +48,56 @@ fn table_exact(bytes: &[u8]) -> bool
     requires { 6 ≤ length bytes.now }
     ensures { result ≡ table_exact bytes.now }
 {
-    let count = bytes[5] as usize;
-    let mut at = Log::FIXED + Log::PAIR * count;
+    let count = bytes[5];
+    let mut at = Log::head_length(count);
     if bytes.len() < at {
         return false;
     }
-    let mut i = 0;
-    while i < count {
-        let pair = Log::FIXED + Log::PAIR * i;
-        if word(bytes, pair) != at {
+    for i in 0..usize::from(count) {
+        let (offset, length) = pair(bytes, i);
+        if usize::from(offset) != at {
             return false;
         }
-        at += word(bytes, pair + 2);
-        i += 1;
+        at += usize::from(length);
     }
     at == bytes.len()
 }
 
-// Where record i ends, which starts at `at`.
-fn end_of(bytes: &[u8], at: usize, i: usize) -> usize
-    requires { Within bytes.now at i }
-    ensures { result ≡ at + word_at bytes.now (6 + 4 * i + 2) }
-{
-    at + word(bytes, Log::FIXED + Log::PAIR * i + 2)
-}
-
 // The records behind an exact table. The first that fails ends the reading.
-fn read_records(bytes: &[u8]) -> ImageAnswer
+fn read_records(bytes: &[u8]) -> Result<Log, BadImage>
     requires { Readable bytes.now }
     ensures { image_values result ≡ values (read_records bytes.now) }
 {
-    let site = bytes[4];
-    let count = bytes[5] as usize;
-    let mut records = [Record::NONE; Log::COORDINATOR_MOST];
+    let mut log = Log::new(bytes[4]);
+    log.count = usize::from(bytes[5]);
     let mut newest = Newest::none();
-    let mut at = Log::FIXED + Log::PAIR * count;
-    let mut i = 0;
-    while i < count {
-        let end = end_of(bytes, at, i);
-        let answer = Record::read(&bytes[at..end], site, newest);
-        let RecordAnswer::Accepted(record) = answer else {
-            return ImageAnswer::refused(answer.number(), i as u8);
-        };
+    let mut at = Log::head_length(bytes[5]);
+    for i in 0..log.count {
+        let end = at + usize::from(pair(bytes, i).1);
+        let read = Record::read(&bytes[at..end], log.site, newest);
+        let record = read.map_err(|refusal| BadImage {
+            refusal,
+            index: i as u8,
+        })?;
         newest = newest.with(record);
-        records[i] = record;
+        log.records[i] = record;
         at = end;
-        i += 1;
     }
-    let index = count as u8;
-    ImageAnswer {
-        answer: 0,
-        index,
-        log: Log {
-            site,
-            count,
-            records,
-        },
-    }
+    Ok(log)
 }
 
-// The log that an image holds; or the number that refuses it, 20 to 24, 27 or 28, and the index of the first bad record.
-pub fn read_image(bytes: &[u8]) -> ImageAnswer
+// The log that an image holds; or what refuses it, 20 to 24, 27 or 28, and the index of the first bad record.
+pub fn read_image(bytes: &[u8]) -> Result<Log, BadImage>
     ensures { image_values result ≡ values (read_image bytes.now) }
 {
     if !opens(bytes) {
-        return ImageAnswer::refused(Log::NO_OPENING, 0);
+        return Err(BadImage::whole(Refusal::NoOpening));
     }
-    let site = bytes[4];
-    let count = bytes[5] as usize;
-    if Log::over_limit(site, count) {
-        return ImageAnswer::refused(Log::OVER_LIMIT, 0);
+    if Log::over_limit(bytes[4], bytes[5] as usize) {
+        return Err(BadImage::whole(Refusal::OverLimit));
     }
     if !table_exact(bytes) {
-        return ImageAnswer::refused(Log::TABLE_NOT_EXACT, 0);
+        return Err(BadImage::whole(Refusal::TableNotExact));
     }
     read_records(bytes)
 }
@@ -139,6 +106,8 @@ pub fn read_image(bytes: &[u8]) -> ImageAnswer
 pub fn dpr_image_check(image: &[u8]) -> u16
     ensures { result ≡ check_image image.now }
 {
-    let read = read_image(image);
-    (read.answer as u16) + 256 * (read.index as u16)
+    match read_image(image) {
+        Ok(log) => 256 * (log.count as u16),
+        Err(bad) => (bad.refusal.number() as u16) + 256 * (bad.index as u16),
+    }
 }

@@ -1,11 +1,12 @@
 // One log record: its fields, its length, and the tests on it (refusals 23, 27, 28 and 24).
 ghost use Rattle.std.specs.Prelude.{◌≡◌, length, get_or, set, replicate};
 ghost use Rattle.codec.specs.Records.{bytes_of, length_of, awaits_acks, record_kind_at, fields_in_range};
-ghost use Rattle.codec.specs.Answers.{record_in, no_record, record_number};
+ghost use Rattle.codec.specs.Answers.{record_in, no_record};
 ghost use Rattle.codec.specs.Inside.{record_from, may_follow, answer_on};
 
 use crate::log::Log;
 use crate::message::Parts;
+use crate::refusal::Refusal;
 use crate::sets::{both, minus, part};
 
 // The fields behind the transaction are members and PC in a record 1 or 2, and the presumption in a record 5.
@@ -57,16 +58,6 @@ impl Newest {
     }
 }
 
-// What reading one record gives: the record; 23, kind or length; 27; 28, a mask or presumption; or 24.
-#[derive(Clone, Copy)]
-pub enum RecordAnswer {
-    Accepted(Record),
-    WrongKind,
-    WrongTransaction,
-    WrongField,
-    OutOfSequence,
-}
-
 // The byte at an index, 0 past the end.
 fn byte(bytes: &[u8], at: usize) -> u8
     ensures { result ≡ get_or bytes.now at 0 }
@@ -75,29 +66,6 @@ fn byte(bytes: &[u8], at: usize) -> u8
         return bytes[at];
     }
     0
-}
-
-impl RecordAnswer {
-    // The numbers that refuse a record.
-    pub const WRONG_KIND: u8 = 23;
-
-    pub const WRONG_TRANSACTION: u8 = 27;
-
-    pub const WRONG_FIELD: u8 = 28;
-
-    pub const OUT_OF_SEQUENCE: u8 = 24;
-
-    pub(crate) fn number(self) -> u8
-        ensures { result ≡ record_number self }
-    {
-        match self {
-            RecordAnswer::Accepted(_) => 0,
-            RecordAnswer::WrongKind => RecordAnswer::WRONG_KIND,
-            RecordAnswer::WrongTransaction => RecordAnswer::WRONG_TRANSACTION,
-            RecordAnswer::WrongField => RecordAnswer::WRONG_FIELD,
-            RecordAnswer::OutOfSequence => RecordAnswer::OUT_OF_SEQUENCE,
-        }
-    }
 }
 
 impl Record {
@@ -166,13 +134,12 @@ impl Record {
     }
 
     // The bytes as a record of a site, behind the newest record of each transaction.
-    pub(crate) fn read(bytes: &[u8], site: u8, newest: Newest) -> RecordAnswer
+    pub(crate) fn read(bytes: &[u8], site: u8, newest: Newest) -> Result<Record, Refusal>
         ensures { result ≡ answer_on site bytes.now (record_in (get_or newest.of (record_from bytes.now).transaction no_record)) (record_from bytes.now) }
     {
         let record = Record::from_bytes(bytes);
-        let kind = record.kind;
-        if bytes.len() != Record::length_of(kind) {
-            return RecordAnswer::WrongKind;
+        if bytes.len() != Record::length_of(record.kind) {
+            return Err(Refusal::WrongKind);
         }
         record.judged(site, newest.behind(record))
     }
@@ -240,24 +207,22 @@ impl Record {
         (Record::NEXT[before as usize] >> kind) % 2 == 1
     }
 
-    // The record as one of a site, behind the newest one of its transaction: 23, 27, 28 and 24 in this order.
-    pub(crate) fn judged(self, site: u8, newest: Record) -> RecordAnswer
+    // The record as one of a site, behind the newest one of its transaction; or 23, 27, 28 or 24, tried in this order.
+    pub(crate) fn judged(self, site: u8, newest: Record) -> Result<Record, Refusal>
         ensures { result ≡ answer_on site (bytes_of (record_in self)) (record_in newest) self }
     {
-        let kind = self.kind;
-        let transaction = self.transaction;
-        if !Record::kind_at(site, kind) {
-            return RecordAnswer::WrongKind;
+        if !Record::kind_at(site, self.kind) {
+            return Err(Refusal::WrongKind);
         }
-        if Parts::LAST_TRANSACTION < transaction {
-            return RecordAnswer::WrongTransaction;
+        if Parts::LAST_TRANSACTION < self.transaction {
+            return Err(Refusal::WrongTransaction);
         }
         if !self.fields_in_range() {
-            return RecordAnswer::WrongField;
+            return Err(Refusal::WrongField);
         }
         if !self.follows(newest) {
-            return RecordAnswer::OutOfSequence;
+            return Err(Refusal::OutOfSequence);
         }
-        RecordAnswer::Accepted(self)
+        Ok(self)
     }
 }

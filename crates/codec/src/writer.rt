@@ -5,52 +5,44 @@ ghost use lib.ListN.{length};
 ghost use Rattle.codec.specs.Lists.{first};
 ghost use Rattle.codec.specs.Records.{bytes_of};
 ghost use Rattle.codec.specs.Image.{magic, head_length, word, pair_table, image, stored, log_refusals, write_image, copy_image};
-ghost use Rattle.codec.specs.Answers.{record_in, log_in, written};
+ghost use Rattle.codec.specs.Answers.{record_in, log_in, result_number, written};
 ghost use Rattle.codec.specs.Inside.{bytes_in};
 
 use crate::log::Log;
 use crate::reader::read_image;
 use crate::record::Record;
+use crate::refusal::Refusal;
 
 // The opening, site and count.
 fn write_head(site: u8, count: u8, out: &mut [u8])
     requires { 6 ≤ length out.old }
     ensures { out.new ≡ stored 0 (magic ++ site ∷ count ∷ []) out.old }
 {
-    let mut i: usize = 0;
-    while i < 4 {
-        out[i] = Log::OPENING[i];
-        i += 1;
-    }
+    out[..4].copy_from_slice(&Log::OPENING);
     out[4] = site;
     out[5] = count;
 }
 
 // Offset and length of one record.
-fn write_pair(offset: usize, length: usize, out: &mut [u8])
-    requires { (offset < 65536) × ((length < 65536) × (4 ≤ lib.ListN.length out.old)) }
+fn write_pair(offset: u16, length: u16, out: &mut [u8])
+    requires { 4 ≤ lib.ListN.length out.old }
     ensures { out.new ≡ stored 0 (word offset ++ word length) out.old }
 {
-    out[0] = (offset % 256) as u8;
-    out[1] = (offset / 256) as u8;
-    out[2] = (length % 256) as u8;
-    out[3] = (length / 256) as u8;
+    out[..2].copy_from_slice(&offset.to_le_bytes());
+    out[2..4].copy_from_slice(&length.to_le_bytes());
 }
 
-// The pair table of the first `count` records.
-fn write_pairs(records: [Record; Log::COORDINATOR_MOST], count: usize, out: &mut [u8])
-    requires { (count ≤ 24) × (length (pair_table (head_length count) (bytes_in count records)) ≤ length out.old) }
-    ensures { out.new ≡ stored 0 (pair_table (head_length count) (bytes_in count records)) out.old }
+// The pair table of the records.
+fn write_pairs(records: &[Record], out: &mut [u8])
+    requires few { length records.now ≤ 24 }
+    requires room { length (pair_table (head_length (length records.now)) (bytes_in records.now)) ≤ length out.old }
+    ensures { out.new ≡ stored 0 (pair_table (head_length (length records.now)) (bytes_in records.now)) out.old }
 {
-    let mut offset = Log::FIXED + Log::PAIR * count;
-    let mut i = 0;
-    while i < count {
-        let record = records[i];
-        let at = Log::PAIR * i;
+    let mut offset = Log::head_length(records.len() as u8);
+    for (i, record) in records.iter().enumerate() {
         let length = record.length();
-        write_pair(offset, length, &mut out[at..]);
+        write_pair(offset as u16, length as u16, &mut out[Log::PAIR * i..]);
         offset += length;
-        i += 1;
     }
 }
 
@@ -71,75 +63,62 @@ fn write_record(x: Record, out: &mut [u8])
 }
 
 // The records, without gaps.
-fn write_records(records: [Record; Log::COORDINATOR_MOST], count: usize, out: &mut [u8])
-    requires { (count ≤ 24) × (length (flatten (bytes_in count records)) ≤ length out.old) }
-    ensures { out.new ≡ stored 0 (flatten (bytes_in count records)) out.old }
+fn write_records(records: &[Record], out: &mut [u8])
+    requires few { length records.now ≤ 24 }
+    requires room { length (flatten (bytes_in records.now)) ≤ length out.old }
+    ensures { out.new ≡ stored 0 (flatten (bytes_in records.now)) out.old }
 {
-    let mut at: usize = 0;
-    let mut i = 0;
-    while i < count {
-        let record = records[i];
-        write_record(record, &mut out[at..]);
+    let mut at = 0;
+    for record in records {
+        write_record(*record, &mut out[at..]);
         at += record.length();
-        i += 1;
     }
 }
 
-// The length of the image of the first `count` records.
-fn size_of(records: [Record; Log::COORDINATOR_MOST], count: usize) -> usize
-    requires { count ≤ 24 }
-    ensures { result ≡ head_length count + length (flatten (bytes_in count records)) }
+// The length of the records' image.
+fn size_of(records: &[Record]) -> usize
+    requires { length records.now ≤ 24 }
+    ensures { result ≡ head_length (length records.now) + length (flatten (bytes_in records.now)) }
 {
-    let mut size = Log::FIXED + Log::PAIR * count;
-    let mut i = 0;
-    while i < count {
-        let record = records[i];
+    let mut size = Log::head_length(records.len() as u8);
+    for record in records {
         size += record.length();
-        i += 1;
     }
     size
 }
 
 // The image, at the front of a part of a buffer.
-fn write_front(log: Log, out: &mut [u8])
-    requires { (log.count ≤ 24) × (length (image log.site (log_in log)) ≤ length out.old) }
-    ensures { out.new ≡ stored 0 (image log.site (log_in log)) out.old }
+fn write_front(log: &Log, out: &mut [u8])
+    requires few { log.now.count ≤ 24 }
+    requires room { length (image log.now.site (log_in log.now)) ≤ length out.old }
+    ensures { out.new ≡ stored 0 (image log.now.site (log_in log.now)) out.old }
 {
-    let site = log.site;
-    let count = log.count;
-    write_head(site, count as u8, out);
-    let records = log.records;
-    write_pairs(records, count, &mut out[Log::FIXED..]);
-    let at = Log::FIXED + Log::PAIR * count;
-    write_records(records, count, &mut out[at..]);
+    let count = log.count as u8;
+    let records = log.held();
+    write_head(log.site, count, out);
+    write_pairs(records, &mut out[Log::FIXED..]);
+    write_records(records, &mut out[Log::head_length(count)..]);
 }
 
-// The image of a log that is not refused, from `at` on, where there is room: 0 or 25.
-fn place(log: Log, buffer: &mut [u8], at: usize) -> u8
-    requires { first (log_refusals log.site (log_in log)) ≡ 0 }
-    ensures { written result buffer.new ≡ write_image log.site (log_in log) at buffer.old }
+// The image of a log that is not refused, from `at` on, where there is room; or 25.
+fn place(log: &Log, buffer: &mut [u8], at: usize) -> Result<(), Refusal>
+    requires { first (log_refusals log.now.site (log_in log.now)) ≡ 0 }
+    ensures { written (result_number result) buffer.new ≡ write_image log.now.site (log_in log.now) at buffer.old }
 {
-    let records = log.records;
-    let size = size_of(records, log.count);
-    if buffer.len() < at {
-        return Log::NO_ROOM;
-    }
-    if buffer.len() - at < size {
-        return Log::NO_ROOM;
+    let size = size_of(log.held());
+    if buffer.len() < at || buffer.len() - at < size {
+        return Err(Refusal::NoRoom);
     }
     write_front(log, &mut buffer[at..]);
-    0
+    Ok(())
 }
 
-// Writes the log's image from `at` on: 0, or 21, 23, 27, 28, 24, 25 and the buffer as it was.
-pub fn write_image(log: Log, buffer: &mut [u8], at: usize) -> u8
-    ensures { written result buffer.new ≡ write_image log.site (log_in log) at buffer.old }
+// Writes the log's image from `at` on; or 21, 23, 27, 28, 24, 25 and the buffer as it was.
+pub fn write_image(log: Log, buffer: &mut [u8], at: usize) -> Result<(), Refusal>
+    ensures { written (result_number result) buffer.new ≡ write_image log.site (log_in log) at buffer.old }
 {
-    let refusal = log.refusal();
-    if refusal != 0 {
-        return refusal;
-    }
-    place(log, buffer, at)
+    log.check()?;
+    place(&log, buffer, at)
 }
 
 // For C (include/dpr.h): reads an image and writes its log again from `offset` on: 0, or 20 to 25, 27, 28 and `buffer` as it was.
@@ -147,11 +126,12 @@ pub fn write_image(log: Log, buffer: &mut [u8], at: usize) -> u8
 pub fn dpr_image_copy(image: &[u8], buffer: &mut [u8], offset: usize) -> u8
     ensures { written result buffer.new ≡ copy_image image.now offset buffer.old }
 {
-    let read = read_image(image);
-    let answer = read.answer;
-    if answer != 0 {
-        return answer;
+    let log = match read_image(image) {
+        Ok(log) => log,
+        Err(bad) => return bad.refusal.number(),
+    };
+    match place(&log, buffer, offset) {
+        Ok(()) => 0,
+        Err(refusal) => refusal.number(),
     }
-    let log = read.log;
-    place(log, buffer, offset)
 }

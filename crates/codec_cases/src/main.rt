@@ -6,12 +6,13 @@
 ghost use Rattle.std.specs.Prelude.{◌≡◌, ◌+◌, ◌*◌, replicate};
 ghost use Rattle.codec.specs.Image.{check_image, write_image};
 ghost use Rattle.codec.specs.Messages.{message_parts, parts_written};
-ghost use Rattle.codec.specs.Answers.{log_in, written};
+ghost use Rattle.codec.specs.Answers.{refusal_number, log_in, written};
 
 use codec::log::Log;
 use codec::message::dpr_message_parts;
 use codec::reader::dpr_image_check;
 use codec::record::Record;
+use codec::refusal::Refusal;
 use codec::writer::{dpr_image_copy, write_image};
 
 // Reads an image, whose number and index are these.
@@ -107,7 +108,7 @@ fn commits() {
 fn buffers() {
     // 25: 5 bytes, which stay as they were.
     let mut short = [0xEEu8; 5];
-    check::expect(write_image(Log::new(1), &mut short, 0) == 25);
+    check::expect(write_image(Log::new(1), &mut short, 0) == Err(Refusal::NoRoom));
     check::expect(short[0] == 0xEE);
     // K10's image, written again at offset 1 of 15 bytes.
     let mut buffer = [0xEEu8; 15];
@@ -124,17 +125,17 @@ fn buffers() {
     ));
 }
 
-// Writes a log, which this number refuses.
-fn refuses(log: Log, number: u8)
-    requires { (write_image log.site (log_in log) 0 (replicate 40 0xEE)).answer ≡ number }
+// Writes a log, which is refused.
+fn refuses(log: Log, refusal: Refusal)
+    requires { (write_image log.site (log_in log) 0 (replicate 40 0xEE)).answer ≡ refusal_number refusal }
 {
     let mut buffer = [0xEEu8; 40];
-    check::expect(write_image(log, &mut buffer, 0) == number);
+    check::expect(write_image(log, &mut buffer, 0) == Err(refusal));
 }
 
 fn logs() {
     // 21: site 9.
-    refuses(Log::new(9), 21);
+    refuses(Log::new(9), Refusal::OverLimit);
     // 27 before 28: 05 08 02.
     let mut eight = Log::new(1);
     eight.records[0] = Record {
@@ -144,7 +145,7 @@ fn logs() {
         second: 0,
     };
     eight.count = 1;
-    refuses(eight, 27);
+    refuses(eight, Refusal::WrongTransaction);
     // 28: 05 00 02.
     let mut one = Log::new(1);
     one.records[0] = Record {
@@ -154,7 +155,7 @@ fn logs() {
         second: 0,
     };
     one.count = 1;
-    refuses(one, 28);
+    refuses(one, Refusal::WrongField);
     // 24: 05 00 00 05 00 00.
     let mut two = Log::new(1);
     two.records[0] = Record {
@@ -170,7 +171,7 @@ fn logs() {
         second: 0,
     };
     two.count = 2;
-    refuses(two, 24);
+    refuses(two, Refusal::OutOfSequence);
 }
 
 // Turns a message number back: the answer, and the three lent bytes then.

@@ -18,7 +18,7 @@ fn lines(input: &[u8], text: &mut [u8]) -> usize
     ensures prefix_len { IsPrefixLen result text.new }
     ensures text_after { take result text.new ≡ drill.drill input.now }
 {
-    drill(input, text)
+    drill(input, text).unwrap()
 }
 
 // Reads until the buffer is full or the input ends, and gives how many bytes it put at the start.

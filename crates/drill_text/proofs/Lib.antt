@@ -1,5 +1,4 @@
-mod Stored
+mod Pushed
+mod Decimal
 mod Texts
-mod Digits
 mod Drilled
-mod FourNumbers

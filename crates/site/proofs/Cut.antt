@@ -1,14 +1,14 @@
 -- How many effects a row has, and the first of them. Assumes nothing.
 use mathlib.Core.Path.{◌≡◌, refl, ap, ap₂, sym, ◌∙◌}
-use mathlib.Core.Bool.{Bool, true, false, cond, not, ◌&&◌, ◌||◌}
+use mathlib.Core.Bool.{Bool, true, false, cond, not, ◌&&◌}
 use mathlib.Core.List.{List, [], ◌∷◌, ◌++◌, map}
+use mathlib.Core.Logic.{◌⊎◌, inl, inr}
 use Prim.Native.Nat.{ℕ, zero, suc, ◌+◌, ◌-◌, ◌≤◌, ◌<◌}
 use native.Mathlib.Omega.{arith}
 use lib.ListN.{length, take, get_or, length-append, length-map}
 use lib.Seq.{take-nil}
-use lib.Dec.{eqb, leb, ltb}
-use borrow.Author.Tests.{ne_eqb, le-leb, lt-leb, ltb-false}
-use Rattle.codec.specs.Laws.Tests.{or_none}
+use lib.Dec.{eqb, leb}
+use borrow.Author.Tests.{ne_eqb, le-leb, lt-leb}
 use Rattle.codec.specs.Sets.{listed}
 use Rattle.site.specs.Step.{prepare, messages, force, send, given}
 use Rattle.site.specs.Coordinator.{ordered}
@@ -35,21 +35,21 @@ unfolding given
 given-length true = refl
 given-length false = refl
 
-pub entry_none : (k : ℕ) → (ltb k 1 || ltb 2 k) ≡ true → 0 ≡ length (entry_of k)
+pub entry_none : (k : ℕ) → (k < 1) ⊎ (2 < k) → 0 ≡ length (entry_of k)
 unfolding entry_of
 entry_none zero e = refl
-entry_none (suc zero) e = cc
-entry_none (suc (suc zero)) e = cc
+entry_none (suc zero) (inl h) = absurd (omega (arith, h))
+entry_none (suc zero) (inr h) = absurd (omega (arith, h))
+entry_none (suc (suc zero)) (inl h) = absurd (omega (arith, h))
+entry_none (suc (suc zero)) (inr h) = absurd (omega (arith, h))
 entry_none (suc (suc (suc k))) e = refl
 
-pub entry_one : (k : ℕ) → (ltb k 1 || ltb 2 k) ≡ false → 1 ≡ length (entry_of k)
+pub entry_one : (k : ℕ) → 1 ≤ k → k ≤ 2 → 1 ≡ length (entry_of k)
 unfolding entry_of
-entry_one zero e = cc
-entry_one (suc zero) e = refl
-entry_one (suc (suc zero)) e = refl
-entry_one (suc (suc (suc k))) e =
-    let h : suc (suc (suc k)) ≤ 2 = ltb-false 2 (suc (suc (suc k))) (or_none (ltb (suc (suc (suc k))) 1) (ltb 2 (suc (suc (suc k)))) e).1 in
-    absurd (omega (arith, h))
+entry_one zero l h = absurd (omega (arith, l))
+entry_one (suc zero) l h = refl
+entry_one (suc (suc zero)) l h = refl
+entry_one (suc (suc (suc k))) l h = absurd (omega (arith, h))
 
 pub no_sends : (t kind owing to : ℕ) → 7 < kind → 0 ≡ length (sending t kind owing to)
 unfolding sending given

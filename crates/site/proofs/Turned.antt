@@ -8,21 +8,40 @@ use native.Mathlib.Omega.{arith}
 use lib.ListN.{length, take, drop, get_or, length-append, length-drop, length-take, take-append-drop, drop_of_length-le}
 use lib.Seq.{take_all, take-suc, take-append_seam}
 use lib.Dec.{eqb, eqb→eq}
-use borrow.Author.Tests.{eqb-true}
+use borrow.Author.Tests.{eqb-true, lt-ltb, le-ltb}
 use Rattle.codec.specs.Lists.{select, same}
-use Rattle.codec.specs.Sets.{participants, member, listed, bits, those, only, both, either}
+use Rattle.codec.specs.Sets.{participants, member, listed, bits, those, only, both, either, minus}
 use Rattle.codec.specs.Laws.Tests.{alike, alike_eq, below, below_at, below_at_2, same_list, true_of, lt_or_le}
 use Rattle.codec.specs.Laws.Masks.{those_alike, those-below, those-members, in_those}
 use Rattle.codec.specs.Laws.Members.{none_in}
 use Rattle.codec.specs.Laws.Listed.{weight}
-use Rattle.site.specs.Coordinator.{round, in_turn}
+use Rattle.site.specs.Coordinator.{round, in_turn, ordered}
 use Rattle.site.specs.Laws.Lists.{select-append, select-select}
-use Rattle.site.specs.Laws.Order.{in_turn_adds, in_turn_those}
+use Rattle.site.specs.Laws.Order.{in_turn_adds, in_turn_those, cut_in_groups}
 
 -- what is no transaction has the round of 0
 pub turn_beyond : (t to : ℕ) → 7 < t → in_turn t to ≡ in_turn 0 to
 unfolding in_turn round participants
 turn_beyond t to h = rw (drop_of_length-le participants {i = t} (omega (arith, h)), take_all t participants (omega (arith, h))) refl
+
+-- none of the first group
+pub either_none : (r : ℕ) → r < 256 → either 0 r ≡ r
+unfolding either
+either_none r h = those_alike (λ p. member p 0 || member p r) (λ p. member p r) (λ i l. rw (none_in (suc i)) refl) ∙ those-members r h
+
+-- the cut is among those that owe; or behind them, and then among the others
+module _ (t start first to n r : ℕ) (s : (x : ℕ) → in_turn t x ≡ in_turn start x) (h : r < 256) where
+  pub cut_within : n < length (listed (both to first)) → in_turn start r ≡ take n (in_turn start (both to first)) → both r (both to first) ≡ r
+      → ordered t first r ≡ take n (ordered t first to)
+  cut_within l q p =
+      let e = cut_in_groups t first to n r true (lt-ltb n (length (listed (both to first))) l) h p (s r ∙ q ∙ ap (take n) (sym (s (both to first)))) in
+      ap (ordered t first) (sym (either_none r h)) ∙ e
+
+  pub cut_behind : length (listed (both to first)) ≤ n → in_turn start r ≡ take (n - length (listed (both to first))) (in_turn start (minus to first)) → both r (minus to first) ≡ r
+      → ordered t first (either (both to first) r) ≡ take n (ordered t first to)
+  cut_behind l q p =
+      cut_in_groups t first to n r false (le-ltb n (length (listed (both to first))) l) h p
+      (s r ∙ q ∙ ap (take (n - length (listed (both to first)))) (sym (s (minus to first))))
 
 -- ---- the round one by one
 

@@ -14,6 +14,7 @@ pub struct Cohort {
 }
 
 impl Cohort {
+    #[tactic(auto, unfolding(crate::specs::Cohort::presumption_of))]
     pub fn presumption(self, participant: u8) -> Presumption
         ensures { presumption_in result ≡ cohort.presumption_of (cohort_in self) participant }
     {
@@ -24,6 +25,7 @@ impl Cohort {
     }
 
     // The members that owe an ack for an outcome.
+    #[tactic(auto, using(crate::specs::Laws::Sets::owing_commit, crate::specs::Laws::Sets::owing_abort))]
     pub fn owing(self, outcome: Outcome) -> u8
         ensures { result ≡ cohort.owing (cohort_in self) (outcome_in outcome) }
     {
@@ -34,6 +36,7 @@ impl Cohort {
     }
 
     // The cohort that remains without those taken out.
+    #[tactic(auto, unfolding(crate::specs::Cohort::remaining))]
     pub fn without(self, taken_out: u8) -> Cohort
         ensures { cohort_in result ≡ cohort.remaining (cohort_in self) taken_out }
     {
@@ -44,6 +47,7 @@ impl Cohort {
     }
 
     // Whether Init is written at begin.
+    #[tactic(auto, unfolding(codec::specs::Sets::empty))]
     pub fn writes_init(self) -> bool
         ensures { result ≡ cohort.writes_init (cohort_in self) }
     {

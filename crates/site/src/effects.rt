@@ -10,6 +10,7 @@ use codec::message::Parts;
 use codec::sets::{both, either, member, minus, only, size};
 
 // What a row does, in this order: append, force, enter, send, append. 0 is none; there is no message where `to` is 0.
+// Kinds and outcomes stay bytes: `count`, `cut`, `sends` and `summary` promise their answer for every byte, of a kind or not.
 #[derive(Clone, Copy)]
 pub struct Effects {
     // The kind of the record that is appended first, and its fields behind the transaction.
@@ -72,20 +73,21 @@ impl Effects {
         ensures { ((t : ℕ) → result ≡ length (sending t self.message self.owing self.to)) × (result ≤ 8) }
     {
         if Parts::LAST_KIND < self.message {
-            return 0;
+            0
+        } else {
+            size(self.to)
         }
-        size(self.to)
     }
 
     // How many effects it has.
     pub fn count(self) -> u8
         ensures { (t : ℕ) → result ≡ length (effects_in t self) }
     {
-        let appends = one_if(self.appended != 0);
-        let forces = one_if(self.forced);
-        let enters = entries(self.entered);
-        let closes = one_if(self.last != 0);
-        appends + forces + enters + self.sends() + closes
+        one_if(self.appended != 0)
+            + one_if(self.forced)
+            + entries(self.entered)
+            + self.sends()
+            + one_if(self.last != 0)
     }
 
     // The first `most` effects of it, in a transaction.
@@ -95,10 +97,10 @@ impl Effects {
         if self.count() <= most {
             return self;
         }
-        let forces = less(most, one_if(self.appended != 0));
-        let enters = less(forces, one_if(self.forced));
-        let sends = less(enters, entries(self.entered));
-        let closes = less(sends, self.sends());
+        let forces = most.saturating_sub(one_if(self.appended != 0));
+        let enters = forces.saturating_sub(one_if(self.forced));
+        let sends = enters.saturating_sub(entries(self.entered));
+        let closes = sends.saturating_sub(self.sends());
         Effects {
             appended: up_to(most, self.appended),
             first: self.first,
@@ -125,72 +127,71 @@ impl Effects {
             let idle = (self.entered == 0) | !enters;
             (self.appended == 0) & !self.forced & idle & !sends
         };
+        let (first, last) = if alone {
+            (self.last, 0)
+        } else {
+            (self.appended, self.last)
+        };
+        let (message, to) = if sends { (self.message, to) } else { (0, 0) };
         Summary {
-            first: pick(alone, self.last, self.appended),
-            last: pick(alone, 0, self.last),
+            first,
+            last,
             forced: one_if(self.forced),
-            entered: pick(enters, self.entered, 0),
-            message: pick(sends, self.message, 0),
-            to: pick(sends, to, 0),
+            entered: if enters { self.entered } else { 0 },
+            message,
+            to,
         }
     }
 }
 
-// One of two numbers.
-fn pick(b: bool, x: u8, y: u8) -> u8
-    ensures { result ≡ cond b x y }
-{
-    if b { x } else { y }
-}
-
+// `u8::from`, with the bound that keeps sums of them in range.
 pub fn one_if(b: bool) -> u8
     ensures { (result ≡ cond b 1 0) × (result ≤ 1) }
 {
-    if b { 1 } else { 0 }
+    u8::from(b)
 }
 
 // What is left of `n` without `k`, or 0.
 pub fn less(n: u8, k: u8) -> u8
     ensures { result ≡ n - k }
 {
-    if n < k {
-        return 0;
-    }
-    n - k
+    n.saturating_sub(k)
 }
 
 // A number, or 0 where nothing is left.
 fn up_to(left: u8, x: u8) -> u8
     ensures { result ≡ up_to left x }
 {
-    if left == 0 {
-        return 0;
-    }
-    x
+    if left == 0 { 0 } else { x }
 }
 
 // How many entries a number stands for: what is no outcome enters nothing.
 fn entries(entered: u8) -> u8
     ensures { (result ≡ length (entry_of entered)) × (result ≤ 1) }
 {
-    if (entered < Effects::COMMIT_ENTERED) | (Effects::ABORT_ENTERED < entered) {
-        return 0;
+    match entered {
+        Effects::COMMIT_ENTERED | Effects::ABORT_ENTERED => 1,
+        _ => 0,
     }
-    1
 }
 
 // Of a set the first `most` in the order of a transaction's sends: those that owe go first. What is no transaction goes as 0 does.
 fn first_sent(transaction: u8, owing: u8, to: u8, most: u8) -> u8
     ensures { ordered transaction owing result ≡ take most (ordered transaction owing to) }
 {
-    let start = pick(Parts::LAST_TRANSACTION < transaction, 0, transaction);
+    let start = if Parts::LAST_TRANSACTION < transaction {
+        0
+    } else {
+        transaction
+    };
     let first = both(to, owing);
     let count = size(first);
-    // Not all of those that owe; or all of them, and then of the others.
-    let within = most < count;
-    let group = pick(within, first, minus(to, owing));
-    let taken = first_in_turn(start, group, pick(within, most, less(most, count)));
-    either(pick(within, 0, first), taken)
+    if most < count {
+        return first_in_turn(start, first, most);
+    }
+    // All of those that owe, and then of the others.
+    let others = first_in_turn(start, minus(to, owing), most - count);
+    either(first, others)
 }
 
 // Of a set the first `most` in the round that starts at participant `start` + 1 and goes from 8 to 1.
@@ -201,16 +202,17 @@ fn first_in_turn(start: u8, mask: u8, most: u8) -> u8
     if size(mask) <= most {
         return mask;
     }
-    let mut taken: u8 = 0;
+    let mut taken = 0;
     let mut left = most;
-    let mut i: u8 = 0;
-    while left != 0 {
+    for i in 0..Parts::LAST_PARTICIPANT {
+        if left == 0 {
+            return taken;
+        }
         let next = (start + i) % Parts::LAST_PARTICIPANT + 1;
         if member(next, mask) {
             taken = either(taken, only(next));
             left -= 1;
         }
-        i += 1;
     }
     taken
 }

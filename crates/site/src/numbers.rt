@@ -20,6 +20,7 @@ use codec::sets::{both, member, part};
 const REFUSED: u64 = 1;
 
 // The bytes of a result, the lowest first: answer 0, phase, waiting set, set taken out, and the numbers of the row.
+#[tactic(auto, unfolding(crate::specs::Numbers::packed))]
 fn packed(phase: u8, waiting: u8, taken_out: u8, row: Summary) -> u64
     requires { (row.forced ≤ 1) × (row.entered ≤ 2) × (row.message ≤ 7) }
     ensures { result ≡ numbers.packed (0 ∷ phase ∷ waiting ∷ taken_out ∷ (row.first + 16 * row.last) ∷ (row.forced + 2 * row.entered) ∷ row.message ∷ row.to ∷ []) }
@@ -111,10 +112,6 @@ impl Arguments {
     fn coordinator_step(self) -> u64
         ensures { result ≡ numbers.packed (coordinator_numbers (call_in self)) }
     {
-        let fits = self.waiting_in_range() & self.taken_out_in_range() & (self.mark == 0);
-        if !fits {
-            return REFUSED;
-        }
         let coordinator = Coordinator {
             cohort: self.cohort,
             state: CoordinatorState {
@@ -122,19 +119,23 @@ impl Arguments {
                 taken_out: self.taken_out,
             },
         };
-        let answer = if self.kind < BEGIN {
+        let fits = self.waiting_in_range() & self.taken_out_in_range() & (self.mark == 0);
+        if !fits {
+            return REFUSED;
+        }
+        if self.kind < BEGIN {
             let stated = self.cohort.presumption(self.participant);
             if self.presumption != stated.number() {
                 return REFUSED;
             }
-            coordinator.on_message(self.kind, self.participant)
-        } else {
-            let named = (self.participant != 0) | (self.presumption != 0);
-            if named {
-                return REFUSED;
-            }
-            coordinator.on_own(self.kind)
-        };
+            let answer = coordinator.on_message(self.kind, self.participant);
+            return coordinator_result(answer, self.phase, self.waiting, self.taken_out);
+        }
+        let named = (self.participant != 0) | (self.presumption != 0);
+        if named {
+            return REFUSED;
+        }
+        let answer = coordinator.on_own(self.kind);
         coordinator_result(answer, self.phase, self.waiting, self.taken_out)
     }
 

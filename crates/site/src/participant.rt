@@ -1,5 +1,5 @@
 // A participant's step (01: a box) on one transaction, and its restart.
-ghost use Rattle.std.specs.Prelude.{◌≡◌, cond, ℕ, ◌≤◌, get_or, true, false, eqb, MatchResult};
+ghost use Rattle.std.specs.Prelude.{◌≡◌, cond, ℕ, ◌≤◌, get_or, eqb, true};
 ghost use Rattle.codec.specs.Lists.{any};
 ghost use Rattle.codec.specs.Sets.{only, participants};
 ghost use Rattle.site.specs.Presumption.{acks};
@@ -26,6 +26,16 @@ pub struct Participant {
     pub presumption: Presumption,
     pub number: u8,
     pub marked: bool,
+}
+
+fn is_participant(number: u8) -> bool
+    ensures listed { result ≡ any (eqb number) participants }
+    ensures numbered { result ≡ true → Numbered number }
+{
+    match number {
+        1..=Parts::LAST_PARTICIPANT => true,
+        _ => false,
+    }
 }
 
 // What its rows are made of: what silence means to it, and its number, which was tested.
@@ -77,6 +87,7 @@ impl Own {
     }
 
     // One that only looked sends a read-only vote, writes nothing and is Unknown.
+    #[tactic(auto, unfolding(crate::specs::Participant::first_vote, crate::specs::Step::messages))]
     fn first_vote(self, marked: bool) -> Row<ParticipantPhase>
         ensures { (t : ℕ) → participant_row_in t result ≡ participant.first_vote (presumption_in self.presumption) self.number marked }
     {
@@ -171,25 +182,17 @@ impl Own {
 }
 
 impl Participant {
-    // What is no participant is refused.
-    fn own(self) -> Result<Own, Refused>
-        ensures { MatchResult result (λ own. (own.presumption ≡ self.presumption) × ((own.number ≡ self.number) × (any (eqb self.number) participants ≡ true))) (λ e. any (eqb self.number) participants ≡ false) }
-    {
-        match self.number {
-            1..=Parts::LAST_PARTICIPANT => Ok(Own {
-                presumption: self.presumption,
-                number: self.number,
-            }),
-            _ => Err(Refused),
-        }
-    }
-
     // The step by the kind's number: a kind that a participant never receives, and what is no participant, is refused.
-    #[tactic(auto, using(crate::proofs::ByKind::no_participant_lem))]
     pub fn step(self, kind: u8) -> Result<Option<Row<ParticipantPhase>>, Refused>
         ensures { (t : ℕ) → participant_answer_in t result ≡ participant_answer (presumption_in self.presumption) self.number self.marked kind (participant_in self.phase) }
     {
-        let own = self.own()?;
+        if !is_participant(self.number) {
+            return Err(Refused);
+        }
+        let own = Own {
+            presumption: self.presumption,
+            number: self.number,
+        };
         match kind {
             Parts::PREPARE => Ok(own.on_prepare(self.marked, self.phase)),
             Parts::COMMIT => Ok(own.on_tell(Outcome::Commit, self.phase)),
@@ -200,11 +203,16 @@ impl Participant {
     }
 
     // From the kinds of record that the stable log has of the transaction, bit k for kind k; what is no participant is refused.
-    #[tactic(auto, using(crate::proofs::ByKind::no_restart))]
     pub fn restart(self, records: u16) -> Result<Row<ParticipantPhase>, Refused>
         ensures { (t : ℕ) → participant_restart_in t result ≡ participant_restarted (presumption_in self.presumption) self.number (has_kind records) }
     {
-        let own = self.own()?;
+        if !is_participant(self.number) {
+            return Err(Refused);
+        }
+        let own = Own {
+            presumption: self.presumption,
+            number: self.number,
+        };
         if has(records, Record::COMMITTED) {
             return Ok(Row {
                 effects: Effects {

@@ -8,7 +8,7 @@ ghost use Rattle.site.specs.Answers.{outcome_in, coordinator_in, participant_in}
 use crate::presumption::Outcome;
 
 // The set that is still waited for stands in the phase.
-#[derive(Clone, Copy)]
+#[derive(Clone, Copy, PartialEq, Eq, Debug)]
 pub enum CoordinatorPhase {
     Open,
     Collecting(u8),
@@ -48,14 +48,15 @@ impl CoordinatorPhase {
         }
     }
 
+    #[tactic(auto, unfolding(crate::specs::Numbers::waiting_set))]
     pub fn waiting(self) -> u8
         ensures { result ≡ waiting_set (coordinator_in self) }
     {
         match self {
-            CoordinatorPhase::Collecting(w) => w,
-            CoordinatorPhase::Committing(w) => w,
-            CoordinatorPhase::Aborting(w) => w,
-            _ => 0,
+            CoordinatorPhase::Collecting(w)
+            | CoordinatorPhase::Committing(w)
+            | CoordinatorPhase::Aborting(w) => w,
+            CoordinatorPhase::Open | CoordinatorPhase::Unknown => 0,
         }
     }
 
@@ -69,6 +70,7 @@ impl CoordinatorPhase {
     }
 
     // Acks of `waiting` are missing; if none is, Unknown.
+    #[tactic(auto, unfolding(crate::specs::Coordinator::until_acked, codec::specs::Sets::empty))]
     pub fn until_acked(outcome: Outcome, waiting: u8) -> CoordinatorPhase
         ensures { coordinator_in result ≡ coordinator.until_acked (outcome_in outcome) waiting }
     {
@@ -79,7 +81,7 @@ impl CoordinatorPhase {
     }
 }
 
-#[derive(Clone, Copy)]
+#[derive(Clone, Copy, PartialEq, Eq, Debug)]
 pub enum ParticipantPhase {
     Working,
     Prepared,

@@ -11,7 +11,7 @@ use crate::effects::Effects;
 use codec::message::Parts;
 use codec::record::Record;
 
-#[derive(Clone, Copy)]
+#[derive(Clone, Copy, PartialEq, Eq, Debug)]
 pub enum Outcome {
     Commit,
     Abort,
@@ -19,6 +19,7 @@ pub enum Outcome {
 
 impl Outcome {
     // As it is entered.
+    #[tactic(auto, unfolding(crate::specs::Numbers::outcome_number))]
     pub fn number(self) -> u8
         ensures { result ≡ outcome_number (outcome_in self) }
     {
@@ -29,6 +30,7 @@ impl Outcome {
     }
 
     // The kind of the message that tells it.
+    #[tactic(auto, unfolding(crate::specs::Step::message_kind))]
     pub fn message(self) -> u8
         ensures { result ≡ message_kind (tell (outcome_in self)) }
     {
@@ -39,6 +41,7 @@ impl Outcome {
     }
 
     // The kind of the message that acknowledges it.
+    #[tactic(auto, unfolding(crate::specs::Step::message_kind))]
     pub fn ack(self) -> u8
         ensures { result ≡ message_kind (ack (outcome_in self)) }
     {
@@ -49,6 +52,7 @@ impl Outcome {
     }
 
     // The coordinator's record that ends it.
+    #[tactic(auto, unfolding(crate::specs::Coordinator::end_record))]
     pub fn end_record(self) -> u8
         ensures { result ≡ end_record (outcome_in self) }
     {
@@ -59,6 +63,7 @@ impl Outcome {
     }
 
     // A participant's record of it.
+    #[tactic(auto, unfolding(crate::specs::Participant::outcome_record))]
     pub fn outcome_record(self) -> u8
         ensures { result ≡ outcome_record (outcome_in self) }
     {
@@ -70,7 +75,7 @@ impl Outcome {
 }
 
 // What silence means: presumed abort (01: PrA, 0) or presumed commit (PrC, 1).
-#[derive(Clone, Copy)]
+#[derive(Clone, Copy, PartialEq, Eq, Debug)]
 pub enum Presumption {
     Abort,
     Commit,
@@ -78,22 +83,18 @@ pub enum Presumption {
 
 impl Presumption {
     // Whether the participant acknowledges an outcome, and forces its record of it.
+    #[tactic(auto, unfolding(crate::specs::Presumption::acks))]
     pub fn acks(self, outcome: Outcome) -> bool
         ensures { result ≡ acks (presumption_in self) (outcome_in outcome) }
     {
-        match self {
-            Presumption::Abort => match outcome {
-                Outcome::Commit => true,
-                Outcome::Abort => false,
-            },
-            Presumption::Commit => match outcome {
-                Outcome::Commit => false,
-                Outcome::Abort => true,
-            },
-        }
+        matches!(
+            (self, outcome),
+            (Presumption::Abort, Outcome::Commit) | (Presumption::Commit, Outcome::Abort)
+        )
     }
 
     // The outcome with which a coordinator in Unknown answers its Yes.
+    #[tactic(auto, unfolding(crate::specs::Presumption::silence))]
     pub fn silence(self) -> Outcome
         ensures { outcome_in result ≡ silence (presumption_in self) }
     {
@@ -103,6 +104,7 @@ impl Presumption {
         }
     }
 
+    #[tactic(auto, unfolding(crate::specs::Presumption::presumption_number))]
     pub fn number(self) -> u8
         ensures { result ≡ presumption_number (presumption_in self) }
     {

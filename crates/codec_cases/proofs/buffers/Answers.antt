@@ -1,7 +1,7 @@
-use Rattle.std.proofs.Common.{◌≡◌, [], ◌∷◌, eq-eqb, ap, ◌∙◌, slice_index_or}
+use Rattle.std.proofs.Common.{◌≡◌, [], ◌∷◌, eq-eqb, ap, ◌∙◌, slice_index_or, rules}
 use Rattle.codec.specs.Image.{Written, write_image}
 use Rattle.codec.specs.declared.log.Log.{Log}
-use Rattle.codec.specs.Answers.{log_in, no_log, written}
+use Rattle.codec.specs.Answers.{result_number, log_in, no_log, written}
 use Rattle.codec.specs.Open.{codec_opens}
 use Rattle.codec_cases.proofs.buffers.Goals as goal
 
@@ -11,7 +11,9 @@ unfolding codec_opens log_in
 five-bytes l e = ap (λ (l : Log). write_image l.site (log_in l) 0 (238 ∷ 238 ∷ 238 ∷ 238 ∷ 238 ∷ [])) e
 
 pub expect-requires : goal.expect-requires
-expect-requires c = eq-eqb c.write_image.result 25 (ap (λ (w : Written). w.answer) (c.write_image.ensures ∙ five-bytes c.new.result c.new.ensures))
+expect-requires c =
+    let number : result_number c.write_image.result ≡ 25 = ap (λ (w : Written). w.answer) (c.write_image.ensures ∙ five-bytes c.new.result c.new.ensures) in
+    search rules
 
 pub expect-requires-2 : goal.expect-requires-2
 expect-requires-2 c =

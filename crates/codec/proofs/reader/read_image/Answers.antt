@@ -1,8 +1,7 @@
 use mathlib.Core.Path.{◌≡◌, sym, ap, ◌∙◌}
 use mathlib.Core.Bool.{false}
-use native.Mathlib.Omega.{arith}
 use Rattle.codec.specs.Image.{site_in, count_in, over_limit}
-use Rattle.codec.specs.Answers.{values}
+use Rattle.codec.specs.Answers.{values, image_values}
 use Rattle.codec.proofs.Opened.{few-records, opens_long, not_opened, over, not-exact, by_records}
 use Rattle.codec.proofs.reader.read_image.Goals as goal
 use Rattle.codec.proofs.reader.read_image.Goals.{Else-over_limit}
@@ -12,26 +11,19 @@ unfolding site_in count_in
 within c = sym c.over_limit.ensures ∙ c.if-over_limit.false
 
 pub returns-then-not-opens : goal.returns-then-not-opens
-returns-then-not-opens c = c.refused.ensures ∙ ap values (sym (not_opened c.args.bytes.now (sym c.opens.ensures ∙ c.if-not-opens.true)))
-
-pub bounds-bytes-4 : goal.bounds-bytes-4
-bounds-bytes-4 c = omega (arith, opens_long c.args.bytes.now (sym c.opens.ensures ∙ c.if-not-opens.false))
-
-pub bounds-bytes-5 : goal.bounds-bytes-5
-bounds-bytes-5 c = omega (arith, opens_long c.args.bytes.now (sym c.opens.ensures ∙ c.if-not-opens.false))
+unfolding image_values values
+returns-then-not-opens c = rw c.whole.ensures (ap values (sym (not_opened c.args.bytes.now (sym c.opens.ensures ∙ c.if-not-opens.true))))
 
 pub returns-then-over_limit : goal.returns-then-over_limit
-unfolding site_in count_in
-returns-then-over_limit c = c.refused-then-over_limit.ensures
-    ∙ ap values (sym (over c.args.bytes.now (sym c.opens.ensures ∙ c.if-not-opens.false) (sym c.over_limit.ensures ∙ c.if-over_limit.true)))
-
-pub table_exact-requires : goal.table_exact-requires
-table_exact-requires c = opens_long c.args.bytes.now (sym c.opens.ensures ∙ c.if-not-opens.false)
+unfolding image_values values site_in count_in
+returns-then-over_limit c =
+    rw c.whole-then-over_limit.ensures (ap values (sym (over c.args.bytes.now (sym c.opens.ensures ∙ c.if-not-opens.false) (sym c.over_limit.ensures ∙ c.if-over_limit.true))))
 
 pub returns-then-not-table_exact : goal.returns-then-not-table_exact
+unfolding image_values values
 returns-then-not-table_exact c =
-    c.refused-then-not-table_exact.ensures
-    ∙ ap values (sym (not-exact c.args.bytes.now (sym c.opens.ensures ∙ c.if-not-opens.false) (within (goal.at.returns-then-not-table_exact c).Else-over_limit) (sym c.table_exact.ensures ∙ c.if-not-table_exact.true)))
+    rw c.whole-then-not-table_exact.ensures
+    (ap values (sym (not-exact c.args.bytes.now (sym c.opens.ensures ∙ c.if-not-opens.false) (within (goal.at.returns-then-not-table_exact c).Else-over_limit) (sym c.table_exact.ensures ∙ c.if-not-table_exact.true))))
 
 pub read_records-requires : goal.read_records-requires
 read_records-requires c =

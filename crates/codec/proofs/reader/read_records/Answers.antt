@@ -1,100 +1,74 @@
 use mathlib.Core.Path.{◌≡◌, refl, ap, sym, ◌∙◌}
-use Prim.Native.Nat.{◌+◌, ◌-◌, ◌*◌, ◌<◌}
+use Prim.Native.Nat.{ℕ, ◌+◌, ◌-◌, ◌*◌, ◌<◌}
 use native.Mathlib.Omega.{arith}
-use Rattle.codec.specs.Image.{head_length, site_in, count_in}
-use Rattle.codec.specs.Answers.{record_number, values, image_values}
+use borrow.Author.Rules.{rules}
+use Rattle.std.specs.Prelude.{Result, Ok, Err, is_ok, false}
+use Rattle.codec.specs.Image.{site_in, count_in}
+use Rattle.codec.specs.Answers.{values, image_values}
 use Rattle.codec.specs.Inside.{Within, word_at}
-use Rattle.codec.specs.declared.log.Log.{Log}
+use Rattle.codec.specs.declared.record.Record.{Record}
+use Rattle.codec.specs.declared.refusal.Refusal.{Refusal}
 use Rattle.codec.proofs.Held.{held}
-use Rattle.codec.proofs.Passed.{not-accepted}
 use Rattle.codec.proofs.Filled.{filled_none, filled_next, filled_all, within, image-stopped, records-refused, answer_at}
 use Rattle.codec.proofs.reader.read_records.Goals as goal
-use Rattle.codec.proofs.reader.read_records.Goals.{After-end_of-end, In-loop-i}
+use Rattle.codec.proofs.reader.read_records.Goals.{In-loop-i, After-read-read, After-from-in-loop-i}
 
-more : (c : In-loop-i) → c.loop-i.i < count_in c.args.bytes.now
-unfolding count_in
-more c = c.loop-i-test.true
-
-few : (c : In-loop-i) → c.loop-i.i < 24
-few c = omega (arith, more c, c.loop-i.invariant.0.few)
+more : (c : In-loop-i) → c.loop-i.i-counter < count_in c.args.bytes.now
+more c = rw c.loop-i.invariant.0 at c.loop-i-test.true
 
 -- record i and its pair lie in the image
-inside : (c : In-loop-i) → Within c.args.bytes.now c.loop-i.at c.loop-i.i
-inside c =
-    within c.args.bytes.now c.loop-i.invariant.0 c.loop-i.records c.loop-i.newest.of c.loop-i.at c.loop-i.i c.loop-i.invariant.1.1.1 (more c)
+inside : (c : In-loop-i) → Within c.args.bytes.now c.loop-i.at c.loop-i.i-counter
+inside c = within c.args.bytes.now c.requires c.loop-i.log.records c.loop-i.newest.of c.loop-i.at c.loop-i.i-counter c.loop-i.invariant.1.1.1 (more c)
 
--- the part that is lent to the reader of one record is as long as the pair says
-size : (c : After-end_of-end)
-    → c.end_of-end.result - c.loop-i.at ≡ word_at c.args.bytes.now (6 + 4 * c.loop-i.i + 2)
-size c = omega (arith, c.end_of-end.ensures)
+named : {p : ℕ × ℕ} {r a b : ℕ} → r ≡ p.1 → p ≡ (a, b) → r ≡ b
+named e is = e ∙ ap (λ (p : ℕ × ℕ). p.1) is
 
-pub bounds-bytes-4 : goal.bounds-bytes-4
-bounds-bytes-4 c = omega (arith, c.requires.whole)
+-- the record ends where the pair says
+size : (c : After-from-in-loop-i) → c.from-in-loop-i.result ≡ word_at c.args.bytes.now (6 + 4 * c.loop-i.i-counter + 2)
+size c = named c.from-in-loop-i.ensures c.pair.ensures
 
-pub bounds-bytes-5 : goal.bounds-bytes-5
-bounds-bytes-5 c = omega (arith, c.requires.whole)
+-- what the reader of one record answers
+read_is : (c : After-read-read) → c.read-read.result ≡ answer_at c.args.bytes.now c.loop-i.newest.of c.loop-i.at (word_at c.args.bytes.now (6 + 4 * c.loop-i.i-counter + 2))
+read_is c =
+    let part : c.loop-i.at + c.from-in-loop-i.result - c.loop-i.at ≡ word_at c.args.bytes.now (6 + 4 * c.loop-i.i-counter + 2) = omega (arith, named c.from-in-loop-i.ensures c.pair.ensures) in
+    (rw c.loop-i.invariant.1.0 at c.read-read.ensures) ∙ ap (answer_at c.args.bytes.now c.loop-i.newest.of c.loop-i.at) part
 
-pub overflow_mul-at : goal.overflow_mul-at
-overflow_mul-at c = omega (arith, c.shared_slice_known-3-1.given 5)
-
-pub overflow_add-at : goal.overflow_add-at
-overflow_add-at c = omega (arith, c.shared_slice_known-3-1.given 5)
+when_refused : {P : Type 0} (r : Result Record Refusal) → is_ok r ≡ false → ((e : Refusal) → r ≡ Err e → P) → P
+when_refused (Ok x) n k = absurd cc
+when_refused (Err e) n k = k e refl
 
 pub loop-i-init : goal.loop-i-init
-unfolding site_in count_in head_length
-loop-i-init c = let pre = c.requires in
-    (pre, (refl, (refl, rw c.none-newest.ensures (filled_none _ pre))))
+unfolding site_in count_in
+loop-i-init c = rw (c.new-log.ensures, c.none-newest.ensures, c.head_length-at.ensures) (c.from.ensures, (refl, (c.from.ensures, filled_none _ c.requires)))
 
-pub end_of-end-requires : goal.end_of-end-requires
-end_of-end-requires c = inside c
+pub pair-requires : goal.pair-requires
+pair-requires c = (inside c).pair
 
-pub slice_bounds-read-count : goal.slice_bounds-read-count
-slice_bounds-read-count c = omega (arith, c.end_of-end.ensures)
-
-pub slice_bounds-read-start : goal.slice_bounds-read-start
-slice_bounds-read-start c = omega (arith, c.end_of-end.ensures)
+pub overflow_add-end : goal.overflow_add-end
+overflow_add-end c = let p = (inside (goal.at.overflow_add-end c).In-loop-i).part in omega (arith, size c)
 
 pub slice_bounds-read-end : goal.slice_bounds-read-end
-slice_bounds-read-end c = rw c.end_of-end.ensures (inside (goal.at.slice_bounds-read-end c).In-loop-i).part
+slice_bounds-read-end c = rw (size c) (inside (goal.at.slice_bounds-read-end c).In-loop-i).part
 
-pub overflow_cast-i : goal.overflow_cast-i
-overflow_cast-i c = omega (arith, few (goal.at.overflow_cast-i c).In-loop-i)
-
-pub returns-in_default : goal.returns-in_default
-unfolding site_in
-returns-in_default c =
-    let bytes = c.args.bytes.now in
-    let named : record_number c.read-answer.result ≡ 0 → ⊥ = not-accepted c.read-answer.result c.in_default.not-Accepted in
-    let here = ap record_number (c.read-answer.ensures ∙ ap (answer_at c.args.bytes.now c.loop-i.newest.of c.loop-i.at) (size (goal.at.returns-in_default c).After-end_of-end)) in
-    let struck = image-stopped bytes c.loop-i.invariant.0 c.loop-i.records c.loop-i.newest.of c.loop-i.at c.loop-i.i c.loop-i.invariant.1.1.1 (more (goal.at.returns-in_default c).In-loop-i) (λ e. named (here ∙ e)) in
-    c.refused.ensures
-    ∙ ap values (records-refused bytes _ _ (λ e. named (sym c.number.ensures ∙ e)) (c.number.ensures ∙ here ∙ struck.0) struck.1)
-
-pub offset_bounds-records-i : goal.offset_bounds-records-i
-offset_bounds-records-i c = omega (arith, few (goal.at.offset_bounds-records-i c).In-loop-i)
-
-pub bounds-records-i : goal.bounds-records-i
-bounds-records-i c = few (goal.at.bounds-records-i c).In-loop-i
-
-pub overflow_add-i : goal.overflow_add-i
-overflow_add-i c = omega (arith, few (goal.at.overflow_add-i c).In-loop-i)
+pub returns-in_err-record : goal.returns-in_err-record
+unfolding image_values values
+returns-in_err-record c =
+    let v = (goal.at.returns-in_err-record c).After-read-read in
+    when_refused c.read-read.result (sym c.map_err.ensures.variant ∙ ap is_ok c.in_err-record.was) λ e h.
+    let bad : c.from_residual.result ≡ Err (record { refusal = e; index = c.loop-i.i-counter }) = search rules in
+    let struck = image-stopped c.args.bytes.now c.requires c.loop-i.log.records c.loop-i.newest.of c.loop-i.at c.loop-i.i-counter c.loop-i.invariant.1.1.1 (more (goal.at.returns-in_err-record c).In-loop-i) e (sym (read_is v) ∙ h) in
+    rw bad (ap values (records-refused c.args.bytes.now e _ struck.0 struck.1))
 
 pub loop-i-preserved : goal.loop-i-preserved
-unfolding site_in
 loop-i-preserved c =
     let inv = c.loop-i.invariant in
-    let next = filled_next c.args.bytes.now inv.0 c.loop-i.records c.loop-i.newest.of c.loop-i.at c.loop-i.i inv.1.1.1
-    (more (goal.at.loop-i-preserved c).In-loop-i) c.in-Accepted.«record» (sym (c.read-answer.ensures ∙ ap (answer_at c.args.bytes.now c.loop-i.newest.of c.loop-i.at) (size (goal.at.loop-i-preserved c).After-end_of-end)) ∙ c.in-Accepted.is) in
-    (inv.0, (inv.1.0, (inv.1.1.0, rw (c.with-newest.ensures, c.end_of-end.ensures) next.1)))
-
-pub overflow_cast-index : goal.overflow_cast-index
-unfolding count_in
-overflow_cast-index c = omega (arith, c.loop-i.invariant.0.few)
+    let v = (goal.at.loop-i-preserved c).After-read-read in
+    let read : c.read-read.result ≡ Ok c.in_ok-record.record = search rules in
+    let next = filled_next c.args.bytes.now c.requires c.loop-i.log.records c.loop-i.newest.of c.loop-i.at c.loop-i.i-counter inv.1.1.1 (more (goal.at.loop-i-preserved c).In-loop-i) c.in_ok-record.record (sym (read_is v) ∙ read) in
+    (inv.0, (inv.1.0, (inv.1.1.0, rw (c.with-newest.ensures, size (goal.at.loop-i-preserved c).After-from-in-loop-i) next)))
 
 pub returns : goal.returns
-unfolding image_values site_in count_in
+unfolding image_values
 returns c =
-    let bytes = c.args.bytes.now in
-    let log : Log = record { site = site_in bytes; count = count_in bytes; records = c.loop-i.records } in
-    rw (held log c.loop-i.invariant.0.few)
-    (filled_all c.args.bytes.now c.loop-i.invariant.0 c.loop-i.records c.loop-i.newest.of c.loop-i.at c.loop-i.i c.loop-i.invariant.1.1.1 c.loop-i-test.false)
+    let inv = c.loop-i.invariant in
+    rw (held c.loop-i.log (rw inv.1.1.0 c.requires.few), inv.1.0, inv.1.1.0) (filled_all c.args.bytes.now c.requires c.loop-i.log.records c.loop-i.newest.of c.loop-i.at c.loop-i.i-counter inv.1.1.1 (rw inv.0 at c.loop-i-test.false))

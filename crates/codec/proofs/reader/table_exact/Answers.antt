@@ -1,37 +1,42 @@
-use mathlib.Core.Path.{refl, sym, ◌∙◌}
+use mathlib.Core.Path.{◌≡◌, refl, sym, ◌∙◌, ap}
+use Prim.Native.Nat.{ℕ, ◌+◌, ◌*◌, ◌<◌}
 use native.Mathlib.Omega.{arith}
+use borrow.Author.Rules.{rules}
 use borrow.Author.Tests.{lt-leb}
 use Rattle.codec.specs.Image.{head_length, count_in, table_exact}
+use Rattle.codec.specs.Inside.{word_at}
 use Rattle.codec.specs.Laws.Pairs.{exact-start, exact_next, not-exact, exact_end}
 use Rattle.codec.proofs.reader.table_exact.Goals as goal
+use Rattle.codec.proofs.reader.table_exact.Goals.{After-pair-offset}
 
-pub bounds-bytes-5 : goal.bounds-bytes-5
-bounds-bytes-5 c = omega (arith, c.requires)
+offset : (c : After-pair-offset) → c.pair-offset.result.0 ≡ word_at c.args.bytes.now (6 + 4 * c.loop-i.i)
+offset c = ap (λ (p : ℕ × ℕ). p.0) c.pair-offset.ensures
 
-pub overflow_mul-at : goal.overflow_mul-at
-overflow_mul-at c = omega (arith, c.shared_slice_known-2-1.given 5)
+size : (c : After-pair-offset) → c.pair-offset.result.1 ≡ word_at c.args.bytes.now (6 + 4 * c.loop-i.i + 2)
+size c = ap (λ (p : ℕ × ℕ). p.1) c.pair-offset.ensures
 
-pub overflow_add-at : goal.overflow_add-at
-overflow_add-at c = omega (arith, c.shared_slice_known-2-1.given 5)
+small : (c : After-pair-offset) → c.pair-offset.result.1 < 65536
+small c = search rules
 
 pub returns-then-bytes-at : goal.returns-then-bytes-at
 unfolding table_exact head_length count_in
-returns-then-bytes-at c = rw (lt-leb _ _ c.if-bytes-at.true)
+returns-then-bytes-at c = rw (lt-leb _ _ (rw c.head_length-at.ensures at c.if-bytes-at.true))
 
 pub loop-i-init : goal.loop-i-init
-unfolding count_in
-loop-i-init c = exact-start _ _ refl (omega (arith, c.shared_slice_known-2-1.given 5)) c.if-bytes-at.false
+unfolding count_in head_length
+loop-i-init c = rw c.head_length-at.ensures (exact-start _ _ refl (omega (arith, c.type_inv.bytes 5)) (rw c.head_length-at.ensures at c.if-bytes-at.false))
 
-pub returns-then-word-at : goal.returns-then-word-at
-returns-then-word-at c = sym (not-exact _ _ _ _ c.loop-i.invariant c.loop-i-test.true (λ e. c.if-word-at.true (c.word.ensures.0 ∙ e)))
+pub returns-then-from-at : goal.returns-then-from-at
+returns-then-from-at c =
+    sym (not-exact _ _ _ _ c.loop-i.invariant (rw c.from-i-end.ensures at c.loop-i-test.true) (λ e. c.if-from-at.true (c.from.ensures ∙ offset (goal.at.returns-then-from-at c).After-pair-offset ∙ e)))
 
-pub overflow_add-at-in-loop-i : goal.overflow_add-at-in-loop-i
-overflow_add-at-in-loop-i c = omega (arith, c.word-at.ensures.1)
+pub overflow_add-at : goal.overflow_add-at
+overflow_add-at c = let s = small (goal.at.overflow_add-at c).After-pair-offset in omega (arith, c.loop-i.invariant.near)
 
 pub loop-i-preserved : goal.loop-i-preserved
 loop-i-preserved c =
-    let e = c.word-at.ensures.0 in
-    rw e (exact_next _ _ _ _ c.loop-i.invariant c.loop-i-test.true (sym c.word.ensures.0 ∙ c.if-word-at.false) (rw e at c.word-at.ensures.1))
+    let w = (goal.at.loop-i-preserved c).After-pair-offset in
+    rw (c.from-at.ensures, size w) (exact_next _ _ _ _ c.loop-i.invariant (rw c.from-i-end.ensures at c.loop-i-test.true) (sym (offset w) ∙ sym c.from.ensures ∙ c.if-from-at.false) (rw (size w) at (small w)))
 
 pub returns : goal.returns
-returns c = sym (exact_end _ _ _ _ c.loop-i.invariant c.loop-i-test.false)
+returns c = sym (exact_end _ _ _ _ c.loop-i.invariant (rw c.from-i-end.ensures at c.loop-i-test.false))

@@ -1,16 +1,17 @@
+use mathlib.Core.Path.{◌≡◌, ap}
+use mathlib.Core.List.{List, ◌∷◌}
+use Prim.Native.Nat.{ℕ, ◌/◌, ◌%◌}
 use native.Mathlib.Omega.{arith}
-use mathlib.Core.List.{◌++◌}
-use lib.ListN.{length-set}
-use lib.Seq.{sets-eq}
+use Rattle.std.proofs.Common.{drop-drop}
 use Rattle.codec.specs.Image.{word, stored}
 use Rattle.codec.proofs.writer.write_pair.Goals as goal
 
-pub bounds-out-1 : goal.bounds-out-1
-bounds-out-1 c = simp length-set (omega arith)
-
-pub bounds-out-2 : goal.bounds-out-2
-bounds-out-2 c = simp length-set (omega arith)
-
 pub returns : goal.returns
 unfolding word stored
-returns c = sets-eq (word c.args.offset ++ word c.args.length) c.args.out.now 0 c.requires.1.1
+returns c =
+    let a = c.args.offset in
+    let b = c.args.length in
+    let offset : a / 256 % 256 ≡ a / 256 = omega arith in
+    let size : b / 256 % 256 ≡ b / 256 = omega arith in
+    rw (c.copy_from_slice.ensures.after, c.copy_from_slice-2.ensures.after, c.to_le_bytes.ensures, c.to_le_bytes-2.ensures, offset, size)
+    (ap (λ (rest : List ℕ). a % 256 ∷ a / 256 ∷ b % 256 ∷ b / 256 ∷ rest) (drop-drop 2 2 c.args.out.now))

@@ -1,37 +1,31 @@
-use Prim.Native.Nat.{min}
-use mathlib.Core.Path.{◌≡◌}
-use native.Mathlib.Omega.{arith}
-use lib.ListN.{length, length-take}
+use Rattle.std.proofs.Common.{◌*◌, ◌≡◌, refl, sym, ◌∙◌, min, length, take, arith, length-take}
 use Rattle.joint.specs.Drill.{drill_into}
 use Rattle.joint.specs.Answers.{run_in, totals_in}
 use Rattle.drill_text.proofs.Drilled.{Answered, answered}
 use Rattle.drill_text.proofs.drill.drill.Goals as goal
-use Rattle.drill_text.proofs.drill.drill.Goals.{After-answers-3-1, Joined-input-gt-MOST, then-input-gt-MOST, else-input-gt-MOST}
-
--- how much of the input is run
-most : (c : Joined-input-gt-MOST) → c.if-input-gt-MOST.len ≡ min 60000 (length c.args.input.now)
-most c =
-    elim c.if-input-gt-MOST.branch [
-      | then-input-gt-MOST w ↦ omega arith
-      | else-input-gt-MOST w ↦ omega arith
-    ]
-
-pub slice_bounds-replay-end : goal.slice_bounds-replay-end
-slice_bounds-replay-end c = omega (arith, length-take c.if-input-gt-MOST.len c.args.input.now, most c)
+use Rattle.drill_text.proofs.drill.drill.Goals.{After-replay-ran}
 
 -- what the replay leaves
-left : (c : After-answers-3-1) → c.if-input-gt-MOST.len ≡ min 60000 (length c.args.input.now)
-    → Answered c.args.input.now c.replay-replayed.result.count (run_in c.replay-replayed.result.run) (totals_in c.replay-replayed.result.run) c.replay-replayed.new.answers
-left c most = answered _ _ _ _ c.replay-replayed.result most (omega arith) c.replay-replayed.ensures
+left : (c : After-replay-ran) → Answered c.args.input.now c.replay-ran.result.count (run_in c.replay-ran.result.run) (totals_in c.replay-ran.result.run) c.replay-ran.new.answers
+left c = answered _ _ _ _ c.replay-ran.result (omega (arith, c.min.ensures)) (omega arith) c.replay-ran.ensures
 
-pub write_text-requires : goal.write_text-requires
-write_text-requires c =
-    let at = goal.at.write_text-requires c in
-    let a = left at.After-answers-3-1 (most at.Joined-input-gt-MOST) in (a.few, a.room)
+pub overflow_mul-answers : goal.overflow_mul-answers
+overflow_mul-answers c = omega (arith, (left (goal.at.overflow_mul-answers c).After-replay-ran).few)
 
-pub returns : goal.returns
+pub slice_bounds-answers-end : goal.slice_bounds-answers-end
+slice_bounds-answers-end c = (left (goal.at.slice_bounds-answers-end c).After-replay-ran).room
+
+pub slice_bounds-write_text-end : goal.slice_bounds-write_text-end
+slice_bounds-write_text-end c =
+    let a = left (goal.at.slice_bounds-write_text-end c).After-replay-ran in
+    omega (arith, a.room, length-take (4 * c.replay-ran.result.count) c.replay-ran.new.answers)
+
+pub returns-clause-text_after : goal.returns-clause-text_after
 unfolding drill_into
-returns c =
-    let at = goal.at.returns c in
-    let a = left at.After-answers-3-1 (most at.Joined-input-gt-MOST) in
-    record { text_after = rw (← a.text) c.write_text.ensures.text_after; input_len_bound = rw (← a.text) c.write_text.ensures.run_len_bound }
+returns-clause-text_after c = let a = left (goal.at.returns-clause-text_after c).After-replay-ran in rw (← a.text) c.write_text.ensures.text_after
+
+pub returns-clause-too_short : goal.returns-clause-too_short
+returns-clause-too_short c = let a = left (goal.at.returns-clause-too_short c).After-replay-ran in rw (← a.text) c.write_text.ensures.too_short
+
+pub returns-clause-input_len_bound : goal.returns-clause-input_len_bound
+returns-clause-input_len_bound c = let a = left (goal.at.returns-clause-input_len_bound c).After-replay-ran in rw (← a.text) c.write_text.ensures.len_bound

@@ -1,94 +1,124 @@
-use Prim.Native.Nat.{◌+◌, ◌*◌, ◌≤◌}
-use mathlib.Core.Path.{◌≡◌, sym, ap, ◌∙◌}
-use native.Mathlib.Omega.{arith}
-use lib.ListN.{length, take, length-take, length-drop}
-use Rattle.codec.specs.Laws.Stored.{length-stored}
-use Rattle.drill_text.specs.Inside.{lines_of, sites, site_lines}
+use Rattle.std.proofs.Common.{ℕ, ◌+◌, ◌*◌, ◌/◌, ◌≤◌, ◌<◌, ◌≡◌, refl, sym, ap, ◌∙◌, List, length, arith, rules}
+use Rattle.std.specs.Simd.{first_chunks}
 use Rattle.joint.specs.Answers.{run_in, totals_in}
-use Rattle.drill_text.proofs.Drilled.{Sized, lines_short, last_short, text_short, text_none, text_last, text_all, front_of}
+use Rattle.drill_text.specs.Inside.{Room, Pushed, text_of, lines_from, transaction_lines, sites, site_lines}
+use Rattle.drill_text.proofs.Pushed.{pushed_within, pushed_front}
+use Rattle.drill_text.proofs.Drilled.{Few, sites-most, lines_short, text_size, text_short, text_none, room_for_lines, room_for_transactions, room_for_sites, text_all}
 use Rattle.drill_text.proofs.drill.write_text.Goals as goal
-use Rattle.drill_text.proofs.drill.write_text.Goals.{After-opened_count-opened, After-slice_known-2-1, After-write_lines-arg-1, then-text-count+else-text-lines_size, else-text-count}
+use Rattle.drill_text.proofs.drill.write_text.Goals.{After-new-last, After-opened_count, After-lines_size, After-new-out, else-text-answers-via-then-text-answers+else-text-lines_size, else-text-answers-via-else-text-answers}
 
--- the lines of the sites are written apart
-sized : (c : After-opened_count-opened) → let a = c.args in Sized a.count a.answers.now (run_in a.run) (totals_in a.run) c.opened_count-opened.result c.write_sites-sites.result
-sized c =
-    record {
-      few = c.requires.0;
-      small = λ i. (c.type_inv.answers i).fits;
-      opened_are = c.opened_count-opened.ensures.0;
-      opened-few = c.opened_count-opened.ensures.1;
-      last_are = c.write_sites-sites.ensures.0;
-    }
+-- the lines of the sites fit
+sites_room : (c : After-new-last) → Room c.new-last.result (site_lines (totals_in c.args.run.now) sites)
+sites_room c =
+    let size : length c.new-last.result.bytes.now ≡ 756 = ap length c.new-last.ensures.bytes in
+    omega (arith, size, c.new-last.ensures.end, sites-most (totals_in c.args.run.now))
 
-apart-size : (c : After-opened_count-opened) → length c.write_sites-sites.new.out ≡ 756
-apart-size c = let e = c.write_sites-sites.ensures in ap length e.1 ∙ length-stored 0 _ _ (omega (arith, last_short (sized c), e.0))
+pub push_sites-requires : goal.push_sites-requires
+push_sites-requires c = sites_room (goal.at.push_sites-requires c).After-new-last
 
-apart-front : (c : After-opened_count-opened) → take c.write_sites-sites.result c.write_sites-sites.new.out ≡ site_lines (totals_in c.args.run) sites
-apart-front c = let e = c.write_sites-sites.ensures in ap (take c.write_sites-sites.result) e.1 ∙ front_of _ _ c.write_sites-sites.result e.0
+-- how long they are, and all that bounds the text
+sites_end : (c : After-opened_count) → c.push_sites.new.self.end ≡ length (site_lines (totals_in c.args.run.now) sites)
+sites_end c = omega (arith, c.push_sites.ensures.end, c.new-last.ensures.end)
 
--- the text is long enough: it is as long as the longest lines would be, or as long as these are
-room : (c : After-write_lines-arg-1) → let a = c.args in
-    length (lines_of a.count a.answers.now) ≤ 22 * a.count
-    → length (lines_of a.count a.answers.now) + 21 * c.opened_count-opened.result + c.write_sites-sites.result ≤ length a.text.now
-room c short =
-    elim c.if-text-count.branch [
-      | then-text-count+else-text-lines_size w ↦ omega (arith, w.lines_size.ensures, w.if-text-lines_size.false, short)
-      | else-text-count w ↦ omega (arith, w.if-text-count.false, short)
-    ]
+few : (c : After-opened_count) → Few c.args.answers.now (run_in c.args.run.now)
+few c = record { answers = c.requires; small = λ i. (c.type_inv.answers i).fits; opened = rw c.opened_count.ensures.0 at c.opened_count.ensures.1 }
 
--- the lines of the answers are written
-written : (c : After-slice_known-2-1) → let text = c.args.text.now in
-    length (lines_of c.args.count c.args.answers.now) + 21 * c.opened_count-opened.result + c.write_sites-sites.result ≤ length text
-    → (c.write_lines-lines.result + 21 * c.opened_count-opened.result + c.write_sites-sites.result ≤ length text) × (length c.write_lines-lines.new.out ≡ length text)
-written c h = let e = c.write_lines-lines.ensures in (omega (arith, h, e.0), rw e.1 (length-stored 0 _ _ (omega (arith, h))))
+pub overflow_add-rest : goal.overflow_add-rest
+overflow_add-rest c = omega (arith, sites_end c, sites-most (totals_in c.args.run.now))
 
-pub overflow_add-count-2 : goal.overflow_add-count-2
-overflow_add-count-2 c = let z = sized c in omega (arith, last_short z, z.few, z.opened-few)
+pub overflow_add-answers : goal.overflow_add-answers
+overflow_add-answers c = omega (arith, sites_end c, sites-most (totals_in c.args.run.now), c.as_chunks.ensures.front_len)
+
+-- the lines of the answers, as arrays and as bytes
+lines_are : (c : After-opened_count) → length (lines_from 1 c.as_chunks.result.0.now) ≡ length (lines_from 1 (first_chunks 4 (length c.args.answers.now / 4) c.args.answers.now))
+lines_are c = ap (λ (l : List (List ℕ)). length (lines_from 1 l)) c.as_chunks.ensures.front
 
 pub overflow_add-lines_size : goal.overflow_add-lines_size
-overflow_add-lines_size c = let z = sized (goal.at.overflow_add-lines_size c).After-opened_count-opened in omega (arith, c.lines_size.ensures, lines_short z, z.few, z.opened-few)
+overflow_add-lines_size c =
+    let b = (goal.at.overflow_add-lines_size c).After-opened_count in
+    omega (arith, c.lines_size.ensures, lines_are b, lines_short (few b) (totals_in c.args.run.now), sites_end b, sites-most (totals_in c.args.run.now))
 
-pub overflow_add-lines_size-then-text-count : goal.overflow_add-lines_size-then-text-count
-overflow_add-lines_size-then-text-count c = let z = sized (goal.at.overflow_add-lines_size-then-text-count c).After-opened_count-opened in omega (arith, c.lines_size.ensures, lines_short z, last_short z, z.few, z.opened-few)
+-- there is no room
+short : (c : After-lines_size) → Few c.args.answers.now (run_in c.args.run.now)
+    → c.push_sites.new.self.end ≡ length (site_lines (totals_in c.args.run.now) sites)
+    → length (lines_from 1 c.as_chunks.result.0.now) ≡ length (lines_from 1 (first_chunks 4 (length c.args.answers.now / 4) c.args.answers.now))
+    → length c.args.text.now < c.lines_size.result + (21 * c.opened_count.result + c.push_sites.new.self.end)
+    → length c.args.text.now < length (text_of c.args.answers.now (run_in c.args.run.now) (totals_in c.args.run.now))
+short c few end lines less = omega (arith, c.lines_size.ensures, less, end, lines, text_size few (totals_in c.args.run.now), c.opened_count.ensures.0)
 
-pub returns-then-text-lines_size : goal.returns-then-text-lines_size
-returns-then-text-lines_size c =
-    let z = sized (goal.at.returns-then-text-lines_size c).After-opened_count-opened in
-    record { text_after = text_none z _ c.lines_size.ensures _ c.if-text-lines_size.true; run_len_bound = text_short z }
+pub returns-then-text-lines_size-clause-text_after : goal.returns-then-text-lines_size-clause-text_after
+returns-then-text-lines_size-clause-text_after c =
+    let at = goal.at.returns-then-text-lines_size-clause-text_after c in
+    let b = at.After-opened_count in
+    text_none (few b) (totals_in c.args.run.now) _ (short at.After-lines_size (few b) (sites_end b) (lines_are b) c.if-text-lines_size.true)
 
-pub write_lines-lines-requires : goal.write_lines-lines-requires
-write_lines-lines-requires c = (c.requires, omega (arith, room c (lines_short (sized (goal.at.write_lines-lines-requires c).After-opened_count-opened))))
+pub returns-then-text-lines_size-clause-too_short : goal.returns-then-text-lines_size-clause-too_short
+returns-then-text-lines_size-clause-too_short c =
+    let at = goal.at.returns-then-text-lines_size-clause-too_short c in
+    let b = at.After-opened_count in
+    let less = short at.After-lines_size (few b) (sites_end b) (lines_are b) c.if-text-lines_size.true in
+    (λ e. cc, λ h. absurd (omega (arith, less, h)))
 
-pub slice_bounds-write_transactions-count : goal.slice_bounds-write_transactions-count
-slice_bounds-write_transactions-count c = omega (arith, written c (room (goal.at.slice_bounds-write_transactions-count c).After-write_lines-arg-1 (lines_short (sized (goal.at.slice_bounds-write_transactions-count c).After-opened_count-opened))))
+pub returns-then-text-lines_size-clause-len_bound : goal.returns-then-text-lines_size-clause-len_bound
+returns-then-text-lines_size-clause-len_bound c =
+    text_short (few (goal.at.returns-then-text-lines_size-clause-len_bound c).After-opened_count) (totals_in c.args.run.now)
 
-pub slice_bounds-write_transactions-start : goal.slice_bounds-write_transactions-start
-slice_bounds-write_transactions-start c = slice_bounds-write_transactions-count c
+-- there is room
+fits : (c : After-new-out) → Few c.args.answers.now (run_in c.args.run.now)
+    → c.push_sites.new.self.end ≡ length (site_lines (totals_in c.args.run.now) sites)
+    → length (lines_from 1 c.as_chunks.result.0.now) ≡ length (lines_from 1 (first_chunks 4 (length c.args.answers.now / 4) c.args.answers.now))
+    → length (text_of c.args.answers.now (run_in c.args.run.now) (totals_in c.args.run.now)) ≤ length c.new-out.result.bytes.now
+fits c few end lines =
+    let size = text_size few (totals_in c.args.run.now) in
+    let most = lines_short few (totals_in c.args.run.now) in
+    let same = ap length c.new-out.ensures.bytes in
+    elim c.else-text-answers.branch [
+      | else-text-answers-via-then-text-answers+else-text-lines_size w ↦ omega (arith, same, size, end, lines, c.opened_count.ensures.0, w.lines_size.ensures, w.if-text-lines_size.false)
+      | else-text-answers-via-else-text-answers w ↦ omega (arith, same, size, end, most, c.opened_count.ensures.0, c.as_chunks.ensures.front_len, w.if-text-answers.false)
+    ]
 
-pub write_transactions-requires : goal.write_transactions-requires
-write_transactions-requires c =
-    simp (length-take, length-drop) (omega (arith, written (goal.at.write_transactions-requires c).After-slice_known-2-1 (room (goal.at.write_transactions-requires c).After-write_lines-arg-1 (lines_short (sized (goal.at.write_transactions-requires c).After-opened_count-opened))), c.opened_count-opened.ensures.0))
+pub push_lines-requires : goal.push_lines-requires
+push_lines-requires c =
+    let at = goal.at.push_lines-requires c in
+    let b = at.After-opened_count in
+    let room = room_for_lines (few b) (totals_in c.args.run.now) c.new-out.result c.new-out.ensures.end (fits at.After-new-out (few b) (sites_end b) (lines_are b)) in
+    (omega (arith, c.as_chunks.ensures.front_len), rw c.as_chunks.ensures.front room)
 
-pub overflow_add-end : goal.overflow_add-end
-overflow_add-end c = omega (arith, written (goal.at.overflow_add-end c).After-slice_known-2-1 (room (goal.at.overflow_add-end c).After-write_lines-arg-1 (lines_short (sized (goal.at.overflow_add-end c).After-opened_count-opened))))
+pub written-requires : goal.written-requires
+written-requires c = pushed_within (sites_room (goal.at.written-requires c).After-new-last) c.push_sites.ensures
 
-pub slice_bounds-last-end : goal.slice_bounds-last-end
-slice_bounds-last-end c = omega (arith, last_short (sized (goal.at.slice_bounds-last-end c).After-opened_count-opened), apart-size (goal.at.slice_bounds-last-end c).After-opened_count-opened)
+pub push_transactions-requires : goal.push_transactions-requires
+push_transactions-requires c =
+    let at = goal.at.push_transactions-requires c in
+    let b = at.After-opened_count in
+    room_for_transactions (few b) (totals_in c.args.run.now) _ c.new-out.ensures.end (fits at.After-new-out (few b) (sites_end b) (lines_are b))
+    (rw c.as_chunks.ensures.front at c.push_lines.ensures)
 
-pub slice_bounds-write_bytes-end : goal.slice_bounds-write_bytes-end
-slice_bounds-write_bytes-end c = (sized (goal.at.slice_bounds-write_bytes-end c).After-opened_count-opened).last_are ∙ sym (ap length (apart-front (goal.at.slice_bounds-write_bytes-end c).After-opened_count-opened))
+pub push-requires : goal.push-requires
+push-requires c =
+    let at = goal.at.push-requires c in
+    let b = at.After-opened_count in
+    let written = c.written.ensures ∙ pushed_front c.new-last.ensures.end c.push_sites.ensures in
+    rw written
+    (room_for_sites (few b) (totals_in c.args.run.now) _ c.new-out.ensures.end (fits at.After-new-out (few b) (sites_end b) (lines_are b))
+    (rw c.as_chunks.ensures.front at c.push_lines.ensures) c.push_transactions.ensures)
 
-pub write_bytes-requires : goal.write_bytes-requires
-write_bytes-requires c =
-    rw (apart-front (goal.at.write_bytes-requires c).After-opened_count-opened) (text_last (sized (goal.at.write_bytes-requires c).After-opened_count-opened) _ c.write_lines-lines.ensures.0 _ _ _ (written (goal.at.write_bytes-requires c).After-slice_known-2-1 (room (goal.at.write_bytes-requires c).After-write_lines-arg-1 (lines_short (sized (goal.at.write_bytes-requires c).After-opened_count-opened)))).0 c.write_lines-lines.ensures.1 c.write_transactions.ensures).room
+pub returns-clause-text_after : goal.returns-clause-text_after
+returns-clause-text_after c =
+    let at = goal.at.returns-clause-text_after c in
+    let b = at.After-opened_count in
+    let written = c.written.ensures ∙ pushed_front c.new-last.ensures.end c.push_sites.ensures in
+    let name = sym (c.push.ensures.same ∙ c.push_transactions.ensures.same ∙ c.push_lines.ensures.same ∙ c.new-out.ensures.same) in
+    rw (← c.new-out.ensures.bytes)
+    (text_all (few b) (totals_in c.args.run.now) _ c.new-out.ensures.end (fits at.After-new-out (few b) (sites_end b) (lines_are b))
+    (rw c.as_chunks.ensures.front at c.push_lines.ensures) c.push_transactions.ensures (rw written at c.push.ensures) _ (search rules))
 
-pub overflow_add-result : goal.overflow_add-result
-overflow_add-result c = omega (arith, written (goal.at.overflow_add-result c).After-slice_known-2-1 (room (goal.at.overflow_add-result c).After-write_lines-arg-1 (lines_short (sized (goal.at.overflow_add-result c).After-opened_count-opened))))
+pub returns-clause-too_short : goal.returns-clause-too_short
+returns-clause-too_short c =
+    let at = goal.at.returns-clause-too_short c in
+    let b = at.After-opened_count in
+    let room = fits at.After-new-out (few b) (sites_end b) (lines_are b) in
+    (λ e. omega (arith, ap length c.new-out.ensures.bytes, room), λ h. refl)
 
-pub returns : goal.returns
-returns c =
-    let z = sized (goal.at.returns c).After-opened_count-opened in
-    record {
-      text_after = text_all z _ c.write_lines-lines.ensures.0 _ _ _ (written (goal.at.returns c).After-slice_known-2-1 (room (goal.at.returns c).After-write_lines-arg-1 (lines_short (sized (goal.at.returns c).After-opened_count-opened)))).0 c.write_lines-lines.ensures.1 c.write_transactions.ensures _ (rw (apart-front (goal.at.returns c).After-opened_count-opened) at c.write_bytes.ensures);
-      run_len_bound = text_short z;
-    }
+pub returns-clause-len_bound : goal.returns-clause-len_bound
+returns-clause-len_bound c = text_short (few (goal.at.returns-clause-len_bound c).After-opened_count) (totals_in c.args.run.now)

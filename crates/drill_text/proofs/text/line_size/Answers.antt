@@ -1,10 +1,10 @@
-use native.Mathlib.Omega.{arith}
+use Rattle.std.proofs.Common.{arith}
 use Rattle.drill_text.proofs.Texts.{line-length}
 use Rattle.drill_text.proofs.text.line_size.Goals as goal
 
 pub returns : goal.returns
 returns c = (
-  rw (c.digits.ensures.0, c.byte_digits.ensures.0, c.byte_digits-2.ensures.0, c.byte_digits-3.ensures.0, c.byte_digits-4.ensures.0)
-      (line-length _ _ _ _ _),
+  rw (c.digit_count.ensures.0, c.digit_count-2.ensures.0, c.digit_count-3.ensures.0, c.digit_count-4.ensures.0, c.digit_count-5.ensures.0)
+      (line-length c.args.answer.now (omega arith) c.args.number),
   omega arith,
 )

@@ -1,16 +1,11 @@
-use native.Mathlib.Omega.{arith}
-use Rattle.drill_text.proofs.Texts.{lined_start, lined_next, lined_end}
+use Rattle.std.proofs.Common.{refl, ap, ◌∙◌, length, arith, length-append}
+use Rattle.drill_text.proofs.Texts.{lines_next, lines_end}
 use Rattle.drill_text.proofs.text.lines_size.Goals as goal
-
-pub loop-i-init : goal.loop-i-init
-loop-i-init c = (lined_start _ _, omega arith)
-
-pub line_size-size-requires : goal.line_size-size-requires
-line_size-size-requires c = (omega arith, omega arith)
 
 pub loop-i-preserved : goal.loop-i-preserved
 loop-i-preserved c =
-    (lined_next c.loop-i.invariant.0 c.loop-i-test.true c.line_size-size.ensures.0, omega arith)
+    let next = simp length-append at (ap length (lines_next c.args.answers.now c.loop-i.i _ (omega arith) refl).split) in
+    (omega arith, omega (arith, next, c.line_size-size.ensures.0, c.loop-i.invariant.1))
 
 pub returns : goal.returns
-returns c = lined_end c.loop-i.invariant.0 c.loop-i-test.false
+returns c = omega (arith, c.loop-i.invariant.1, ap length (lines_end c.args.answers.now c.loop-i.i (omega arith)))

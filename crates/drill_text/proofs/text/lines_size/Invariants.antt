@@ -1,9 +1,7 @@
-use Prim.Native.Nat.{◌-◌, ◌*◌, ◌≤◌}
-use Rattle.drill_text.proofs.Texts.{Lined}
+use Rattle.std.proofs.Common.{◌≡◌, ◌+◌, ◌*◌, ◌≤◌, length, drop}
+use Rattle.drill_text.specs.Inside.{lines_from}
 use Rattle.drill_text.proofs.text.lines_size.Given as goal
 
 abbrev pub invariant-loop-i : goal.invariant-loop-i
-invariant-loop-i l = Lined l.answers l.count l.i l.size × (l.size ≤ 35 * l.i)
-
-abbrev pub decreases-loop-i : goal.decreases-loop-i
-decreases-loop-i l = l.count - l.i
+invariant-loop-i l =
+    (l.size ≤ 35 * l.i) × (l.size + length (lines_from (l.i + 1) (drop l.i l.answers)) ≡ length (lines_from 1 l.answers))

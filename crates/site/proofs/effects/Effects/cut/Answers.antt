@@ -16,10 +16,10 @@ pub returns : goal.returns
 returns c =
     let a = c.args in
     let e = a.self in
-    let forces = c.less-forces in
-    let enters = c.less-enters in
-    let sends = c.less-sends in
-    let closes = c.less-closes in
+    let forces = c.saturating_sub-forces in
+    let enters = c.saturating_sub-enters in
+    let sends = c.saturating_sub-sends in
+    let closes = c.saturating_sub-closes in
     rw (c.up_to.ensures, c.up_to-2.ensures, c.up_to-3.ensures)
     (cut_law a.transaction e a.most forces.result enters.result sends.result closes.result c.first_sent.result
     (forces.ensures ∙ ap (λ (k : ℕ). a.most - k) c.one_if.ensures.0)
