@@ -38,14 +38,16 @@ one_of d f (x ∷ xs) (u ∷ us) s (suc i) h e = one_of d f xs us s.1 i (omega (
 records-whole : (x : Records) (vs : List Val) → Is (row records.the_type) x vs → length x.of ≡ 24
 records-whole x vs p = let e = p.1.1.0.1.0.1 in search length-shown
 
+pub logs-whole : (l : List Records) (us : List Val) → shadow (each records.the_row.Denot records.the_row.own_val l us) → length l ≡ 9 → (i : ℕ) (d : Records) → i ≤ 8 → length (get_or l i d).of ≡ 24
+logs-whole l us s n i d h =
+    let R = records.the_row in
+    let one = one_of R.Denot R.own_val l us s i (omega (arith, h, n)) d in
+    records-whole (get_or l i d) (one.0 ∷ []) one.1
+
 pub run-whole : (r : Run) (vs : List Val) → Is (row run.the_type) r vs → (i : ℕ) (d : Records) → i ≤ 8 → length (get_or r.records i d).of ≡ 24
 run-whole r vs p i d h =
     let l = p.1.1.1.0 in
-    let e = l.1.0.1 in
-    let n : length r.records ≡ 9 = search length-shown in
-    let R = records.the_row in
-    let one = one_of R.Denot R.own_val r.records l.0 l.1.1 i (omega (arith, h, n)) d in
-    records-whole (get_or r.records i d) (one.0 ∷ []) one.1
+    logs-whole r.records l.0 l.1.1 (search length-shown) i d h
 
 pub run-held : (r : Run) (vs : List Val) → Is (row run.the_type) r vs → (s : ℕ) → get_or r.forces s 0 ≡ held (get_or r.forces s 0)
 unfolding held highest
