@@ -10,9 +10,8 @@ use Rattle.joint.specs.Run as run
 use Rattle.joint.specs.Safety.{Moment, happened, history}
 use Rattle.joint.specs.Totals.{highest, held, forces_at}
 use Rattle.joint.specs.Bill.{own_answers, add_up, whole}
-use Rattle.joint.specs.Answers.{run_in, forces_in, answer_in, Seen, seen, next_in}
+use Rattle.joint.specs.Answers.{run_in, forces_in, Answer, answer_in, Seen, seen, next_in}
 use Rattle.joint.specs.Program.{Takes, Adds, Execution, begun, goes, Demand3OfProgram, BillOfProgram}
-use Rattle.joint.specs.declared.answers.Answer.{Answer}
 use Rattle.joint.specs.declared.run.Run.{Run}
 use Rattle.joint.specs.declared.run.Next.{Next}
 use Rattle.joint.proofs.Base.History.{after_snoc, answers_snoc, history_snoc}

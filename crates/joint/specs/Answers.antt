@@ -1,5 +1,5 @@
 -- What the program's values stand for, and its answers in 01's numbers. Nothing here says what is right: State to Drill do.
-use Rattle.std.specs.Prelude.{ℕ, Bool, true, ◌&&◌, List, map, length, take, drop, get_or, replicate}
+use Rattle.std.specs.Prelude.{ℕ, Bool, true, ◌&&◌, List, map, length, take, drop, get_or, replicate, Result, Ok, Err}
 use Rattle.codec.specs.Lists.{select}
 use Rattle.codec.specs.Sets.{member}
 use Rattle.codec.specs.Answers.{record_in, no_record}
@@ -22,10 +22,9 @@ use Rattle.joint.specs.declared.records.Records.{Records}
 use Rattle.joint.specs.declared.transactions.Held.{Held}
 use Rattle.joint.specs.declared.transactions.Transaction.{Transaction}
 use Rattle.joint.specs.declared.answers.Counts.{Counts}
-use Rattle.joint.specs.declared.answers.Answer.{Answer}
-use Rattle.joint.specs.declared.answers.Answer.TheVariants as answer
+use Rattle.joint.specs.declared.answers.Refusal.{Refusal}
+use Rattle.joint.specs.declared.answers.Refusal.TheVariants as refusals
 use Rattle.joint.specs.declared.bill.Bill.{Bill}
-use Rattle.joint.specs.declared.bill.Bill.TheVariants as bill
 use Rattle.joint.specs.declared.run.Run.{Run}
 use Rattle.joint.specs.declared.run.Next.{Next}
 use Rattle.joint.specs.declared.replay.Ran.{Ran}
@@ -121,22 +120,28 @@ refusal_number n = record { number = n; records = 0; forces = 0; sends = 0 }
 abbrev pub accepted : Counts → run.Answer
 accepted c = record { number = 0; records = c.records; forces = c.forces; sends = c.sends }
 
+unfoldable pub number_of : Refusal → ℕ
+number_of refusals.Malformed = 1
+number_of refusals.OpenedBefore = 2
+number_of refusals.NeverOpened = 3
+number_of refusals.NoMember = 4
+number_of refusals.SiteDown = 5
+number_of refusals.SiteUp = 6
+number_of refusals.NeverSent = 7
+number_of refusals.NotAllowed = 8
+number_of refusals.CutTooFar = 9
+
+abbrev pub Answer : Type 0
+Answer = Result Counts Refusal
+
 unfoldable pub answer_in : Answer → run.Answer
-answer_in (answer.Accepted c) = accepted c
-answer_in answer.Malformed = refusal_number 1
-answer_in answer.OpenedBefore = refusal_number 2
-answer_in answer.NeverOpened = refusal_number 3
-answer_in answer.NoMember = refusal_number 4
-answer_in answer.SiteDown = refusal_number 5
-answer_in answer.SiteUp = refusal_number 6
-answer_in answer.NeverSent = refusal_number 7
-answer_in answer.NotAllowed = refusal_number 8
-answer_in answer.CutTooFar = refusal_number 9
+answer_in (Ok c) = accepted c
+answer_in (Err e) = refusal_number (number_of e)
 
 -- a bill, with its counts, or refused
-unfoldable pub bill_in : Bill → run.Answer
-bill_in bill.Refused = refusal_number 1
-bill_in (bill.Costs c) = accepted c
+unfoldable pub bill_in : Result Bill Refusal → run.Answer
+bill_in (Ok b) = accepted b.costs
+bill_in (Err e) = refusal_number (number_of e)
 
 -- what an event gives: its answer with the counts, and the next run
 pub record Seen : Type 0 where

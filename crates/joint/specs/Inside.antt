@@ -3,8 +3,7 @@ use Rattle.std.specs.Prelude.{ℕ, zero, suc, ◌+◌, ◌-◌, ◌*◌, ◌≤�
 use Rattle.std.specs.Prelude as std
 use Rattle.std.proofs.Math.Option.{Option, none, some}
 use Rattle.codec.specs.Lists.{select}
-use Rattle.codec.specs.Sets.{member}
-use Rattle.codec.specs.Image.{stored}
+use Rattle.codec.specs.Sets.{member, empty}
 use Rattle.codec.specs.Records.{LogRecord, of_transaction}
 use Rattle.codec.specs.declared.record.Record.{Record}
 use Rattle.site.specs.Step.{prepare, messages, receiver, Effect}
@@ -13,33 +12,28 @@ use Rattle.site.specs.Numbers.{input_of, receives}
 use Rattle.site.specs.Answers.{effects_in, participant_in, has_kind}
 use Rattle.site.specs.declared.effects.Effects.{Effects}
 use Rattle.joint.specs.State as plain
-use Rattle.joint.specs.State.{appended, stopped, with_coordinator, with_participant, with_marked, at_site, at_transaction, update, holds, opened, down, perform_all}
+use Rattle.joint.specs.State.{takes_part, appended, stopped, with_coordinator, with_participant, with_marked, at_site, at_transaction, update, holds, opened, down, perform_all}
 use Rattle.joint.specs.Event as event
 use Rattle.joint.specs.Event.{opening, beginning, delivery, timeout, forcing, discarding, marking, cut_at, Parsed}
 use Rattle.joint.specs.Plan.{Plan, step, or_nothing, acting, opened_as, trimmed, forgotten_unless, restart_all, transactions}
 use Rattle.joint.specs.Run as run
 use Rattle.joint.specs.Run.{is_send, count, event_parsed, answer_of}
-use Rattle.joint.specs.Drill.{chunks}
-use Rattle.joint.specs.Laws.Events.{bytes_of}
 unfoldable pub use Rattle.joint.specs.Laws.Effects.{site_after, transaction_after, counted}
-use Rattle.joint.specs.Safety.{history}
-use Rattle.joint.specs.Answers.{site_from, part_in, transactions_in, answer_in, run_in, forces_in, Seen, seen}
-use Rattle.joint.specs.Program.{has_room, Adds}
-use Rattle.joint.specs.declared.answers.Answer.{Answer}
-use Rattle.joint.specs.declared.answers.Answer.TheVariants as answer
+use Rattle.joint.specs.Answers.{site_from, part_in, transactions_in, refusal_number, number_of, Seen, seen}
+use Rattle.joint.specs.Program.{has_room}
+use Rattle.joint.specs.declared.answers.Refusal.{Refusal}
+use Rattle.joint.specs.declared.answers.Refusal.TheVariants as refusals
 use Rattle.joint.specs.declared.sites.Site.{Site}
 use Rattle.joint.specs.declared.rows.Then.{Then}
 use Rattle.joint.specs.declared.rows.Then.TheVariants as follows
 use Rattle.joint.specs.declared.rows.Row.{Row}
-use Rattle.joint.specs.declared.changes.Change.{Change}
-use Rattle.joint.specs.declared.changes.Change.TheVariants as change
+use Rattle.joint.specs.declared.events.Cut.{Cut}
 use Rattle.joint.specs.declared.events.Step.{Step}
 use Rattle.joint.specs.declared.events.Step.TheVariants as steps
 use Rattle.joint.specs.declared.events.Event.{Event}
 use Rattle.joint.specs.declared.events.Event.TheVariants as events
 use Rattle.joint.specs.declared.restarts.Resumed.{Resumed}
 use Rattle.joint.specs.declared.restarts.Restarted.{Restarted}
-use Rattle.joint.specs.declared.replay.Ran.{Ran}
 
 -- ---- a site's log
 
@@ -161,6 +155,10 @@ taken r e c = seen (event_parsed r (some (record { event = e; cut = c })))
 abbrev pub cut_from : ℕ → ℕ → Option (ℕ × ℕ)
 cut_from cut keep = cut_at false (eqb cut 255) cut keep
 
+abbrev pub cut_in : std.Option Cut → Option (ℕ × ℕ)
+cut_in std.None = none
+cut_in (std.Some c) = some (c.after, c.keep)
+
 -- begin, a timer or a message, by the number of its kind
 unfoldable pub input_event : ℕ → ℕ → ℕ → event.Event
 input_event kind t p = cond (eqb kind 16) (beginning t) (cond (eqb kind 17) (timeout t p) (delivery t p (get_or messages kind prepare)))
@@ -195,16 +193,16 @@ step_transaction (steps.Mark e) = e.transaction
 
 unfoldable pub step_in : Step → Parsed
 step_in (steps.Open e) = record { event = opening e.transaction e.members e.presume_commit; cut = none }
-step_in (steps.Input e) = record { event = input_event e.kind e.transaction e.participant; cut = cut_from e.cut e.keep }
+step_in (steps.Input e) = record { event = input_event e.kind e.transaction e.participant; cut = cut_in e.cut }
 step_in (steps.Force s) = record { event = forcing s; cut = none }
 step_in (steps.Discard e) = record { event = discarding e.transaction e.site; cut = none }
 step_in (steps.Crash e) = record { event = event.crash e.site; cut = some (0, e.keep) }
 step_in (steps.Mark e) = record { event = marking e.transaction e.participant; cut = none }
 
-unfoldable pub event_in : Event → Option Parsed
-event_in events.Malformed = none
-event_in (events.Step e) = some (step_in e)
-event_in (events.Restart e) = some (record { event = event.restart e.site; cut = cut_from e.cut e.keep })
+unfoldable pub event_in : std.Result Event Refusal → Option Parsed
+event_in (std.Err e) = none
+event_in (std.Ok (events.Step e)) = some (step_in e)
+event_in (std.Ok (events.Restart e)) = some (record { event = event.restart e.site; cut = cut_in e.cut })
 
 abbrev pub StepInRange : Step → Type 0
 StepInRange (steps.Open e) = e.transaction ≤ 7
@@ -215,30 +213,21 @@ StepInRange (steps.Discard e) = (e.transaction ≤ 7) × (e.site ≤ 8)
 StepInRange (steps.Crash e) = e.site ≤ 8
 StepInRange (steps.Mark e) = (e.transaction ≤ 7) × (e.participant ≤ 8)
 
-abbrev pub InRange : Event → Type 0
-InRange events.Malformed = Unit {0}
-InRange (events.Step e) = StepInRange e
-InRange (events.Restart e) = e.site ≤ 8
+abbrev pub InRange : std.Result Event Refusal → Type 0
+InRange (std.Err e) = e ≡ refusals.Malformed
+InRange (std.Ok (events.Step e)) = StepInRange e
+InRange (std.Ok (events.Restart e)) = e.site ≤ 8
 
 -- ---- changes
 
--- a refusal. An acceptance in its place would be refused with a record counted, which no event is
-abbrev pub refusal : Answer → run.Answer
-refusal (answer.Accepted c) = record { number = 1; records = 1; forces = 0; sends = 0 }
-refusal answer.Malformed = answer_in answer.Malformed
-refusal answer.OpenedBefore = answer_in answer.OpenedBefore
-refusal answer.NeverOpened = answer_in answer.NeverOpened
-refusal answer.NoMember = answer_in answer.NoMember
-refusal answer.SiteDown = answer_in answer.SiteDown
-refusal answer.SiteUp = answer_in answer.SiteUp
-refusal answer.NeverSent = answer_in answer.NeverSent
-refusal answer.NotAllowed = answer_in answer.NotAllowed
-refusal answer.CutTooFar = answer_in answer.CutTooFar
+-- the first that strikes of 3, 4 and 5, or 0: unopened, no part, down
+abbrev pub unready : plain.Transaction → ℕ → Bool → ℕ
+unready x p up = cond (empty x.cohort.members) 3 (cond (not (takes_part x p)) 4 (cond (not up) 5 0))
 
 -- in run w, of site s and transaction t
-unfoldable pub change_in : plain.Run → ℕ → ℕ → Change → Seen
-change_in w s t (change.Refused a) = record { answer = refusal a; run = w }
-change_in w s t (change.Happens x) = seen (run.carry w (plan_in s t x) none)
+unfoldable pub change_in : plain.Run → ℕ → ℕ → std.Result Row Refusal → Seen
+change_in w s t (std.Err e) = record { answer = refusal_number (number_of e); run = w }
+change_in w s t (std.Ok x) = seen (run.carry w (plan_in s t x) none)
 
 -- ---- restart
 
@@ -262,10 +251,11 @@ resumed r s cut =
     record { transaction = (p.settle (perform_all s happen r)).transaction; left = cut - length p.acts; sends = count is_send happen }
 
 -- of site s in run r
-unfoldable pub restarted_in : ℕ → plain.Run → Restarted → Seen
-restarted_in s r x =
+unfoldable pub restarted_in : ℕ → plain.Run → std.Result Restarted Refusal → Seen
+restarted_in s r (std.Err e) = record { answer = refusal_number (number_of e); run = r }
+restarted_in s r (std.Ok x) =
     record {
-      answer = answer_in x.answer;
+      answer = record { number = 0; records = 0; forces = 0; sends = x.sends };
       run = record { site = update s (λ _. site_from x.log.site x.log.records.of) r.site; transaction = transactions_in x.transactions };
     }
 
@@ -275,11 +265,3 @@ restarted_in s r x =
 unfoldable pub room_along : plain.Run → List (List ℕ) → Bool
 room_along r [] = true
 room_along r (e ∷ es) = has_room r e && room_along (run.event r e).run es
-
--- n events in bytes, from the run r, with the forces counted till then: `before` and `now` are what the buffer of answers holds
-pub record Goes (r : plain.Run) (forces : ℕ → ℕ) (n : ℕ) (bytes before now : List ℕ) (x : Ran) : Type 0 where
-  pub count : x.count ≡ n
-  pub leaves : room_along r (chunks n bytes) ≡ true → run_in x.run ≡ run.after r (chunks n bytes)
-  pub answers : room_along r (chunks n bytes) ≡ true → now ≡ stored 0 (bytes_of (run.answers r (chunks n bytes))) before
-  pub last : room_along r (chunks n bytes) ≡ true → (m : ℕ) → n ≡ suc m → answer_in x.answer ≡ answer_of (run.event (run.after r (chunks m bytes)) (take 6 (drop (6 * m) bytes)))
-  pub adds : room_along r (chunks n bytes) ≡ true → Adds forces (history r (chunks n bytes)) (forces_in x.run)

@@ -14,8 +14,7 @@ use Rattle.joint.specs.Run.{is_append, count}
 use Rattle.joint.specs.Safety.{Moment, happened, history, is_entry_at, is_sending, Safe}
 use Rattle.joint.specs.Totals.{held, forces_at, totals}
 use Rattle.joint.specs.Bill.{bill, own_answers, add_up, whole, Clean}
-use Rattle.joint.specs.Answers.{run_in, forces_in, totals_in, answer_in, seen, next_in}
-use Rattle.joint.specs.declared.answers.Answer.{Answer}
+use Rattle.joint.specs.Answers.{run_in, forces_in, totals_in, Answer, answer_in, seen, next_in}
 use Rattle.joint.specs.declared.run.Run.{Run}
 use Rattle.joint.specs.declared.run.Next.{Next}
 

@@ -1,49 +1,46 @@
 // The bill: what a clean run of a transaction costs (02).
 ghost use Rattle.std.specs.Prelude.{◌≡◌};
 ghost use Rattle.joint.specs.Bill.{bill_for, bill_number};
-ghost use Rattle.joint.specs.Answers.{bill_in};
+ghost use Rattle.joint.specs.Answers.{accepted, bill_in};
 
-use crate::answers::Counts;
+use crate::answers::{Counts, Refusal};
 use codec::sets::{part, size};
 use site::effects::one_if;
 
 #[derive(Clone, Copy)]
-pub enum Bill {
-    Refused,
-    Costs(Counts),
+pub struct Bill {
+    pub costs: Counts,
 }
 
 impl Bill {
     // In 02's letters: n members, c of them presume commit, a do not.
-    pub fn of(members: u8, presume_commit: u8) -> Bill
+    #[tactic(auto, using(crate::proofs::Engine::Bills::sizes))]
+    pub fn of(members: u8, presume_commit: u8) -> Result<Bill, Refusal>
         ensures { bill_in result ≡ bill_for members presume_commit }
     {
         if (members == 0) | !part(presume_commit, members) {
-            return Bill::Refused;
+            return Err(Refusal::Malformed);
         }
         let n = size(members);
         let c = size(presume_commit);
         let a = n - c;
         let some_c = one_if(c != 0);
         let some_a = one_if(a != 0);
-        Bill::Costs(Counts {
+        let costs = Counts {
             records: 2 * n + 1 + some_c + some_a,
             forces: n + a + 1 + some_c,
             sends: 3 * n + a,
-        })
+        };
+        Ok(Bill { costs })
     }
 
     // Answer, records, forces and sends as the bytes of one number, the lowest first.
+    #[tactic(auto, unfolding(crate::specs::Bill::bill_number))]
     pub fn number(self) -> u32
-        ensures { result ≡ bill_number (bill_in self) }
+        ensures { result ≡ bill_number (accepted self.costs) }
     {
-        match self {
-            Bill::Refused => 1,
-            Bill::Costs(c) => {
-                0x100 * (c.records as u32)
-                    + 0x1_0000 * (c.forces as u32)
-                    + 0x100_0000 * (c.sends as u32)
-            }
-        }
+        0x100 * (self.costs.records as u32)
+            + 0x1_0000 * (self.costs.forces as u32)
+            + 0x100_0000 * (self.costs.sends as u32)
     }
 }

@@ -1,5 +1,5 @@
 // What an event at one site in one transaction does: it is refused, or a row happens. Nothing is stored here.
-ghost use Rattle.std.specs.Prelude.{◌≡◌, true, not, ◌∷◌, ℕ, get_or};
+ghost use Rattle.std.specs.Prelude.{◌≡◌, true, false, not, ◌∷◌, ℕ, length, get_or, MatchResult};
 ghost use Rattle.std.proofs.Math.Option.{none, some};
 ghost use Rattle.codec.specs.Lists.{any};
 ghost use Rattle.codec.specs.Sets.{listed};
@@ -7,12 +7,12 @@ ghost use Rattle.site.specs.Answers.{effects_in};
 ghost use Rattle.joint.specs.State as plain;
 ghost use Rattle.joint.specs.Event as event;
 ghost use Rattle.joint.specs.Run as run;
-ghost use Rattle.joint.specs.Answers.{site_from, no_site, transaction_in, seen};
-ghost use Rattle.joint.specs.Inside.{plan_in, change_in, Here, Fits, Asks, input_event, cut_from, taken};
+ghost use Rattle.joint.specs.Answers.{site_from, no_site, no_records, transaction_in, run_in, number_of, seen};
+ghost use Rattle.joint.specs.Inside.{plan_in, change_in, Here, Fits, Asks, input_event, cut_in, taken, unready, StepInRange, step_in, step_site, step_transaction};
 ghost use Rattle.joint.specs.Program.{room_for};
 
-use crate::answers::Answer;
-use crate::events::{Discarding, Input, Marking, Opening};
+use crate::answers::Refusal;
+use crate::events::{Cut, Discarding, Input, Marking, Opening, Step};
 use crate::records::Records;
 use crate::rows::{Row, Then};
 use crate::run::Run;
@@ -23,32 +23,49 @@ use site::effects::Effects;
 use site::inputs::BEGIN;
 use site::phases::ParticipantPhase;
 
-// A refusal carries nothing. A row that happens is whole: a cut has made it smaller.
-#[derive(Clone, Copy)]
-pub enum Change {
-    Refused(Answer),
-    Happens(Row),
+#[tactic(auto, unfolding(crate::specs::Answers::number_of))]
+fn up(site: Site) -> Result<(), Refusal>
+    ensures { MatchResult result (λ _. site.up ≡ true) (λ e. (site.up ≡ false) × (number_of e ≡ 5)) }
+{
+    if !site.up {
+        return Err(Refusal::SiteDown);
+    }
+    Ok(())
+}
+
+// The transaction is opened, the participant takes part in it, and the site is up.
+#[tactic(auto, unfolding(crate::specs::Answers::number_of))]
+fn ready(site: Site, before: Transaction, participant: u8) -> Result<(), Refusal>
+    ensures { MatchResult result (λ _. unready (transaction_in before) participant site.up ≡ 0) (λ e. unready (transaction_in before) participant site.up ≡ number_of e) }
+{
+    if !before.opened() {
+        return Err(Refusal::NeverOpened);
+    }
+    if !before.takes_part(participant) {
+        return Err(Refusal::NoMember);
+    }
+    up(site)
 }
 
 // A row of a transaction; or, up to the cut, the first effects of it, and then the site goes down.
-fn carry(site: Site, transaction: u8, row: Row, cut: u8, keep: u8) -> Change
-    ensures { (w : plain.Run) (s : ℕ) → Here site w s → Fits (effects_in transaction row.effects) (w.site s) → change_in w s transaction result ≡ seen (run.carry w (plan_in s transaction row) (cut_from cut keep)) }
+fn carry(site: Site, transaction: u8, row: Row, cut: Option<Cut>) -> Result<Row, Refusal>
+    ensures { (w : plain.Run) (s : ℕ) → Here site w s → Fits (effects_in transaction row.effects) (w.site s) → change_in w s transaction result ≡ seen (run.carry w (plan_in s transaction row) (cut_in cut)) }
 {
-    if cut == Run::NO_CUT {
-        return Change::Happens(row);
-    }
+    let Some(cut) = cut else {
+        return Ok(row);
+    };
     let effects = row.effects;
-    if effects.count() < cut {
-        return Change::Refused(Answer::CutTooFar);
+    if effects.count() < cut.after {
+        return Err(Refusal::CutTooFar);
     }
-    let happened = effects.cut(transaction, cut);
+    let happened = effects.cut(transaction, cut.after);
     let after = site.after(happened);
-    if !after.may_keep(keep) {
-        return Change::Refused(Answer::CutTooFar);
+    if !after.may_keep(cut.keep) {
+        return Err(Refusal::CutTooFar);
     }
-    Change::Happens(Row {
+    Ok(Row {
         effects: happened,
-        then: Then::Down(keep),
+        then: Then::Down(cut.keep),
     })
 }
 
@@ -64,16 +81,16 @@ fn all_up(sites: &[Site; Run::SITES], members: u8) -> bool
     true
 }
 
-pub(crate) fn open(sites: &[Site; Run::SITES], before: Transaction, e: Opening) -> Change
+fn open(sites: &[Site; Run::SITES], before: Transaction, e: Opening) -> Result<Row, Refusal>
     ensures { (w : plain.Run) → ((i : ℕ) → (get_or sites.now i no_site).up ≡ (w.site i).up) → transaction_in before ≡ w.transaction e.transaction → change_in w 0 e.transaction result ≡ taken w (event.opening e.transaction e.members e.presume_commit) none }
 {
     if before.opened() {
-        return Change::Refused(Answer::OpenedBefore);
+        return Err(Refusal::OpenedBefore);
     }
     if !all_up(sites, e.members) {
-        return Change::Refused(Answer::SiteDown);
+        return Err(Refusal::SiteDown);
     }
-    Change::Happens(Row {
+    Ok(Row {
         effects: Effects::NONE,
         then: Then::Opened {
             members: e.members,
@@ -83,108 +100,97 @@ pub(crate) fn open(sites: &[Site; Run::SITES], before: Transaction, e: Opening) 
 }
 
 // Begin, a message or a timer. Begin and a timer are refused where there is no row.
-pub(crate) fn input(site: Site, before: Transaction, e: Input) -> Change
+fn input(site: Site, before: Transaction, e: Input) -> Result<Row, Refusal>
     requires { Asks (input_event e.kind e.transaction e.participant) e.transaction e.site e.kind e.participant }
-    ensures { (w : plain.Run) → Here site w e.site → transaction_in before ≡ w.transaction e.transaction → room_for w (input_event e.kind e.transaction e.participant) ≡ true → change_in w e.site e.transaction result ≡ taken w (input_event e.kind e.transaction e.participant) (cut_from e.cut e.keep) }
+    ensures { (w : plain.Run) → Here site w e.site → transaction_in before ≡ w.transaction e.transaction → room_for w (input_event e.kind e.transaction e.participant) ≡ true → change_in w e.site e.transaction result ≡ taken w (input_event e.kind e.transaction e.participant) (cut_in e.cut) }
 {
-    if !before.opened() {
-        return Change::Refused(Answer::NeverOpened);
-    }
-    if !before.takes_part(e.participant) {
-        return Change::Refused(Answer::NoMember);
-    }
-    if !site.up {
-        return Change::Refused(Answer::SiteDown);
-    }
+    ready(site, before, e.participant)?;
     if (e.kind <= Parts::LAST_KIND) & !before.sent(e.participant, e.kind) {
-        return Change::Refused(Answer::NeverSent);
+        return Err(Refusal::NeverSent);
     }
     match Row::step(before, e.site, e.kind, e.participant) {
-        Some(row) => carry(site, e.transaction, row, e.cut, e.keep),
+        Some(row) => carry(site, e.transaction, row, e.cut),
         None => {
             if BEGIN <= e.kind {
-                return Change::Refused(Answer::NotAllowed);
+                return Err(Refusal::NotAllowed);
             }
-            carry(site, e.transaction, Row::NOTHING, e.cut, e.keep)
+            carry(site, e.transaction, Row::NOTHING, e.cut)
         }
     }
 }
 
-pub(crate) fn force(site: Site) -> Change
+fn force(site: Site) -> Result<Row, Refusal>
     ensures { (w : plain.Run) (s t : ℕ) → Here site w s → change_in w s t result ≡ taken w (event.forcing s) none }
 {
-    if !site.up {
-        return Change::Refused(Answer::SiteDown);
-    }
+    up(site)?;
     let mut effects = Effects::NONE;
     effects.forced = true;
-    Change::Happens(Row {
+    Ok(Row {
         effects,
         then: Then::Same,
     })
 }
 
 // The oldest record is dropped; with the last one gone a participant is Unknown.
-pub(crate) fn discard(site: Site, records: Records, before: Transaction, e: Discarding) -> Change
+fn discard(site: Site, records: Records, before: Transaction, e: Discarding) -> Result<Row, Refusal>
     ensures { (w : plain.Run) → site_from site records.of ≡ w.site e.site → transaction_in before ≡ w.transaction e.transaction → change_in w e.site e.transaction result ≡ taken w (event.discarding e.transaction e.site) none }
 {
-    if !before.opened() {
-        return Change::Refused(Answer::NeverOpened);
-    }
-    if !before.takes_part(e.site) {
-        return Change::Refused(Answer::NoMember);
-    }
-    if !site.up {
-        return Change::Refused(Answer::SiteDown);
-    }
+    ready(site, before, e.site)?;
     if !records.may_discard(e.transaction, site.stable_count()) {
-        return Change::Refused(Answer::NotAllowed);
+        return Err(Refusal::NotAllowed);
     }
     let log = records.trim(site, e.transaction);
-    let left = log.site;
-    let rest = log.records;
-    let last = (e.site != 0) & !rest.remember(e.transaction, left.count());
-    Change::Happens(Row {
+    let last = (e.site != 0) & !log.records.remember(e.transaction, log.site.count());
+    Ok(Row {
         effects: Effects::NONE,
         then: Then::Discarded(last),
     })
 }
 
 // An event of no effects, cut there.
-pub(crate) fn crash(site: Site, keep: u8) -> Change
+fn crash(site: Site, keep: u8) -> Result<Row, Refusal>
     ensures { (w : plain.Run) (s t : ℕ) → Here site w s → change_in w s t result ≡ taken w (event.crash s) (some (0, keep)) }
 {
-    if !site.up {
-        return Change::Refused(Answer::SiteDown);
-    }
+    up(site)?;
     if !site.may_keep(keep) {
-        return Change::Refused(Answer::CutTooFar);
+        return Err(Refusal::CutTooFar);
     }
-    Change::Happens(Row {
+    Ok(Row {
         effects: Effects::NONE,
         then: Then::Down(keep),
     })
 }
 
 // A participant that only looked is marked, while it is Working.
-pub(crate) fn mark(site: Site, before: Transaction, e: Marking) -> Change
+fn mark(site: Site, before: Transaction, e: Marking) -> Result<Row, Refusal>
     ensures { (w : plain.Run) → Here site w e.participant → transaction_in before ≡ w.transaction e.transaction → change_in w e.participant e.transaction result ≡ taken w (event.marking e.transaction e.participant) none }
 {
-    if !before.opened() {
-        return Change::Refused(Answer::NeverOpened);
-    }
-    if !before.takes_part(e.participant) {
-        return Change::Refused(Answer::NoMember);
-    }
-    if !site.up {
-        return Change::Refused(Answer::SiteDown);
-    }
-    let phase = before.participant_phase(e.participant);
-    match phase {
-        ParticipantPhase::Working => Change::Happens(Row {
+    ready(site, before, e.participant)?;
+    match before.participant_phase(e.participant) {
+        ParticipantPhase::Working => Ok(Row {
             effects: Effects::NONE,
             then: Then::Marked,
         }),
-        _ => Change::Refused(Answer::NotAllowed),
+        _ => Err(Refusal::NotAllowed),
+    }
+}
+
+// What a step does, by its kind; and its site has 24 records.
+pub(crate) fn decide(run: &Run, step: Step) -> Result<Row, Refusal>
+    requires { StepInRange step }
+    ensures decided { room_for (run_in run.now) (step_in step).event ≡ true → change_in (run_in run.now) (step_site step) (step_transaction step) result ≡ taken (run_in run.now) (step_in step).event (step_in step).cut }
+    ensures whole { length (get_or run.now.records (step_site step) no_records).of ≡ 24 }
+{
+    let s = step.site() as usize;
+    let t = step.transaction() as usize;
+    let site = run.sites[s];
+    let transaction = run.transactions[t];
+    match step {
+        Step::Open(e) => open(&run.sites, transaction, e),
+        Step::Input(e) => input(site, transaction, e),
+        Step::Force(_) => force(site),
+        Step::Discard(e) => discard(site, run.records[s], transaction, e),
+        Step::Crash(e) => crash(site, e.keep),
+        Step::Mark(e) => mark(site, transaction, e),
     }
 }

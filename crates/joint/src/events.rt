@@ -3,12 +3,20 @@ ghost use Rattle.std.specs.Prelude.{◌≡◌, not, ◌&&◌, ◌||◌, eqb, get
 ghost use Rattle.site.specs.Step as step;
 ghost use Rattle.site.specs.Step.{messages, prepare};
 ghost use Rattle.joint.specs.Event.{bytes_in_range, cut_in_range, parse};
-ghost use Rattle.joint.specs.Inside.{event_in, InRange, step_site, step_transaction};
+ghost use Rattle.joint.specs.Inside.{cut_in, cut_from, event_in, InRange, step_site, step_transaction};
 
+use crate::answers::Refusal;
 use crate::run::Run;
 use codec::message::Parts;
 use codec::sets::part;
 use site::inputs::{BEGIN, TIMER};
+
+// Power goes after so many effects, and the site keeps the unforced records that a mask names.
+#[derive(Clone, Copy)]
+pub struct Cut {
+    pub after: u8,
+    pub keep: u8,
+}
 
 #[derive(Clone, Copy)]
 pub struct Opening {
@@ -25,8 +33,7 @@ pub struct Input {
     pub site: u8,
     pub kind: u8,
     pub participant: u8,
-    pub cut: u8,
-    pub keep: u8,
+    pub cut: Option<Cut>,
 }
 
 #[derive(Clone, Copy)]
@@ -50,8 +57,7 @@ pub struct Crash {
 #[derive(Clone, Copy)]
 pub struct Restart {
     pub site: u8,
-    pub cut: u8,
-    pub keep: u8,
+    pub cut: Option<Cut>,
 }
 
 // An event at one site in one transaction; force and crash name none.
@@ -68,7 +74,6 @@ pub enum Step {
 // A restart goes through all transactions.
 #[derive(Clone, Copy)]
 pub enum Event {
-    Malformed,
     Step(Step),
     Restart(Restart),
 }
@@ -138,12 +143,22 @@ fn receiver(kind: u8, participant: u8) -> u8
     participant
 }
 
+// From an event's bytes.
+fn cut_of(cut: u8, keep: u8) -> Option<Cut>
+    ensures { cut_in result ≡ cut_from cut keep }
+{
+    if cut == Run::NO_CUT {
+        return None;
+    }
+    Some(Cut { after: cut, keep })
+}
+
 impl Event {
-    pub fn read(bytes: &[u8]) -> Event
+    pub fn read(bytes: &[u8]) -> Result<Event, Refusal>
         ensures { (event_in result ≡ parse bytes.now) × InRange result }
     {
         if bytes.len() != Run::EVENT_LENGTH {
-            return Event::Malformed;
+            return Err(Refusal::Malformed);
         }
         let code = bytes[0];
         let x = bytes[1];
@@ -152,49 +167,49 @@ impl Event {
         let cut = bytes[4];
         let keep = bytes[5];
         if !in_range(code, x, y, z, cut, keep) {
-            return Event::Malformed;
+            return Err(Refusal::Malformed);
         }
         match code {
-            Run::OPEN => Event::Step(Step::Open(Opening {
+            Run::OPEN => Ok(Event::Step(Step::Open(Opening {
                 transaction: x,
                 members: y,
                 presume_commit: z,
-            })),
-            Run::BEGIN => Event::Step(Step::Input(Input {
+            }))),
+            Run::BEGIN => Ok(Event::Step(Step::Input(Input {
                 transaction: x,
                 site: 0,
                 kind: BEGIN,
                 participant: 0,
-                cut,
-                keep,
-            })),
-            Run::DELIVER => Event::Step(Step::Input(Input {
+                cut: cut_of(cut, keep),
+            }))),
+            Run::DELIVER => Ok(Event::Step(Step::Input(Input {
                 transaction: x,
                 site: receiver(z, y),
                 kind: z,
                 participant: y,
-                cut,
-                keep,
-            })),
-            Run::TIMER => Event::Step(Step::Input(Input {
+                cut: cut_of(cut, keep),
+            }))),
+            Run::TIMER => Ok(Event::Step(Step::Input(Input {
                 transaction: x,
                 site: y,
                 kind: TIMER,
                 participant: y,
-                cut,
-                keep,
-            })),
-            Run::FORCE => Event::Step(Step::Force(y)),
-            Run::DISCARD => Event::Step(Step::Discard(Discarding {
+                cut: cut_of(cut, keep),
+            }))),
+            Run::FORCE => Ok(Event::Step(Step::Force(y))),
+            Run::DISCARD => Ok(Event::Step(Step::Discard(Discarding {
                 transaction: x,
                 site: y,
+            }))),
+            Run::CRASH => Ok(Event::Step(Step::Crash(Crash { site: y, keep }))),
+            Run::RESTART => Ok(Event::Restart(Restart {
+                site: y,
+                cut: cut_of(cut, keep),
             })),
-            Run::CRASH => Event::Step(Step::Crash(Crash { site: y, keep })),
-            Run::RESTART => Event::Restart(Restart { site: y, cut, keep }),
-            _ => Event::Step(Step::Mark(Marking {
+            _ => Ok(Event::Step(Step::Mark(Marking {
                 transaction: x,
                 participant: y,
-            })),
+            }))),
         }
     }
 }

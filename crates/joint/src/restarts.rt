@@ -5,9 +5,9 @@ ghost use Rattle.joint.specs.State as plain;
 ghost use Rattle.joint.specs.State.{forgotten};
 ghost use Rattle.joint.specs.Event as event;
 ghost use Rattle.joint.specs.Answers.{site_from, transactions_in};
-ghost use Rattle.joint.specs.Inside.{KindsOf, resumed_in, resumed, restarted_in, taken, cut_from};
+ghost use Rattle.joint.specs.Inside.{KindsOf, resumed_in, resumed, restarted_in, taken, cut_in};
 
-use crate::answers::{Answer, Counts};
+use crate::answers::Refusal;
 use crate::events::Restart;
 use crate::records::{Kinds, Records, SiteLog};
 use crate::rows::Row;
@@ -24,10 +24,10 @@ pub struct Resumed {
     pub sends: u8,
 }
 
-// A restart's answer, and the site with its records and all transactions after it.
+// How many messages a restart sent, and the site with its records and all transactions after it.
 #[derive(Clone, Copy)]
 pub struct Restarted {
-    pub answer: Answer,
+    pub sends: u8,
     pub log: SiteLog,
     pub transactions: [Transaction; Run::TRANSACTIONS],
 }
@@ -72,10 +72,9 @@ fn resume_all(
             let number = at as u8;
             let row = Row::restart(transaction, number, site, kinds[at], records, count);
             let effects = row.effects;
-            let then = row.then;
             let happened = effects.cut(number, left);
             let after = transaction.after(site, happened);
-            transactions[at] = after.settle(site, then);
+            transactions[at] = after.settle(site, row.then);
             left = less(left, effects.count());
             sends += happened.sends();
         }
@@ -92,46 +91,38 @@ pub(crate) fn restart(
     records: Records,
     transactions: [Transaction; Run::TRANSACTIONS],
     e: Restart,
-) -> Restarted
+) -> Result<Restarted, Refusal>
     requires { e.site ≤ 8 }
-    ensures { (x : plain.Run) → site_from site records.of ≡ x.site e.site → transactions_in transactions ≡ x.transaction → restarted_in e.site x result ≡ taken x (event.restart e.site) (cut_from e.cut e.keep) }
+    ensures { (x : plain.Run) → site_from site records.of ≡ x.site e.site → transactions_in transactions ≡ x.transaction → restarted_in e.site x result ≡ taken x (event.restart e.site) (cut_in e.cut) }
 {
     if site.up {
-        return Restarted {
-            answer: Answer::SiteUp,
-            log: SiteLog { site, records },
-            transactions,
-        };
+        return Err(Refusal::SiteUp);
     }
     let count = site.stable_count();
     let kinds = records.kinds(count);
-    let resumed = resume_all(transactions, kinds, records, count, e.site, e.cut);
+    let most = match e.cut {
+        Some(cut) => cut.after,
+        None => u8::MAX,
+    };
+    let resumed = resume_all(transactions, kinds, records, count, e.site, most);
     let after = resumed.transactions;
-    let answer = Answer::Accepted(Counts {
-        records: 0,
-        forces: 0,
-        sends: resumed.sends,
-    });
-    if e.cut == Run::NO_CUT {
-        return Restarted {
-            answer,
+    let Some(cut) = e.cut else {
+        return Ok(Restarted {
+            sends: resumed.sends,
             log: SiteLog {
                 site: site.start(),
                 records,
             },
             transactions: after,
-        };
+        });
+    };
+    if (resumed.left != 0) | !site.may_keep(cut.keep) {
+        return Err(Refusal::CutTooFar);
     }
-    if (resumed.left != 0) | !site.may_keep(e.keep) {
-        return Restarted {
-            answer: Answer::CutTooFar,
-            log: SiteLog { site, records },
-            transactions,
-        };
-    }
-    Restarted {
-        answer,
-        log: records.stop(site, e.keep),
-        transactions: forget_all(after, e.site as usize),
-    }
+    let forgotten = forget_all(after, e.site as usize);
+    Ok(Restarted {
+        sends: resumed.sends,
+        log: records.stop(site, cut.keep),
+        transactions: forgotten,
+    })
 }

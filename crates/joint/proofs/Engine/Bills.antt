@@ -7,6 +7,7 @@ use lib.ListN.{length}
 use borrow.Author.Tests.{not-false}
 use Rattle.codec.specs.Sets.{participants, member, empty, listed, part}
 use Rattle.codec.specs.Laws.Tests.{or_none}
+use Rattle.codec.specs.Laws.Listed.{size-most}
 use Rattle.joint.specs.Run.{Answer}
 use Rattle.joint.specs.Bill.{size, one_if, bill, bill_for}
 use Rattle.joint.specs.Answers.{refusal_number}
@@ -17,6 +18,9 @@ use Rattle.joint.proofs.Safety.Sets.{part_within}
 pub part-size : (a b : ℕ) → part a b ≡ true → length (listed a) ≤ length (listed b)
 unfolding listed
 part-size a b e = select-within (λ p. member p b) (λ p. member p a) (part_within a b e) participants
+
+-- a set has eight members at most
+pub ruleset sizes = size-most
 
 -- ---- the test, and the numbers
 

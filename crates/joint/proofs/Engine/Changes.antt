@@ -1,5 +1,5 @@
 -- What an event at one site in one transaction does: a row, whole or cut, and each event's refusals and plan.
-use Prim.Native.Nat.{ℕ, suc, ◌+◌, ◌≤◌, ◌<◌}
+use Prim.Native.Nat.{ℕ, ◌+◌, ◌≤◌, ◌<◌}
 use mathlib.Core.Path.{◌≡◌, refl, sym, ap, ap₂, ◌∙◌, fun_ext}
 use mathlib.Core.Bool.{Bool, true, false, cond, not, ◌&&◌, ◌||◌}
 use mathlib.Core.List.{List, [], ◌∷◌, ◌++◌, map}
@@ -7,7 +7,7 @@ use mathlib.Core.Option.{Option, none, some}
 use lib.ListN.{length, take, get_or, length-take, length-drop, length-map, length-append}
 use lib.Dec.{eqb, leb}
 use native.Mathlib.Omega.{arith}
-use borrow.Author.Tests.{eq-eqb, ne_eqb, le-leb, lt-leb, leb-true}
+use borrow.Author.Tests.{le-leb, lt-leb, leb-true}
 use Rattle.codec.specs.Lists.{any, every, first, select, only_if}
 use Rattle.codec.specs.Sets.{empty, listed}
 use Rattle.codec.specs.Records.{LogRecord, of_transaction}
@@ -20,13 +20,14 @@ use Rattle.site.specs.declared.effects.Effects.{Effects}
 use Rattle.site.specs.Laws.Order.{ordered-none}
 use Rattle.joint.specs.State as plain
 use Rattle.joint.specs.State.{Run, Act, may_keep, opened, takes_part, at_site, at_transaction, with_marked, perform, perform_all, down}
-use Rattle.joint.specs.Event.{Event, opening, forcing, discarding, crash, marking, cut_at}
+use Rattle.joint.specs.Event.{Event, opening, forcing, discarding, crash, marking}
 use Rattle.joint.specs.Refusals.{unopened, stranger, is_down, refusals}
 use Rattle.joint.specs.Plan.{Plan, plan, step, settling, acting, or_nothing, opened_as, closes, newest, closed, may_discard, trimmed, remembers, forgotten_unless, discard, is_working}
 use Rattle.joint.specs.Run.{partly, can_cut, cut_short, carry, carry_plan, is_append, is_force, is_send, count, answer_of}
 use Rattle.joint.specs.Program.{room_for, room_for_plan}
-use Rattle.joint.specs.Answers.{site_from, no_site, seen}
-use Rattle.joint.specs.Inside.{site_after, counted, size, Fits, stable_of, count_of, put_row, Here, then_in, plan_in, Asks, upon_input, cut_from, taken}
+use Rattle.joint.specs.Answers.{site_from, no_site, number_of, seen}
+use Rattle.joint.specs.Inside.{site_after, counted, size, Fits, stable_of, count_of, put_row, Here, then_in, plan_in, Asks, upon_input, unready, taken}
+use Rattle.joint.specs.declared.answers.Refusal.{Refusal}
 use Rattle.joint.specs.declared.sites.Site.{Site}
 use Rattle.joint.specs.declared.rows.Row.{Row}
 use Rattle.joint.specs.declared.rows.Then.{Then}
@@ -35,9 +36,9 @@ use Rattle.joint.proofs.Base.Updates.{update_same}
 use Rattle.joint.proofs.Engine.Effects.{fits_cut}
 use Rattle.joint.proofs.Engine.Sites.{row-length, stable-taken, log-taken}
 use Rattle.joint.proofs.Base.Placed.{performed, acting-length, acting-take, acting-counted}
-use Rattle.joint.proofs.Engine.Refused.{refused_by, refuse-seen, refused_by_lem, not-refused}
+use Rattle.joint.proofs.Engine.Refused.{above_zero, refused_by, refuse-seen, refused_by_lem, refused_as, not-refused}
 use Rattle.joint.proofs.Engine.Rows.{no_effects, no_effects_lem}
-use Rattle.joint.proofs.Engine.InputEvents.{not-not, struck, input_struck, input_plan, input_struck_lem}
+use Rattle.joint.proofs.Engine.InputEvents.{not-not, struck_first, struck_next, input_plan, input_struck_lem}
 
 abbrev forced_only : Effects
 forced_only = record { appended = 0; first = 0; second = 0; forced = true; entered = 0; message = 0; to = 0; owing = 0; last = 0 }
@@ -67,15 +68,11 @@ module _ (w : Run) (s t : ℕ) (x : Row) where
   abbrev es : List Effect
   es = effects_in t x.effects
 
-  pub carried_whole : (cut keep : ℕ) → cut ≡ 255 → seen (carry w (plan_in s t x) none) ≡ seen (carry w (plan_in s t x) (cut_from cut keep))
-  unfolding cut_at
-  carried_whole cut keep e = rw (eq-eqb cut 255 e) refl
-
-  module _ (cut keep : ℕ) (n : cut ≡ 255 → ⊥) where
+  module _ (cut keep : ℕ) where
     -- more effects than there are
-    pub cut_beyond : length (effects_in t x.effects) < cut → refused_by 9 w ≡ seen (carry w (plan_in s t x) (cut_from cut keep))
-    unfolding carry cut_at cut_short can_cut every
-    cut_beyond h = rw (ne_eqb cut 255 n, lt-leb cut (length (acting t es)) (omega (arith, h, acting-length t es))) (sym (refuse-seen w 9))
+    pub cut_beyond : length (effects_in t x.effects) < cut → refused_by 9 w ≡ seen (carry w (plan_in s t x) (some (cut, keep)))
+    unfolding carry cut_short can_cut every
+    cut_beyond h = rw (lt-leb cut (length (acting t es)) (omega (arith, h, acting-length t es))) (sym (refuse-seen w 9))
 
     -- h is what of them happens
     module _ (h : Effects) (happens : effects_in t h ≡ take cut (effects_in t x.effects)) (fits : cut ≤ length (effects_in t x.effects)) where
@@ -89,18 +86,18 @@ module _ (w : Run) (s t : ℕ) (x : Row) where
           ∙ ap (λ (r : Run). may_keep keep (r.site s).unforced) (performed s t (effects_in t h) w)
           ∙ ap (λ (a : plain.Site). may_keep keep a.unforced) (update_same s (λ _. site_after t (effects_in t h) (w.site s)) w.site)
 
-      pub keep_beyond : may_keep keep (site_after t (effects_in t h) (w.site s)).unforced ≡ false → refused_by 9 w ≡ seen (carry w (plan_in s t x) (cut_from cut keep))
-      unfolding carry cut_at cut_short can_cut every
+      pub keep_beyond : may_keep keep (site_after t (effects_in t h) (w.site s)).unforced ≡ false → refused_by 9 w ≡ seen (carry w (plan_in s t x) (some (cut, keep)))
+      unfolding carry cut_short can_cut every
       keep_beyond k =
-          rw (ne_eqb cut 255 n, le-leb cut (length (acting t es)) (omega (arith, fits, acting-length t es)), left, k)
+          rw (le-leb cut (length (acting t es)) (omega (arith, fits, acting-length t es)), left, k)
           (sym (refuse-seen w 9))
 
       pub carried_cut : may_keep keep (site_after t (effects_in t h) (w.site s)).unforced ≡ true
-          → seen (carry w (plan_in s t (record { effects = h; then = follows.Down keep })) none) ≡ seen (carry w (plan_in s t x) (cut_from cut keep))
-      unfolding carry cut_at cut_short can_cut every partly then_in
+          → seen (carry w (plan_in s t (record { effects = h; then = follows.Down keep })) none) ≡ seen (carry w (plan_in s t x) (some (cut, keep)))
+      unfolding carry cut_short can_cut every partly then_in
       carried_cut k =
           let kept : may_keep keep ((perform_all s (take cut (acting t es)) w).site s).unforced ≡ true = (unfold partly in left) ∙ k in
-          rw (ne_eqb cut 255 n, le-leb cut (length (acting t es)) (omega (arith, fits, acting-length t es)), kept)
+          rw (le-leb cut (length (acting t es)) (omega (arith, fits, acting-length t es)), kept)
           (ap (λ (l : List Act). seen (record { answer = 0; site = s; acts = l; run = down s keep (perform_all s l w) })) acts)
 
 pub up_here : (x : Site) (w : Run) (s : ℕ) → Here x w s → x.up ≡ (w.site s).up
@@ -120,22 +117,33 @@ nothing_fits x w s t (rs, (n, own)) =
 -- ---- begin, a message, a timer
 
 -- the refusals' tests, by what the program's functions answer
-pub struck_by : {x : plain.Transaction} {o part up : Bool} (w : Run) (t s p : ℕ) (d : plain.Transaction → Bool) → x ≡ w.transaction t
-    → o ≡ not (empty x.cohort.members) → part ≡ takes_part x p → up ≡ (w.site s).up
-    → struck (empty (w.transaction t).cohort.members) (not (takes_part (w.transaction t) p)) (not (w.site s).up) (d (w.transaction t)) ≡ struck (not o) (not part) (not up) (d x)
-struck_by {x} w t s p d own a b c =
-    rw (a, b, c, not-not (empty x.cohort.members))
-    (ap (λ (y : plain.Transaction). struck (empty y.cohort.members) (not (takes_part y p)) (not (w.site s).up) (d y)) (sym own))
+pub unready_here : {x : plain.Transaction} {up : Bool} {n : ℕ} (w : Run) (t s p : ℕ) → x ≡ w.transaction t → up ≡ (w.site s).up
+    → unready x p up ≡ n → unready (w.transaction t) p (w.site s).up ≡ n
+unready_here w t s p own here e = ap₂ (λ (x : plain.Transaction) (up : Bool). unready x p up) (sym own) (sym here) ∙ e
 
 module _ (w : Run) {e : Event} {t s kind p : ℕ} (asks : Asks e t s kind p) (c : Option (ℕ × ℕ)) where
-  -- a refusal strikes
-  pub input_refused : (n : ℕ) → input_struck w t s kind p ≡ suc n → refused_by (suc n) w ≡ taken w e c
-  input_refused n q = sym (refused_by_lem w e c n (input_struck_lem w asks ∙ q))
+  -- one of 3 to 5 strikes
+  pub input_unready : (x : Refusal) → unready (w.transaction t) p (w.site s).up ≡ number_of x → refused_by (number_of x) w ≡ taken w e c
+  input_unready x q =
+      let n = above_zero x in
+      refused_as w e c x (input_struck_lem w asks ∙ struck_first _ _ _ _ n.0 (q ∙ n.1) ∙ sym n.1)
 
-  module _ (passed : input_struck w t s kind p ≡ 0) where
-    passes : first (refusals w e) ≡ 0
-    passes = input_struck_lem w asks ∙ passed
+  -- none does: x, up and b are what the program holds
+  module _ {x : plain.Transaction} {up b d : Bool} (own : x ≡ w.transaction t) (here : up ≡ (w.site s).up) (ready : unready x p up ≡ 0)
+      (sent : b ≡ x.sent p kind) (q : (leb kind 7 && not b) ≡ d) where
+    asked : first (refusals w e) ≡ cond d 7 0
+    asked =
+        input_struck_lem w asks
+        ∙ struck_next _ _ _ _ (unready_here w t s p own here ready)
+        ∙ ap (λ (d : Bool). cond d 7 0) (ap (λ (b : Bool). leb kind 7 && not b) (sym (sent ∙ ap (λ (x : plain.Transaction). x.sent p kind) own)) ∙ q)
 
+    pub input_unsent : d ≡ true → refused_by 7 w ≡ taken w e c
+    input_unsent h = sym (refused_by_lem w e c 6 (asked ∙ ap (λ (d : Bool). cond d 7 0) h))
+
+    pub input_passed : d ≡ false → first (refusals w e) ≡ 0
+    input_passed h = asked ∙ ap (λ (d : Bool). cond d 7 0) h
+
+  module _ (passes : first (refusals w e) ≡ 0) where
     carries : (o : Option Plan) → upon_input w t s kind p ≡ o → taken w e c ≡ seen (carry_plan w o c)
     carries o q = not-refused w e c passes ∙ ap (λ (o : Option Plan). seen (carry_plan w o c)) (input_plan w asks ∙ q)
 
@@ -209,8 +217,8 @@ module _ (w : Run) (t M C : ℕ) where
 -- ---- force and crash
 
 module _ (w : Run) (s t : ℕ) where
-  down_struck : (e : Event) → first (refusals w e) ≡ cond (not (w.site s).up) 5 0 → (w.site s).up ≡ false → (c : Option (ℕ × ℕ)) → refused_by 5 w ≡ taken w e c
-  down_struck e q up c = sym (refused_by_lem w e c 4 (rw up at q))
+  down_struck : (e : Event) → first (refusals w e) ≡ cond (not (w.site s).up) 5 0 → (w.site s).up ≡ false → (c : Option (ℕ × ℕ)) {n : ℕ} → n ≡ 5 → refused_by n w ≡ taken w e c
+  down_struck e q up c five = rw five (sym (refused_by_lem w e c 4 (rw up at q)))
 
   force_struck : first (refusals w (forcing s)) ≡ cond (not (w.site s).up) 5 0
   unfolding refusals first is_down
@@ -220,7 +228,7 @@ module _ (w : Run) (s t : ℕ) where
   unfolding refusals first is_down
   crash_struck = refl
 
-  pub force-down : (w.site s).up ≡ false → refused_by 5 w ≡ taken w (forcing s) none
+  pub force-down : (w.site s).up ≡ false → {n : ℕ} → n ≡ 5 → refused_by n w ≡ taken w (forcing s) none
   force-down up = down_struck (forcing s) force_struck up none
 
   -- its one effect is of no transaction
@@ -230,7 +238,7 @@ module _ (w : Run) (s t : ℕ) where
       ap (λ (l : List Effect). seen (carry w (record { site = s; acts = acting t l; settle = λ r. r }) none)) (forced-only t)
       ∙ sym (not-refused w (forcing s) none (rw up at force_struck))
 
-  pub crash-down : (keep : ℕ) → (w.site s).up ≡ false → refused_by 5 w ≡ taken w (crash s) (some (0, keep))
+  pub crash-down : (keep : ℕ) → (w.site s).up ≡ false → {n : ℕ} → n ≡ 5 → refused_by n w ≡ taken w (crash s) (some (0, keep))
   crash-down keep up = down_struck (crash s) crash_struck up (some (0, keep))
 
   module _ (keep : ℕ) (up : (w.site s).up ≡ true) where
@@ -264,27 +272,23 @@ module _ (x y : Site) (rs qs : List Record) (w : Run) (t s : ℕ) (all : length 
       ap (any (of_transaction t)) (log-taken y qs n)
       ∙ ap (λ (a : plain.Site). any (of_transaction t) (a.stable ++ a.unforced)) (e ∙ ap (trimmed t) own)
 
--- the first of 3 to 5 that strikes a discard or a mark at site s, or 0
-abbrev pub site_struck : Run → ℕ → ℕ → ℕ
-site_struck w t s = struck (empty (w.transaction t).cohort.members) (not (takes_part (w.transaction t) s)) (not (w.site s).up) false
-
 module _ (w : Run) (t s : ℕ) where
-  discard_struck : first (refusals w (discarding t s)) ≡ site_struck w t s
+  discard_struck : first (refusals w (discarding t s)) ≡ unready (w.transaction t) s (w.site s).up
   unfolding refusals first unopened opened is_down stranger
   discard_struck = rw (not-not (empty (w.transaction t).cohort.members)) refl
 
-  mark_struck : first (refusals w (marking t s)) ≡ site_struck w t s
+  mark_struck : first (refusals w (marking t s)) ≡ unready (w.transaction t) s (w.site s).up
   unfolding refusals first unopened opened is_down stranger
   mark_struck = rw (not-not (empty (w.transaction t).cohort.members)) refl
 
-  module _ (n : ℕ) (q : site_struck w t s ≡ suc n) where
-    pub discard-refused : refused_by (suc n) w ≡ taken w (discarding t s) none
-    discard-refused = sym (refused_by_lem w (discarding t s) none n (discard_struck ∙ q))
+  module _ (x : Refusal) (q : unready (w.transaction t) s (w.site s).up ≡ number_of x) where
+    pub discard-refused : refused_by (number_of x) w ≡ taken w (discarding t s) none
+    discard-refused = refused_as w (discarding t s) none x (discard_struck ∙ q)
 
-    pub mark-refused : refused_by (suc n) w ≡ taken w (marking t s) none
-    mark-refused = sym (refused_by_lem w (marking t s) none n (mark_struck ∙ q))
+    pub mark-refused : refused_by (number_of x) w ≡ taken w (marking t s) none
+    mark-refused = refused_as w (marking t s) none x (mark_struck ∙ q)
 
-  module _ (passed : site_struck w t s ≡ 0) where
+  module _ (passed : unready (w.transaction t) s (w.site s).up ≡ 0) where
     discards : taken w (discarding t s) none ≡ seen (carry_plan w (only_if (may_discard w t s) (settling s (discard t s))) none)
     unfolding plan
     discards = not-refused w (discarding t s) none (discard_struck ∙ passed)

@@ -16,7 +16,7 @@ use Rattle.joint.specs.Event.{Event}
 use Rattle.joint.specs.Refusals.{unopened, stranger, is_down, refusals}
 use Rattle.joint.specs.Plan.{plan}
 use Rattle.joint.proofs.Engine.Inputs.{inward, goes_to}
-use Rattle.joint.specs.Inside.{MayReceive, Asks, begins, delivers, times, upon_input}
+use Rattle.joint.specs.Inside.{MayReceive, Asks, begins, delivers, times, upon_input, unready}
 
 -- ---- tests of refusals
 
@@ -27,6 +27,19 @@ not-not false = refl
 -- the first that strikes of 3, 4, 5 and 7: unopened, no part, down, never sent
 abbrev pub struck : Bool → Bool → Bool → Bool → ℕ
 struck a b c d = cond a 3 (cond b 4 (cond c 5 (cond d 7 0)))
+
+-- where one of 3 to 5 strikes, and where none does
+pub struck_first : (a b c d : Bool) (n : ℕ) → struck a b c false ≡ suc n → struck a b c d ≡ suc n
+struck_first true b c d n e = e
+struck_first false true c d n e = e
+struck_first false false true d n e = e
+struck_first false false false d n e = absurd (omega (arith, e))
+
+pub struck_next : (a b c d : Bool) → struck a b c false ≡ 0 → struck a b c d ≡ cond d 7 0
+struck_next true b c d e = absurd (omega (arith, e))
+struck_next false true c d e = absurd (omega (arith, e))
+struck_next false false true d e = absurd (omega (arith, e))
+struck_next false false false d e = refl
 
 abbrev pub input_struck : Run → ℕ → ℕ → ℕ → ℕ → ℕ
 input_struck r t s kind p =
@@ -88,6 +101,15 @@ timed x (suc n) h = (h, (refl, refl))
 begun : (x : Transaction) → MayReceive x 0 16 0
 unfolding MayReceive receives kinds_received any
 begun x = refl
+
+-- where none of 3 to 5 strikes
+pub takes_its_part : (x : Transaction) (p : ℕ) (up : Bool) → unready x p up ≡ 0 → not (takes_part x p) ≡ false
+takes_its_part x p up e = by (empty x.cohort.members) (not (takes_part x p)) (not up) e
+  where
+    by : (a b c : Bool) → ◌≡◌ {A = ℕ} (cond a 3 (cond b 4 (cond c 5 0))) 0 → b ≡ false
+    by true b c e = absurd (omega (arith, e))
+    by false true c e = absurd (omega (arith, e))
+    by false false c e = refl
 
 pub input_received : {e : Event} {t s kind p : ℕ} → Asks e t s kind p → (x : Transaction) → not (takes_part x p) ≡ false → MayReceive x s kind p
 input_received (begins t) x q = begun x

@@ -6,40 +6,28 @@ use mathlib.Core.List.{List, [], ◌∷◌, ◌++◌, flatten, append-nil}
 use native.Mathlib.Nat.{add_assoc, zero-add}
 use native.Mathlib.Numerals.{add-one}
 use native.Mathlib.Omega.{arith}
-use lib.ListN.{length, set, take, drop, length-drop}
-use lib.Seq.{sets-eq, drop-drop, take_all}
-use borrow.Author.Tests.{le-leb, lt-leb, ne_eqb}
+use lib.ListN.{length, take, drop, length-drop}
+use lib.Seq.{drop-drop}
+use borrow.Author.Tests.{le-leb, lt-leb}
 use Rattle.codec.specs.Image.{stored}
 use Rattle.codec.specs.Laws.Stored.{length-stored, stored-two}
 use Rattle.joint.specs.State.{Run, fresh}
-use Rattle.codec.specs.Lists.{select, every, only_if}
-use mathlib.Core.Option.{none}
-use Rattle.joint.specs.Event.{event_length, parse}
-use Rattle.joint.specs.Run.{Answer, event, after, answers, answer_of}
+use Rattle.codec.specs.Lists.{select}
+use Rattle.joint.specs.Event.{event_length}
+use Rattle.joint.specs.Run.{event, after, answers, answer_of}
 use Rattle.joint.specs.Drill.{chunks, events_of, answer_bytes, replayed}
 use Rattle.joint.specs.Safety.{Moment, happened, history}
 use Rattle.joint.specs.Totals as totals
 use Rattle.joint.specs.Totals.{forces_at, totals_of}
-use Rattle.joint.specs.Answers.{run_in, forces_in, handovers_in, totals_in, answer_in, Seen, seen, replay_in}
+use Rattle.joint.specs.Answers.{run_in, forces_in, handovers_in, totals_in, Answer as ProgramAnswer, answer_in, Seen, seen, replay_in}
 use Rattle.joint.specs.Laws.Events.{take-most, length-chunks, events_for, events_count, length-answers, bytes_of, bytes_append, length_bytes}
 use Rattle.joint.specs.Program.{has_room, Begins, Adds}
-use Rattle.joint.specs.Inside.{room_along, Goes}
-use Rattle.joint.specs.declared.answers.Answer as prog
+use Rattle.joint.specs.Inside.{room_along}
 use Rattle.joint.specs.declared.run.Run as program
 use Rattle.joint.specs.declared.replay.Ran.{Ran}
 use Rattle.joint.proofs.Base.History.{after_snoc, answers_snoc, history_snoc}
 use Rattle.joint.proofs.Base.Forces.{held-sum, forces-append}
 use Rattle.joint.proofs.Engine.Openings.{handovers-few, openings_counted}
-
--- an answer, byte by byte
-pub answer-stored : (buffer : List ℕ) (at : ℕ) (x : Answer) {a b c d : ℕ} → at + 4 ≤ length buffer
-    → a ≡ x.number → b ≡ x.records → c ≡ x.forces → d ≡ x.sends
-    → set (set (set (set buffer at a) (at + 1) b) (at + 2) c) (at + 3) d ≡ stored at (answer_bytes x) buffer
-unfolding stored answer_bytes
-answer-stored buffer at x h p q r s =
-    let two : at + 2 ≡ suc (suc at) = omega arith in
-    let three : at + 3 ≡ suc (suc (suc at)) = omega arith in
-    rw (p, q, r, s, add-one, two, three) (sets-eq (answer_bytes x) buffer at h)
 
 -- ---- events
 
@@ -79,13 +67,12 @@ room_snoc r (x ∷ es) e = ap (has_room r x &&◌) (room_snoc (event r x).run es
 
 -- ---- the first `count` events have been run from r; the forces counted were `before`, and are `forces`
 
-pub record Ahead (r : Run) (before : ℕ → ℕ) (bytes start : List ℕ) (events : ℕ) (buffer : List ℕ) (run : Run) (forces : ℕ → ℕ) (last : prog.Answer) (count : ℕ) : Type 0 where
+pub record Ahead (r : Run) (before : ℕ → ℕ) (bytes start : List ℕ) (events : ℕ) (buffer : List ℕ) (run : Run) (forces : ℕ → ℕ) (count : ℕ) : Type 0 where
   pub room : 4 * events ≤ length start
   pub passed : count ≤ events
   pub kept : length buffer ≡ length start
   pub ran : room_along r (chunks count bytes) ≡ true → run ≡ after r (chunks count bytes)
   pub held : room_along r (chunks count bytes) ≡ true → buffer ≡ stored 0 (bytes_of (answers r (chunks count bytes))) start
-  pub answered : room_along r (chunks count bytes) ≡ true → (m : ℕ) → count ≡ suc m → answer_in last ≡ answer_of (event (after r (chunks m bytes)) (event_at m bytes))
   pub adds : room_along r (chunks count bytes) ≡ true → Adds before (history r (chunks count bytes)) forces
 
 -- where no force happens a run counts what it did
@@ -101,22 +88,22 @@ adds_more f g k a b p q s =
     ∙ held-sum (f s + forces_at s a) (forces_at s b)
     ∙ ap totals.held (add_assoc (f s) (forces_at s a) (forces_at s b) ∙ ap (f s +◌) (sym (forces-append s a b)))
 
-pub ahead_start : (r : Run) (forces : ℕ → ℕ) (bytes start : List ℕ) (events : ℕ) (last : prog.Answer) → 4 * events ≤ length start → Adds forces [] forces
-    → Ahead r forces bytes start events start r forces last 0
+pub ahead_start : (r : Run) (forces : ℕ → ℕ) (bytes start : List ℕ) (events : ℕ) → 4 * events ≤ length start → Adds forces [] forces
+    → Ahead r forces bytes start events start r forces 0
 unfolding chunks after answers flatten stored history
-ahead_start r forces bytes start events last h same =
-    record { room = h; passed = omega arith; kept = refl; ran = λ _. refl; held = λ _. refl; answered = λ _ m e. absurd (omega (arith, e)); adds = λ _. same }
+ahead_start r forces bytes start events h same =
+    record { room = h; passed = omega arith; kept = refl; ran = λ _. refl; held = λ _. refl; adds = λ _. same }
 
-module _ {r : Run} {before : ℕ → ℕ} {bytes start : List ℕ} {events : ℕ} {buffer : List ℕ} {run : Run} {forces : ℕ → ℕ} {last : prog.Answer} {count : ℕ}
-    (a : Ahead r before bytes start events buffer run forces last count) where
+module _ {r : Run} {before : ℕ → ℕ} {bytes start : List ℕ} {events : ℕ} {buffer : List ℕ} {run : Run} {forces : ℕ → ℕ} {count : ℕ}
+    (a : Ahead r before bytes start events buffer run forces count) where
   abbrev es : List (List ℕ)
   es = chunks count bytes
 
   -- one more: x is the event, n its answer
-  pub ahead_next : (n : prog.Answer) (next : Run) (counted : ℕ → ℕ) (x now : List ℕ) → count < events → x ≡ event_at count bytes
+  pub ahead_next : (n : ProgramAnswer) (next : Run) (counted : ℕ → ℕ) (x now : List ℕ) → count < events → x ≡ event_at count bytes
       → (has_room run x ≡ true → (record { answer = answer_in n; run = next } ≡ seen (event run x)) × Adds forces (happened run x) counted)
       → now ≡ stored (4 * count) (answer_bytes (answer_in n)) buffer
-      → Ahead r before bytes start events now next counted n (count + 1)
+      → Ahead r before bytes start events now next counted (count + 1)
   unfolding seen answer_bytes
   ahead_next n next counted x now h g e f =
       record {
@@ -127,7 +114,6 @@ module _ {r : Run} {before : ℕ → ℕ} {bytes start : List ℕ} {events : ℕ
         held =
             λ k.
             rw (more, bytes_snoc, ← ap (λ (t : Seen). t.answer) (step k), ← stored-two (bytes_of (answers r es)) (answer_bytes (answer_in n)) start (omega (arith, size, h, a.room)), size, ← a.held (rooms k).0) f;
-        answered = λ k m q. let same : count ≡ m = omega (arith, q) in rw (← same, ← g) (ap (λ (t : Seen). t.answer) (step k));
         adds =
             λ k.
             rw (more, history_snoc)
@@ -149,17 +135,6 @@ module _ {r : Run} {before : ℕ → ℕ} {bytes start : List ℕ} {events : ℕ
 
       step : room_along r (chunks (count + 1) bytes) ≡ true → ◌≡◌ {A = Seen} (record { answer = answer_in n; run = next }) (seen (event (after r es) x))
       step k = (e (open_here k)).0 ∙ ap (λ (w : Run). seen (event w x)) (a.ran (rooms k).0)
-
-  pub ahead_ends : events ≤ count → (x : program.Run) → run_in x ≡ run → forces_in x ≡ forces → Goes r before events bytes start buffer (record { count = count; run = x; answer = last })
-  ahead_ends h x e f =
-      let all : count ≡ events = omega (arith, h, a.passed) in
-      record {
-        count = all;
-        leaves = λ k. e ∙ rw all at a.ran k;
-        answers = rw all at a.held;
-        last = λ k m q. rw all at a.answered k m q;
-        adds = λ k. rw f (rw all at a.adds k);
-      }
 
 -- ---- what a replay gives
 
@@ -185,25 +160,10 @@ replay_none bytes buffer x h n e =
     rw (lt-leb (length (bytes_of (answers fresh (events_of bytes)))) (length buffer) (omega (arith, h, length_events bytes)), n, fun_ext (totals_from [] x.run (forces_in x.run) e.1 e.0 same), e.0)
 
 pub replay_all : (bytes start now : List ℕ) (b : program.Run) (x : Ran) → 4 * events_for bytes ≤ length start → room_along fresh (events_of bytes) ≡ true
-    → Begins b → Goes (run_in b) (forces_in b) (events_for bytes) bytes start now x
+    → Begins b → x.count ≡ events_for bytes → Ahead (run_in b) (forces_in b) bytes start (events_for bytes) now (run_in x.run) (forces_in x.run) (events_for bytes)
     → replay_in x now ≡ replayed bytes start
 unfolding replay_in replayed events_of event_length
-replay_all bytes start now b x h k e gone =
-    let g : Goes fresh (forces_in b) (events_for bytes) bytes start now x = subst (λ (w : Run). Goes w (forces_in b) (events_for bytes) bytes start now x) e.0 gone in
-    rw (le-leb (length (bytes_of (answers fresh (events_of bytes)))) (length start) (omega (arith, h, length_events bytes)), length-chunks, g.count, fun_ext (totals_from (events_of bytes) x.run (forces_in b) e.1 (g.leaves k) (g.adds k)), g.leaves k, g.answers k)
-
--- ---- one event
-
-pub parse_short : (bytes : List ℕ) → (length bytes ≡ 6 → ⊥) → parse bytes ≡ none
-unfolding parse event_length every only_if
-parse_short bytes n = rw (ne_eqb (length bytes) 6 n) refl
-
-pub one_event : (w : Run) (before : ℕ → ℕ) (bytes start now : List ℕ) (x : Ran) → length bytes ≡ 6 → Goes w before 1 bytes start now x → has_room w bytes ≡ true
-    → (◌≡◌ {A = Seen} (record { answer = answer_in x.answer; run = run_in x.run }) (seen (event w bytes))) × Adds before (happened w bytes) (forces_in x.run)
-unfolding seen chunks room_along after history event_length
-one_event w before bytes start now x n g h =
-    let all : take 6 bytes ≡ bytes = take_all 6 bytes (omega (arith, n)) in
-    let room : (has_room w (take 6 bytes) && true) ≡ true = rw (all, h) refl in (
-      λ i. record { answer = (g.last room 0 refl ∙ ap (λ (e : List ℕ). answer_of (event w e)) all) i; run = (g.leaves room ∙ ap (λ (e : List ℕ). (event w e).run) all) i },
-      subst (λ (h : List Moment). Adds before h (forces_in x.run)) (append-nil (happened w (take 6 bytes)) ∙ ap (happened w) all) (g.adds room),
-    )
+replay_all bytes start now b x h k e n ahead =
+    let g : Ahead fresh (forces_in b) bytes start (events_for bytes) now (run_in x.run) (forces_in x.run) (events_for bytes) =
+    subst (λ (w : Run). Ahead w (forces_in b) bytes start (events_for bytes) now (run_in x.run) (forces_in x.run) (events_for bytes)) e.0 ahead in
+    rw (le-leb (length (bytes_of (answers fresh (events_of bytes)))) (length start) (omega (arith, h, length_events bytes)), length-chunks, n, fun_ext (totals_from (events_of bytes) x.run (forces_in b) e.1 (g.ran k) (g.adds k)), g.ran k, g.held k)

@@ -4,21 +4,23 @@ use native.Mathlib.Omega.{arith}
 use mathlib.Core.Path.{◌≡◌, refl, sym, ap, ap₂, ◌∙◌, fun_ext}
 use mathlib.Core.Bool.{Bool, true, false, not, ◌&&◌, ◌||◌, and-true}
 use mathlib.Core.List.{List, [], ◌∷◌}
+use mathlib.Core.Option.{Option, none, some}
 use lib.ListN.{length, take}
 use lib.Seq.{take_all}
 use lib.Dec.{eqb, leb}
-use borrow.Author.Tests.{eqb-true, eqb-false, eq-eqb, ne_eqb, le-leb, lt-leb}
+use borrow.Author.Tests.{eqb-true, eqb-false, le-leb, lt-leb}
 use Rattle.codec.specs.Lists.{select, every, first}
 use Rattle.joint.specs.State.{Run, Site, Transaction, Act, may_keep, update, opened, started, stopped, forgotten, down, perform_all}
-use Rattle.joint.specs.Event.{restart, cut_at}
+use Rattle.joint.specs.Event.{restart}
 use Rattle.joint.specs.Refusals.{refusals}
 use Rattle.joint.specs.Plan.{Plan, restart_all, transactions, plan}
-use Rattle.joint.specs.Run.{Answer, is_append, is_force, is_send, count, answer_of, refuse, partly, can_cut, cut_short, carry, carry_plan, carry_unless, event_parsed}
-use Rattle.joint.specs.Answers.{refusal_number, Seen, seen}
-use Rattle.joint.specs.Inside.{taken, cut_from, Resumption, resumed}
+use Rattle.joint.specs.Run.{Answer, is_append, is_force, is_send, count, answer_of, partly, can_cut, cut_short, carry, carry_plan, carry_unless, event_parsed}
+use Rattle.joint.specs.Answers.{Seen, seen}
+use Rattle.joint.specs.Inside.{taken, Resumption, resumed}
 use Rattle.joint.proofs.Base.Lists.{each_take, select_length}
+use Rattle.joint.proofs.Engine.Refused.{refused_by, refuse-seen}
 use Rattle.joint.proofs.Engine.InputEvents.{not-not}
-use Rattle.joint.proofs.Base.Placed.{update-own, update_twice, run_path}
+use Rattle.joint.proofs.Base.Placed.{update-own, update_twice}
 use Rattle.joint.proofs.Engine.Restarts.{Quiet, unlogged, quiet_count, quiet_site, Restarts, restarts}
 
 -- an answer, and run r with a for site s and with these transactions
@@ -40,18 +42,10 @@ can_cut_lem m l k = go (eqb (m - l) 0) refl
     go true q = rw (le-leb m l (omega (arith, eqb-true (m - l) 0 q))) (and-true k ∙ sym (not-not k))
     go false q = rw (lt-leb m l (omega (arith, eqb-false (m - l) 0 q))) refl
 
-module _ (x : Run) (s cut keep : ℕ) (a : Site) (e : a ≡ x.site s) where
-  abbrev Gives : Seen → Type 0
-  Gives y = y ≡ taken x (restart s) (cut_from cut keep)
-
-  unchanged : (n : ℕ) (f : ℕ → Transaction) → f ≡ x.transaction → leaves x s (refusal_number n) a f ≡ seen (refuse x n)
-  unfolding seen answer_of refuse refusal_number count select
-  unchanged n f q =
-      ap (λ (r : Run). record { answer = refusal_number n; run = r }) (run_path (ap (λ (a : Site). update s (λ _. a) x.site) e ∙ update-own s x.site) q)
-
-  pub restart-up : a.up ≡ true → (f : ℕ → Transaction) → f ≡ x.transaction → Gives (leaves x s (refusal_number 6) a f)
+module _ (x : Run) (s cut : ℕ) (a : Site) (e : a ≡ x.site s) where
+  pub restart-up : a.up ≡ true → (c : Option (ℕ × ℕ)) → refused_by 6 x ≡ taken x (restart s) c
   unfolding taken event_parsed refusals first carry_unless
-  restart-up h f q = let up : (x.site s).up ≡ true = sym (ap (λ (a : Site). a.up) e) ∙ h in unchanged 6 f q ∙ rw up refl
+  restart-up h c = let up : (x.site s).up ≡ true = sym (ap (λ (a : Site). a.up) e) ∙ h in sym (refuse-seen x 6) ∙ rw up refl
 
   -- the site is down: z is the resumption up to the cut
   module _ (is_down : a.up ≡ false) (z : Resumption) (own : z ≡ resumed x s cut) where
@@ -64,9 +58,9 @@ module _ (x : Run) (s cut keep : ℕ) (a : Site) (e : a ≡ x.site s) where
     abbrev h : Restarts s (length ts) p
     h = restarts x s ts
 
-    carried : Gives (seen (carry x p (cut_from cut keep)))
+    carried : (c : Option (ℕ × ℕ)) → seen (carry x p c) ≡ taken x (restart s) c
     unfolding taken event_parsed refusals first carry_unless plan carry_plan
-    carried = let d : (x.site s).up ≡ false = sym (ap (λ (a : Site). a.up) e) ∙ is_down in rw d refl
+    carried c = let d : (x.site s).up ≡ false = sym (ap (λ (a : Site). a.up) e) ∙ is_down in rw d refl
 
     -- the effects that happen, and the run after them
     abbrev happen : List Act
@@ -91,8 +85,8 @@ module _ (x : Run) (s cut keep : ℕ) (a : Site) (e : a ≡ x.site s) where
           run = record { site = site i; transaction = f };
         }
 
-    pub restart-whole : cut ≡ 255 → (b : Site) → b ≡ started a → Gives (leaves x s (sent z.sends) b z.transaction)
-    unfolding resumed cut_at carry transactions
+    pub restart-whole : cut ≡ 255 → (b : Site) → b ≡ started a → leaves x s (sent z.sends) b z.transaction ≡ taken x (restart s) none
+    unfolding resumed carry transactions
     restart-whole w b q =
         let all : happen ≡ p.acts = take_all cut p.acts (omega (arith, w, h.few, select_length (opened x) transactions)) in
         let result : List Act → Run → Seen = λ l r. seen (record { answer = 0; site = p.site; acts = l; run = r }) in
@@ -101,13 +95,12 @@ module _ (x : Run) (s cut keep : ℕ) (a : Site) (e : a ≡ x.site s) where
         ∙ ap (λ (f : ℕ → Site). result happen (record { site = f; transaction = (p.settle y).transaction })) (sym (h.starts y))
         ∙ ap (λ (l : List Act). result l (p.settle (perform_all s l x))) all
         ∙ ap (λ (n : ℕ). result p.acts (p.settle (perform_all n p.acts x))) (sym h.number)
-        ∙ rw (eq-eqb cut 255 w) refl
-        ∙ carried
+        ∙ carried none
 
     -- it is cut: n is whether the keep is allowed, and the program's test is whether the cut is too far
-    module _ (w : cut ≡ 255 → ⊥) (n : Bool) (u : n ≡ may_keep keep a.unforced) where
-      cut_carried : (b : Bool) → (not (eqb z.left 0) || not n) ≡ b → Gives (seen (cut_short (not b) x p cut keep))
-      unfolding resumed can_cut partly cut_at carry
+    module _ (keep : ℕ) (n : Bool) (u : n ≡ may_keep keep a.unforced) where
+      cut_carried : (b : Bool) → (not (eqb z.left 0) || not n) ≡ b → seen (cut_short (not b) x p cut keep) ≡ taken x (restart s) (some (cut, keep))
+      unfolding resumed can_cut partly carry
       cut_carried b t =
           let left : cut - length p.acts ≡ z.left = sym (ap (λ (z : Resumption). z.left) own) in
           let kept : may_keep keep ((perform_all p.site happen x).site p.site).unforced ≡ n =
@@ -116,14 +109,14 @@ module _ (x : Run) (s cut keep : ℕ) (a : Site) (e : a ≡ x.site s) where
           ∙ ap (λ (a : Site). may_keep keep a.unforced) (sym e)
           ∙ sym u in
           let test = can_cut_lem cut (length p.acts) (may_keep keep ((perform_all p.site happen x).site p.site).unforced) ∙ ap₂ (λ (m : ℕ) (k : Bool). not (not (eqb m 0) || not k)) left kept ∙ ap not t in
-          ap (λ (c : Bool). seen (cut_short c x p cut keep)) (sym test) ∙ rw (ne_eqb cut 255 w) refl ∙ carried
+          ap (λ (c : Bool). seen (cut_short c x p cut keep)) (sym test) ∙ carried (some (cut, keep))
 
-      pub restart_too_far : (not (eqb z.left 0) || not n) ≡ true → (f : ℕ → Transaction) → f ≡ x.transaction → Gives (leaves x s (refusal_number 9) a f)
+      pub restart_too_far : (not (eqb z.left 0) || not n) ≡ true → refused_by 9 x ≡ taken x (restart s) (some (cut, keep))
       unfolding cut_short
-      restart_too_far t f q = unchanged 9 f q ∙ cut_carried true t
+      restart_too_far t = sym (refuse-seen x 9) ∙ cut_carried true t
 
       pub restart-cut : (not (eqb z.left 0) || not n) ≡ false → (b : Site) → b ≡ stopped keep a
-          → (f : ℕ → Transaction) → f ≡ (λ t. forgotten s (z.transaction t)) → Gives (leaves x s (sent z.sends) b f)
+          → (f : ℕ → Transaction) → f ≡ (λ t. forgotten s (z.transaction t)) → leaves x s (sent z.sends) b f ≡ taken x (restart s) (some (cut, keep))
       unfolding resumed cut_short down partly
       restart-cut t b q f k =
           let result : Run → Seen = λ r. seen (record { answer = 0; site = p.site; acts = happen; run = r }) in

@@ -1,27 +1,25 @@
 -- A step that the loop over events read: its site and transaction are the run's, and what is decided of it there.
 use Prim.Native.Nat.{ℕ, ◌≤◌}
-use mathlib.Core.Path.{◌≡◌, refl, sym, ap, ◌∙◌}
-use mathlib.Core.Bool.{true}
-use mathlib.Core.List.{List}
-use mathlib.Core.Option.{some}
+use mathlib.Core.Path.{◌≡◌, refl, ap, ◌∙◌}
+use Rattle.std.specs.Prelude.{Result}
 use lib.ListN.{get_or}
 use native.Mathlib.Omega.{arith}
 use Rattle.joint.specs.Event as events
 use Rattle.joint.specs.Event.{parse}
-use Rattle.joint.specs.Program.{has_room, room_for}
 use Rattle.joint.specs.Answers.{site_from, no_site, no_records, transaction_in, run_in}
 use Rattle.joint.specs.Inside.{size, Asks, begins, delivers, times, taken, change_in, Here, step_in, step_site, step_transaction, StepInRange}
 use Rattle.joint.specs.declared.sites.Site.{Site}
 use Rattle.joint.specs.declared.records.Records.{Records}
 use Rattle.joint.specs.declared.transactions.Transaction.{Transaction}
-use Rattle.joint.specs.declared.changes.Change.{Change}
+use Rattle.joint.specs.declared.answers.Refusal.{Refusal}
+use Rattle.joint.specs.declared.rows.Row.{Row}
 use Rattle.joint.specs.declared.events.Step.{Step}
 use Rattle.joint.specs.declared.events.Step.TheVariants as steps
 use Rattle.joint.specs.declared.run.Run.{Run}
 use Rattle.joint.proofs.Base.Plans.{site_of}
 use Rattle.joint.proofs.Engine.Reads.{site_read, transaction_read}
 use Rattle.joint.proofs.Engine.Sites.{log-counted}
-use Rattle.joint.proofs.Engine.Turns.{Full, parsed_room}
+use Rattle.joint.proofs.Engine.Turns.{Full}
 
 -- ---- where an event's plan is
 
@@ -56,7 +54,7 @@ transaction_few q h e = rw e (step_low q h).1
 -- ---- what the run holds at the step's site and transaction
 
 pub record StepRead (r : Run) (q : Step) (s t : ℕ) : Type 0 where
-  pub full : Full r
+  pub full : Full r s
   pub within : StepInRange q
   pub site : s ≡ step_site q
   pub transaction : t ≡ step_transaction q
@@ -78,18 +76,15 @@ module _ {r : Run} {q : Step} {s t : ℕ} (a : StepRead r q s t) where
   own_site d e p = site_read r s d e a.full.nine a.full.logs low ∙ ap (run_in r).site (a.site ∙ ap step_site p)
 
   pub here : (d : Site) {p : Step} → q ≡ p → Here (get_or r.sites s d) (run_in r) (step_site p)
-  here d p = ((get_or r.records s no_records).of, (a.full.whole s low, own_site d no_records p))
+  here d p = ((get_or r.records s no_records).of, (a.full.whole, own_site d no_records p))
 
   -- its log holds 24 records
   pub held : size ((run_in r).site s) ≤ 24
   held =
       let f = a.full in
-      omega (arith, ap size (site_read r s no_site no_records f.nine f.logs low), log-counted (get_or r.sites s no_site) (get_or r.records s no_records).of (f.whole s low))
-
-  pub its_room : (x : List ℕ) {p : Step} → parse x ≡ some (step_in q) → has_room (run_in r) x ≡ true → q ≡ p → room_for (run_in r) (step_in p).event ≡ true
-  its_room x e h p = sym (ap (λ (q : Step). room_for (run_in r) (step_in q).event) p) ∙ parsed_room (run_in r) x _ e h
+      omega (arith, ap size (site_read r s no_site no_records f.nine f.logs low), log-counted (get_or r.sites s no_site) (get_or r.records s no_records).of f.whole)
 
   -- decided by its kind
-  pub decides : {p : Step} {b c : Change} → q ≡ p → b ≡ c → change_in (run_in r) (step_site p) (step_transaction p) c ≡ taken (run_in r) (step_in p).event (step_in p).cut
-      → change_in (run_in r) s t b ≡ taken (run_in r) (step_in q).event (step_in q).cut
-  decides p e h = rw (a.site, a.transaction, e, p) h
+  pub decides : {p : Step} (c : Result Row Refusal) → q ≡ p → change_in (run_in r) (step_site p) (step_transaction p) c ≡ taken (run_in r) (step_in p).event (step_in p).cut
+      → change_in (run_in r) (step_site q) (step_transaction q) c ≡ taken (run_in r) (step_in q).event (step_in q).cut
+  decides c p h = rw p h

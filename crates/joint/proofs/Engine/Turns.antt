@@ -1,17 +1,16 @@
 -- One turn of the loop over events: an event more is read, decided, and stored in the run's arrays.
-use Prim.Native.Nat.{ℕ, zero, suc, ◌+◌, ◌*◌, ◌≤◌, ◌<◌}
+use Prim.Native.Nat.{ℕ, zero, suc, ◌+◌, ◌≤◌, ◌<◌}
 use mathlib.Core.Path.{◌≡◌, refl, sym, ap, ◌∙◌}
 use mathlib.Core.Bool.{Bool, true, false, cond, not, ◌||◌}
 use mathlib.Core.List.{List}
-use mathlib.Core.Logic.{⊎_elim}
 use mathlib.Core.Option.{Option, none, some}
+use Rattle.std.specs.Prelude.{Result, Ok, Err}
 use lib.ListN.{length, take, get_or, set, length-take}
 use lib.Seq.{get_or-set_same, get_or-set_other}
 use lib.Dec.{eqb}
 use native.Mathlib.Omega.{arith}
 use borrow.Author.Tests.{eqb-true, eqb-false, leb-true}
 use Rattle.codec.specs.Lists.{first, select}
-use Rattle.codec.specs.Image.{stored}
 use Rattle.codec.specs.declared.record.Record.{Record}
 use Rattle.site.specs.Answers.{effects_in}
 use Rattle.joint.specs.State as plain
@@ -21,17 +20,14 @@ use Rattle.joint.specs.Event.{parse, Parsed}
 use Rattle.joint.specs.Refusals.{refusals}
 use Rattle.joint.specs.Plan.{Plan, plan, acting}
 use Rattle.joint.specs.Run.{event, event_parsed, carry_unless, carry_plan, carry, cut_short, can_cut, refuse, answer_of, count, is_append, is_force, is_send}
-use Rattle.joint.specs.Run as answers
-use Rattle.joint.specs.Drill.{answer_bytes}
 use Rattle.joint.specs.Safety.{happened}
 use Rattle.joint.specs.Totals as totals
 use Rattle.joint.specs.Totals.{forces_at}
 use Rattle.joint.specs.Program.{has_room, room_parsed, room_for, room_for_plan, Adds}
-use Rattle.joint.specs.Answers.{site_from, no_records, transactions_in, run_in, forces_in, answer_in, refusal_number, Seen, seen}
-use Rattle.joint.specs.Inside.{transaction_after, counted, size, Fits, then_in, then_transaction, goes_down, row_site, plan_in, taken, refusal, restarted_in}
-use Rattle.joint.specs.declared.answers.Answer.{Answer}
+use Rattle.joint.specs.Answers.{site_from, no_records, transactions_in, run_in, forces_in, refusal_number, number_of, Answer, accepted, answer_in, Seen, seen}
+use Rattle.joint.specs.Inside.{transaction_after, counted, size, Fits, then_in, then_transaction, goes_down, row_site, plan_in, taken, restarted_in}
 use Rattle.joint.specs.declared.answers.Counts.{Counts}
-use Rattle.joint.specs.declared.answers.Answer.TheVariants as answer
+use Rattle.joint.specs.declared.answers.Refusal.{Refusal}
 use Rattle.joint.specs.declared.sites.Site.{Site}
 use Rattle.joint.specs.declared.records.Records.{Records}
 use Rattle.joint.specs.declared.records.SiteLog.{SiteLog}
@@ -39,61 +35,44 @@ use Rattle.joint.specs.declared.rows.Row.{Row}
 use Rattle.joint.specs.declared.restarts.Restarted.{Restarted}
 use Rattle.joint.specs.declared.run.Run.{Run}
 use Rattle.joint.proofs.Base.Lists.{select-take, among}
-use Rattle.joint.proofs.Base.History.{refusal-acts}
 use Rattle.joint.proofs.Base.Plans.{All, site_of}
 use Rattle.joint.proofs.Base.Forces.{held-sum, none-forced, event-forces}
 use Rattle.joint.proofs.Base.Placed.{run_path, acting-counted}
 use Rattle.joint.proofs.Engine.Reads.{site_at, get_or-within, site_read, counts_stored, site-stored}
-use Rattle.joint.proofs.Engine.Refused.{answer_case, refused-number, refused_by, refuse-seen}
+use Rattle.joint.proofs.Engine.Refused.{refused_by, refuse-seen}
 use Rattle.joint.proofs.Engine.Rows.{forgotten_if, row_happens}
-use Rattle.joint.proofs.Engine.Replays.{Ahead, adds_none, ahead_next, event_at}
+use Rattle.joint.proofs.Engine.Replays.{adds_none}
 
--- ---- the run's arrays are whole
+-- ---- the run's arrays, and the records of site s, are whole
 
-pub record Full (r : Run) : Type 0 where
+pub record Full (r : Run) (s : ℕ) : Type 0 where
   pub nine : length r.sites ≡ 9
   pub logs : length r.records ≡ 9
-  pub whole : (i : ℕ) → i ≤ 8 → length (get_or r.records i no_records).of ≡ 24
+  pub whole : length (get_or r.records s no_records).of ≡ 24
   pub eight : length r.transactions ≡ 8
   pub counters : length r.forces ≡ 9
 
--- one site's records are stored
-pub whole-stored : (l : List Records) (s : ℕ) (y : Records) → length l ≡ 9 → s ≤ 8 → length y.of ≡ 24
-    → ((i : ℕ) → i ≤ 8 → length (get_or l i no_records).of ≡ 24) → (i : ℕ) → i ≤ 8 → length (get_or (set l s y) i no_records).of ≡ 24
-whole-stored l s y n h e w i k = go (eqb i s) refl
-  where
-    go : (b : Bool) → eqb i s ≡ b → length (get_or (set l s y) i no_records).of ≡ 24
-    go true q = rw (eqb-true i s q, get_or-set_same l s y no_records (omega (arith, n, h))) e
-    go false q = rw (get_or-set_other l s i y no_records (eqb-false i s q)) (w i k)
-
--- ---- the first `count` events have been run
-
-pub record Going (r : plain.Run) (before : ℕ → ℕ) (bytes start : List ℕ) (events : ℕ) (buffer : List ℕ) (run : Run) (last : Answer) (count : ℕ) : Type 0 where
-  pub full : Full run
-  pub ahead : Ahead r before bytes start events buffer (run_in run) (forces_in run) last count
+-- ---- an event
 
 -- an event of answer n leaves `next`, and its forces are counted there
 abbrev pub Turned : Run → List ℕ → Answer → Run → Type 0
 Turned run x n next =
     (record { answer = answer_in n; run = run_in next } ≡ seen (event (run_in run) x)) × Adds (forces_in run) (happened (run_in run) x) (forces_in next)
 
-pub going_next : {r : plain.Run} {before : ℕ → ℕ} {bytes start : List ℕ} {events : ℕ} {buffer : List ℕ} {run : Run} {last : Answer} {count : ℕ}
-    → Going r before bytes start events buffer run last count
-    → (n : Answer) (next : Run) (x now : List ℕ) → Full next → count < events → x ≡ event_at count bytes
-    → (has_room (run_in run) x ≡ true → Turned run x n next)
-    → now ≡ stored (4 * count) (answer_bytes (answer_in n)) buffer
-    → Going r before bytes start events now next n (count + 1)
-going_next g n next x now f h e k s = record { full = f; ahead = ahead_next g.ahead n (run_in next) (forces_in next) x now h e k s }
-
 -- ---- its forces
 
--- a refusal makes none, and nothing is counted
-pub turned_refused : (run : Run) (x : List ℕ) (n : Answer) (k : ℕ) → (answer_in n).number ≡ suc k → record { answer = answer_in n; run = run_in run } ≡ seen (event (run_in run) x) → Turned run x n run
-unfolding seen answer_of
-turned_refused run x n k h e =
-    let acts = refusal-acts (run_in run) x k (sym (ap (λ (v : Seen). v.answer.number) e) ∙ h) in
-    let unforced : (answer_of (event (run_in run) x)).forces ≡ 0 = ap (count is_force) acts ∙ unfold count select in refl in
-    (e, adds_none run (happened (run_in run) x) (λ s. none-forced (run_in run) x s unforced))
+-- none is made, and nothing is counted
+pub turned_unforced : (run next : Run) (x : List ℕ) (n : Answer) → (answer_in n).forces ≡ 0 → next.forces ≡ run.forces
+    → record { answer = answer_in n; run = run_in next } ≡ seen (event (run_in run) x) → Turned run x n next
+unfolding seen forces_in
+turned_unforced run next x n h same e =
+    let unforced : (answer_of (event (run_in run) x)).forces ≡ 0 = sym (ap (λ (v : Seen). v.answer.forces) e) ∙ h in
+    (e, λ s. ap (λ (l : List ℕ). totals.held (get_or l s 0)) same ∙ adds_none run (happened (run_in run) x) (λ s. none-forced (run_in run) x s unforced) s)
+
+-- a refusal
+pub turned_refused : (run : Run) (x : List ℕ) (e : Refusal) → refused_by (number_of e) (run_in run) ≡ seen (event (run_in run) x) → Turned run x (Err e) run
+unfolding answer_in refusal_number
+turned_refused run x e h = turned_unforced run run x (Err e) refl refl h
 
 -- those in the answer are counted at the event's site
 pub turned_at : (run next : Run) (x : List ℕ) (n : Answer) (p : Parsed) → parse x ≡ some p → (z : ℕ) → z < length run.forces → z ≡ site_of p.event
@@ -129,28 +108,6 @@ module _ (w : plain.Run) (x : List ℕ) where
     pub parsed_room : has_room w x ≡ true → room_for w p.event ≡ true
     unfolding has_room room_parsed
     parsed_room h = sym (ap (room_parsed w) e) ∙ h
-
--- ---- a refusal changes nothing
-
-pub refusal_keeps : (w : plain.Run) (e : events.Event) (c : Option (ℕ × ℕ)) (n : ℕ) → (taken w e c).answer.number ≡ suc n → (taken w e c).run ≡ w
-unfolding taken event_parsed seen answer_of carry_unless carry_plan carry cut_short refuse
-refusal_keeps w e c n = unless (first (refusals w e))
-  where
-    cut_keeps : (b : Bool) (p : Plan) (a k : ℕ) → (cut_short b w p a k).answer ≡ suc n → (cut_short b w p a k).run ≡ w
-    cut_keeps true p a k q = absurd (omega (arith, q))
-    cut_keeps false p a k q = refl
-
-    carried : (p : Plan) (c : Option (ℕ × ℕ)) → (carry w p c).answer ≡ suc n → (carry w p c).run ≡ w
-    carried p none q = absurd (omega (arith, q))
-    carried p (some c) q = cut_keeps (can_cut w p c.0 c.1) p c.0 c.1 q
-
-    planned : (o : Option Plan) → (carry_plan w o c).answer ≡ suc n → (carry_plan w o c).run ≡ w
-    planned none q = refl
-    planned (some p) q = carried p c q
-
-    unless : (m : ℕ) → (carry_unless m w (record { event = e; cut = c })).answer ≡ suc n → (carry_unless m w (record { event = e; cut = c })).run ≡ w
-    unless zero q = planned (plan w e) q
-    unless (suc m) q = refl
 
 -- ---- a row that happens has room
 
@@ -208,8 +165,8 @@ module _ (w : plain.Run) (s t : ℕ) (x : Row) where
       → (n.records ≡ counted is_append (effects_in t x.effects)) × ((n.forces ≡ counted is_force (effects_in t x.effects)) × (n.sends ≡ counted is_send (effects_in t x.effects)))
       → f ≡ update s (λ _. row_site t x (w.site s)) w.site
       → g ≡ forgotten_if (goes_down x.then) s (update t (λ _. then_transaction s x.then (transaction_after s (effects_in t x.effects) (w.transaction t))) w.transaction)
-      → ◌≡◌ {A = Seen} (record { answer = answer_in (answer.Accepted n); run = record { site = f; transaction = g } }) (seen (carry w (plan_in s t x) none))
-  unfolding answer_in seen answer_of carry row_site
+      → ◌≡◌ {A = Seen} (record { answer = accepted n; run = record { site = f; transaction = g } }) (seen (carry w (plan_in s t x) none))
+  unfolding seen answer_of carry row_site
   happens_seen n f g c p q =
       let es = effects_in t x.effects in
       let same : ◌≡◌ {A = plain.Run} (record { site = f; transaction = g }) (then_in s t x.then (perform_all s (acting t es) w)) = run_path p q ∙ sym (row_happens s t x.then es w) in
@@ -226,44 +183,27 @@ module _ (w : plain.Run) (s t : ℕ) (x : Row) where
 
 -- ---- a restart: one site with its records, and all transactions, are stored, if it is accepted
 
-module _ (r : Run) (f : Full r) (s : ℕ) (low : s ≤ 8) (d : Site) (e : Records) (c : Restarted) (ev : events.Event) (cut : Option (ℕ × ℕ))
+module _ (r : Run) (nine : length r.sites ≡ 9) (logs : length r.records ≡ 9) (s : ℕ) (low : s ≤ 8) (d : Site) (e : Records) (a : Result Restarted Refusal) (ev : events.Event) (cut : Option (ℕ × ℕ))
     (promise : (x : plain.Run) → site_from (get_or r.sites s d) (get_or r.records s e).of ≡ x.site s → transactions_in r.transactions ≡ x.transaction
-    → restarted_in s x c ≡ taken x ev cut) where
-  restarts : restarted_in s (run_in r) c ≡ taken (run_in r) ev cut
+    → restarted_in s x a ≡ taken x ev cut) where
+  restarts : {b : Result Restarted Refusal} → a ≡ b → restarted_in s (run_in r) b ≡ taken (run_in r) ev cut
   unfolding run_in
-  restarts = promise (run_in r) (site_read r s d e f.nine f.logs low) refl
+  restarts q = rw q at promise (run_in r) (site_read r s d e nine logs low) refl
 
-  pub restart-stored : (forces : List ℕ)
-      → ◌≡◌ {A = Seen} (record { answer = answer_in c.answer; run = run_in (record { sites = set r.sites s c.log.site; records = set r.records s c.log.records; transactions = c.transactions; forces = forces }) }) (taken (run_in r) ev cut)
+  pub restart-stored : (c : Restarted) → a ≡ Ok c
+      → ◌≡◌ {A = Seen} (record { answer = record { number = 0; records = 0; forces = 0; sends = c.sends }; run = run_in (record { sites = set r.sites s c.log.site; records = set r.records s c.log.records; transactions = c.transactions; forces = r.forces }) }) (taken (run_in r) ev cut)
   unfolding restarted_in run_in
-  restart-stored forces =
-      (λ i. record { answer = answer_in c.answer; run = record { site = site-stored r.sites r.records s c.log.site f.nine low c.log.records f.logs i; transaction = transactions_in c.transactions } })
-      ∙ restarts
+  restart-stored c q =
+      (λ i. record { answer = record { number = 0; records = 0; forces = 0; sends = c.sends }; run = record { site = site-stored r.sites r.records s c.log.site nine low c.log.records logs i; transaction = transactions_in c.transactions } })
+      ∙ restarts q
 
-  pub restart-refused : ((n : Counts) → c.answer ≡ answer.Accepted n → ⊥) → ◌≡◌ {A = Seen} (record { answer = answer_in c.answer; run = run_in r }) (taken (run_in r) ev cut)
+  pub restart-refused : (x : Refusal) → a ≡ Err x → refused_by (number_of x) (run_in r) ≡ taken (run_in r) ev cut
   unfolding restarted_in
-  restart-refused k =
-      let n = refused-number c.answer k in
-      let q = ap (λ (v : Seen). v.answer) restarts in
-      λ i. record { answer = q i; run = sym (refusal_keeps (run_in r) ev cut n.0 (ap (λ (a : answers.Answer). a.number) (sym q) ∙ n.1)) i }
-
--- ---- what is decided of an event at one site, by the kind of event
-
--- a refused change holds a refusal: nothing happens in an event that is refused
-pub refused_change : (w : plain.Run) (x : List ℕ) (a : Answer) → record { answer = refusal a; run = w } ≡ seen (event w x)
-    → (◌≡◌ {A = Seen} (record { answer = answer_in a; run = w }) (seen (event w x))) × ((n : ℕ) × ((answer_in a).number ≡ suc n))
-unfolding seen answer_of count select refusal_number
-refused_change w x a h =
-    ⊎_elim
-    (λ c.
-    let e = ap (λ (a : Answer). record { answer = refusal a; run = w }) (sym c.1) ∙ h in
-    absurd (omega (arith, ap (λ (v : Seen). v.answer.records) e, ap (count is_append) (refusal-acts w x 0 (sym (ap (λ (v : Seen). v.answer.number) e))))))
-    (λ n. ((λ i. record { answer = sym n.1.1 i; run = w }) ∙ h, (n.0, ap (λ (v : answers.Answer). v.number) n.1.0)))
-    (answer_case a)
+  restart-refused x q = restarts q
 
 -- ---- a row's site is stored: with its records, or its counts alone
 
-module _ (r : Run) (f : Full r) (s : ℕ) (low : s ≤ 8) (d : Site) (t : ℕ) (x : Row) where
+module _ (r : Run) (s : ℕ) (f : Full r s) (low : s ≤ 8) (d : Site) (t : ℕ) (x : Row) where
   pub log-stored : (e : Records) (y : SiteLog)
       → (Fits (effects_in t x.effects) (site_from (get_or r.sites s d) (get_or r.records s e).of) → site_from y.site y.records.of ≡ row_site t x (site_from (get_or r.sites s d) (get_or r.records s e).of))
       → Fits (effects_in t x.effects) ((run_in r).site s)
@@ -280,4 +220,4 @@ module _ (r : Run) (f : Full r) (s : ℕ) (low : s ≤ 8) (d : Site) (t : ℕ) (
   site_settled y after =
       counts_stored r.sites r.records s y f.nine low
       ∙ ap (λ (a : plain.Site). update s (λ _. a) (site_at r.sites r.records))
-      (after (get_or r.records s no_records).of t (f.whole s low) ∙ ap (row_site t x) (site_read r s d no_records f.nine f.logs low))
+      (after (get_or r.records s no_records).of t f.whole ∙ ap (row_site t x) (site_read r s d no_records f.nine f.logs low))

@@ -4,15 +4,16 @@ use Prim.Native.Nat.{ℕ}
 use mathlib.Core.List.{List}
 use lib.ListN.{length}
 use lib.Dec.{eqb}
+use Rattle.std.proofs.lemmas.Result.{err_from_is_err_and}
 use Rattle.codec.specs.declared.record.Record.{Record}
 use Rattle.joint.specs.declared.sites.Site.{Site as ProgramSite}
 use Rattle.joint.specs.State as plain
 use Rattle.joint.specs.State.{Site}
 use Rattle.joint.specs.Plan.{may_discard}
-use Rattle.joint.specs.Answers.{site_from, answer_in}
+use Rattle.joint.specs.Answers.{site_from, number_of}
 use Rattle.joint.specs.Inside.{change_in}
 use Rattle.joint.proofs.Engine.Arrays.{length-shown}
-use Rattle.joint.proofs.Engine.Changes.{site_struck, struck_by, may_discard_lem, still_remembers, discard-refused, discard_unallowed, discard_drops}
+use Rattle.joint.proofs.Engine.Changes.{unready_here, may_discard_lem, still_remembers, discard-refused, discard_unallowed, discard_drops}
 use Rattle.joint.proofs.changes.discard.Goals as goal
 
 -- the site is up in the run as in the program
@@ -25,43 +26,27 @@ forgets true b v e = refl
 forgets false true v e = e
 forgets false false v e = e
 
-pub returns-then-not-opened : goal.returns-then-not-opened
-unfolding change_in answer_in
-returns-then-not-opened c =
+pub returns-in_err-ready : goal.returns-in_err-ready
+unfolding change_in
+returns-in_err-ready c =
     λ w here own.
-    let e = c.args.e in
-    discard-refused w e.transaction e.site 2 (struck_by w e.transaction e.site e.site (λ x. false) own c.opened.ensures refl refl ∙ rw c.if-not-opened.true refl)
-
-pub returns-then-not-takes_part : goal.returns-then-not-takes_part
-unfolding change_in answer_in
-returns-then-not-takes_part c =
-    λ w here own.
-    let e = c.args.e in
-    discard-refused w e.transaction e.site 3
-    (struck_by w e.transaction e.site e.site (λ x. false) own c.opened.ensures c.takes_part.ensures refl ∙ rw (c.if-not-opened.false, c.if-not-takes_part.true) refl)
-
-pub returns-then-not-site : goal.returns-then-not-site
-unfolding change_in answer_in site_from
-returns-then-not-site c =
-    λ w here own.
-    let e = c.args.e in
-    discard-refused w e.transaction e.site 4
-    (struck_by w e.transaction e.site e.site (λ x. false) own c.opened.ensures c.takes_part.ensures (up_of c.args.site c.args.records.of w e.site here)
-    ∙ rw (c.if-not-opened.false, c.if-not-takes_part.false, c.if-not-site.true) refl)
+    let a = c.args in
+    let e = a.e in
+    let p = err_from_is_err_and c.from_residual.result c.from_residual.ensures.1 in
+    rw (p.1, p.2)
+    (discard-refused w e.transaction e.site c.in_err-ready.field-0.0 (unready_here w e.transaction e.site e.site own (up_of a.site a.records.of w e.site here) c.in_err-ready.ensures))
 
 pub returns-then-not-may_discard : goal.returns-then-not-may_discard
-unfolding change_in answer_in
+unfolding change_in number_of
 returns-then-not-may_discard c =
     λ w here own.
     let a = c.args in
     let e = a.e in
-    let passed : site_struck w e.transaction e.site ≡ 0 =
-    struck_by w e.transaction e.site e.site (λ x. false) own c.opened.ensures c.takes_part.ensures (up_of a.site a.records.of w e.site here)
-    ∙ rw (c.if-not-opened.false, c.if-not-takes_part.false, c.if-not-site.false) refl in
     let all : length a.records.of ≡ 24 = search length-shown in
     let allowed : c.may_discard.result ≡ may_discard w e.transaction e.site =
     rw c.stable_count.ensures at c.may_discard.ensures ∙ may_discard_lem a.site a.site a.records.of a.records.of w e.transaction e.site all here in
-    discard_unallowed w e.transaction e.site passed (sym allowed ∙ c.if-not-may_discard.true)
+    discard_unallowed w e.transaction e.site (unready_here w e.transaction e.site e.site own (up_of a.site a.records.of w e.site here) c.in_ok-ready.ensures)
+    (sym allowed ∙ c.if-not-may_discard.true)
 
 pub returns : goal.returns
 unfolding change_in
@@ -69,13 +54,11 @@ returns c =
     λ w here own.
     let a = c.args in
     let e = a.e in
-    let passed : site_struck w e.transaction e.site ≡ 0 =
-    struck_by w e.transaction e.site e.site (λ x. false) own c.opened.ensures c.takes_part.ensures (up_of a.site a.records.of w e.site here)
-    ∙ rw (c.if-not-opened.false, c.if-not-takes_part.false, c.if-not-site.false) refl in
     let all : length a.records.of ≡ 24 = search length-shown in
     let allowed : c.may_discard.result ≡ may_discard w e.transaction e.site =
     rw c.stable_count.ensures at c.may_discard.ensures ∙ may_discard_lem a.site a.site a.records.of a.records.of w e.transaction e.site all here in
     let rest : length c.trim-log.result.records.of ≡ 24 = search length-shown in
-    discard_drops w e.transaction e.site passed (sym allowed ∙ c.if-not-may_discard.false) _
+    discard_drops w e.transaction e.site (unready_here w e.transaction e.site e.site own (up_of a.site a.records.of w e.site here) c.in_ok-ready.ensures)
+    (sym allowed ∙ c.if-not-may_discard.false) _
     (forgets (eqb e.site 0) _ _ (rw c.count.ensures at c.remember.ensures
     ∙ still_remembers a.site c.trim-log.result.site a.records.of c.trim-log.result.records.of w e.transaction e.site all here rest c.trim-log.ensures))

@@ -1,6 +1,6 @@
 use mathlib.Core.Bool.{not}
 use mathlib.Core.Path.{refl, sym, ap, ◌∙◌}
-use Rattle.joint.specs.Answers.{answer_in}
+use Rattle.joint.specs.Answers.{number_of}
 use Rattle.joint.specs.Inside.{change_in, then_in}
 use Rattle.joint.proofs.Engine.Changes.{one_down, open_before, open_down, open_opens}
 use Rattle.joint.specs.State.{opened}
@@ -8,14 +8,14 @@ use Rattle.joint.specs.declared.rows.Then.TheVariants as follows
 use Rattle.joint.proofs.changes.open.Goals as goal
 
 pub returns-then-opened : goal.returns-then-opened
-unfolding change_in answer_in opened
+unfolding change_in number_of opened
 returns-then-opened c =
     λ w ups own.
     let e = c.args.e in
     open_before w e.transaction e.members e.presume_commit (rw (sym own) (sym c.opened.ensures ∙ c.if-opened.true))
 
 pub returns-then-not-all_up : goal.returns-then-not-all_up
-unfolding change_in answer_in opened
+unfolding change_in number_of opened
 returns-then-not-all_up c =
     λ w ups own.
     let a = c.args in

@@ -5,50 +5,53 @@ use lib.ListN.{length, take}
 use Rattle.codec.specs.Answers.{record_in}
 use Rattle.joint.specs.State as plain
 use Rattle.joint.specs.State.{holds}
-use Rattle.joint.specs.Answers.{site_from, transactions_in, answer_in}
-use Rattle.joint.specs.Inside.{resumed_in, resumed, restarted_in}
+use Rattle.joint.specs.Answers.{site_from, transactions_in, number_of}
+use Rattle.joint.specs.Inside.{resumed_in, resumed, restarted_in, cut_in}
 use Rattle.joint.proofs.Engine.Arrays.{length-shown}
 use Rattle.joint.proofs.Engine.Sites.{stable-taken}
 use Rattle.joint.proofs.Engine.Restarted.{restart-up, restart-whole, restart_too_far, restart-cut}
 use Rattle.joint.proofs.restarts.restart.Goals as goal
+use Rattle.joint.proofs.restarts.restart.Goals.{After-resume_all-resumed, in-Some, in-None}
 
 pub returns-then-site : goal.returns-then-site
-unfolding restarted_in answer_in site_from
-returns-then-site c x e f =
-    let a = c.args in
-    restart-up x _ a.e.cut a.e.keep _ e c.if-site.true (transactions_in a.transactions) f
+unfolding restarted_in number_of site_from
+returns-then-site c x e f = let a = c.args in restart-up x a.e.site 0 _ e c.if-site.true (cut_in a.e.cut)
 
-pub returns-then-e-eq-NO_CUT : goal.returns-then-e-eq-NO_CUT
-unfolding restarted_in answer_in resumed_in site_from
-returns-then-e-eq-NO_CUT c x e f =
+-- the resumption, up to the cut
+resumption : (c : After-resume_all-resumed) (x : plain.Run) → site_from c.args.site c.args.records.of ≡ x.site c.args.e.site → transactions_in c.args.transactions ≡ x.transaction
+    → resumed_in c.resume_all-resumed.result ≡ resumed x c.args.e.site c.match-e.most
+resumption c x e f =
     let a = c.args in
     let records = a.records.of in
     let size : length records ≡ 24 = search length-shown in
     let stable = ap (λ (n : ℕ). take n (map record_in records)) c.stable_count-count.ensures ∙ stable-taken a.site records size ∙ ap (λ (a : plain.Site). a.stable) e in
-    let resumption : resumed_in c.resume_all-resumed.result ≡ resumed x a.e.site a.e.cut =
-    c.resume_all-resumed.ensures x f (λ t k ht hk. c.kinds-kinds.ensures t k ht hk ∙ ap (holds t k) stable) stable in
-    restart-whole x _ _ a.e.keep _ e c.if-site.false _ resumption c.if-e-eq-NO_CUT.true _ (c.start.ensures records)
+    c.resume_all-resumed.ensures x f (λ t k ht hk. c.kinds-kinds.ensures t k ht hk ∙ ap (holds t k) stable) stable
+
+pub returns-in_default : goal.returns-in_default
+unfolding restarted_in resumed_in site_from
+returns-in_default c x e f =
+    let a = c.args in
+    let uncut : c.match-e.most ≡ 255 = elim c.match-e.branch [ in-Some w ↦ cc | in-None w ↦ w.most-is ] in
+    rw c.in_default.is (restart-whole x a.e.site c.match-e.most _ e c.if-site.false _ (resumption (goal.at.returns-in_default c).After-resume_all-resumed x e f) uncut _ (c.start.ensures a.records.of))
 
 pub returns-then-resumed-may_keep : goal.returns-then-resumed-may_keep
-unfolding restarted_in answer_in resumed_in site_from
+unfolding restarted_in number_of resumed_in site_from
 returns-then-resumed-may_keep c x e f =
     let a = c.args in
-    let records = a.records.of in
-    let size : length records ≡ 24 = search length-shown in
-    let stable = ap (λ (n : ℕ). take n (map record_in records)) c.stable_count-count.ensures ∙ stable-taken a.site records size ∙ ap (λ (a : plain.Site). a.stable) e in
-    let resumption : resumed_in c.resume_all-resumed.result ≡ resumed x a.e.site a.e.cut =
-    c.resume_all-resumed.ensures x f (λ t k ht hk. c.kinds-kinds.ensures t k ht hk ∙ ap (holds t k) stable) stable in
-    restart_too_far x _ _ _ _ e c.if-site.false _ resumption c.if-e-eq-NO_CUT.false
-    c.may_keep.result (c.may_keep.ensures records size) c.if-resumed-may_keep.true _ f
+    let cut = c.in-Some-cut.cut in
+    let most : c.match-e.most ≡ cut.after = elim c.match-e.branch [ in-Some w ↦ cc | in-None w ↦ cc ] in
+    let size : length a.records.of ≡ 24 = search length-shown in
+    rw (c.in-Some-cut.is, ← most)
+    (restart_too_far x a.e.site c.match-e.most _ e c.if-site.false _ (resumption (goal.at.returns-then-resumed-may_keep c).After-resume_all-resumed x e f) cut.keep
+    c.may_keep.result (c.may_keep.ensures a.records.of size) c.if-resumed-may_keep.true)
 
 pub returns : goal.returns
-unfolding restarted_in answer_in resumed_in site_from
+unfolding restarted_in resumed_in site_from
 returns c x e f =
     let a = c.args in
-    let records = a.records.of in
-    let size : length records ≡ 24 = search length-shown in
-    let stable = ap (λ (n : ℕ). take n (map record_in records)) c.stable_count-count.ensures ∙ stable-taken a.site records size ∙ ap (λ (a : plain.Site). a.stable) e in
-    let resumption : resumed_in c.resume_all-resumed.result ≡ resumed x a.e.site a.e.cut =
-    c.resume_all-resumed.ensures x f (λ t k ht hk. c.kinds-kinds.ensures t k ht hk ∙ ap (holds t k) stable) stable in
-    restart-cut x _ _ _ _ e c.if-site.false _ resumption c.if-e-eq-NO_CUT.false
-    c.may_keep.result (c.may_keep.ensures records size) c.if-resumed-may_keep.false _ c.stop.ensures _ c.forget_all.ensures
+    let cut = c.in-Some-cut.cut in
+    let most : c.match-e.most ≡ cut.after = elim c.match-e.branch [ in-Some w ↦ cc | in-None w ↦ cc ] in
+    let size : length a.records.of ≡ 24 = search length-shown in
+    rw (c.in-Some-cut.is, ← most)
+    (restart-cut x a.e.site c.match-e.most _ e c.if-site.false _ (resumption (goal.at.returns c).After-resume_all-resumed x e f) cut.keep
+    c.may_keep.result (c.may_keep.ensures a.records.of size) c.if-resumed-may_keep.false _ c.stop.ensures _ c.forget_all-forgotten.ensures)

@@ -3,13 +3,13 @@ use mathlib.Core.Path.{◌≡◌, sym}
 use mathlib.Core.Bool.{false}
 use native.Mathlib.Omega.{arith}
 use Rattle.codec.specs.Laws.Listed.{size-most}
-use Rattle.joint.specs.Answers.{bill_in}
+use Rattle.joint.specs.Answers.{number_of, bill_in}
 use Rattle.joint.proofs.Engine.Bills.{wrong, part-size, bill-refused, within, bill_priced}
 use Rattle.joint.proofs.bill.Bill.of.Goals as goal
 use Rattle.joint.proofs.bill.Bill.of.Goals.{After-size-c}
 
 pub returns-then-members-part : goal.returns-then-members-part
-unfolding bill_in
+unfolding bill_in number_of
 returns-then-members-part c =
     let a = c.args in
     bill-refused a.members a.presume_commit (rw (sym c.part.ensures) c.if-members-part.true)
@@ -34,30 +34,3 @@ unfolding bill_in
 returns c =
     let a = c.args in
     bill_priced a.members a.presume_commit (right c.before.before) _ _ _ _ c.size-n.ensures c.size-c.ensures c.one_if-some_c.ensures.0 c.one_if-some_a.ensures.0
-
-pub overflow_mul-result : goal.overflow_mul-result
-overflow_mul-result c = omega (arith, few c.before.before)
-
-pub overflow_add-result : goal.overflow_add-result
-overflow_add-result c = omega (arith, few c.before.before)
-
-pub overflow_add-result-2 : goal.overflow_add-result-2
-overflow_add-result-2 c = omega (arith, few c.before.before)
-
-pub overflow_add-result-3 : goal.overflow_add-result-3
-overflow_add-result-3 c = omega (arith, few c.before.before)
-
-pub overflow_add-result-4 : goal.overflow_add-result-4
-overflow_add-result-4 c = omega (arith, few c.before.before)
-
-pub overflow_add-result-5 : goal.overflow_add-result-5
-overflow_add-result-5 c = omega (arith, few c.before.before)
-
-pub overflow_add-result-6 : goal.overflow_add-result-6
-overflow_add-result-6 c = omega (arith, few c.before.before)
-
-pub overflow_mul-result-2 : goal.overflow_mul-result-2
-overflow_mul-result-2 c = omega (arith, few c.before.before)
-
-pub overflow_add-result-7 : goal.overflow_add-result-7
-overflow_add-result-7 c = omega (arith, few c.before.before)

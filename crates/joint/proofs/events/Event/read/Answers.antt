@@ -14,11 +14,11 @@ use Rattle.joint.proofs.events.Event.read.Goals as goal
 
 pub returns-then-bytes-ne-EVENT_LENGTH : goal.returns-then-bytes-ne-EVENT_LENGTH
 unfolding event_in only_if
-returns-then-bytes-ne-EVENT_LENGTH c = (rw (parse_by, ne_eqb _ 6 c.if-bytes-ne-EVENT_LENGTH.true) refl, tt)
+returns-then-bytes-ne-EVENT_LENGTH c = (rw (parse_by, ne_eqb _ 6 c.if-bytes-ne-EVENT_LENGTH.true) refl, refl)
 
 pub returns-then-not-in_range : goal.returns-then-not-in_range
 unfolding event_in only_if
-returns-then-not-in_range c = (rw (parse_by, ← c.in_range.ensures, c.if-not-in_range.true, and-false) refl, tt)
+returns-then-not-in_range c = (rw (parse_by, ← c.in_range.ensures, c.if-not-in_range.true, and-false) refl, refl)
 
 pub returns-in-0 : goal.returns-in-0
 unfolding ranges event_in step_in event_of any
@@ -26,17 +26,17 @@ returns-in-0 c = let a = accepted c.args.bytes.now c.if-bytes-ne-EVENT_LENGTH.fa
 
 pub returns-in-1 : goal.returns-in-1
 unfolding ranges event_in step_in event_of cut_of input_event
-returns-in-1 c = let a = accepted c.args.bytes.now c.if-bytes-ne-EVENT_LENGTH.false c.in_range.ensures (ap not c.if-not-in_range.false) c.in-1.is in (rw a.is refl, (a.last_x, (search rules, begins _)))
+returns-in-1 c = let a = accepted c.args.bytes.now c.if-bytes-ne-EVENT_LENGTH.false c.in_range.ensures (ap not c.if-not-in_range.false) c.in-1.is in (rw (a.is, c.cut_of.ensures) refl, (a.last_x, (search rules, begins _)))
 
 pub returns-in-2 : goal.returns-in-2
 unfolding ranges event_in step_in event_of cut_of
 returns-in-2 c =
     let a = accepted c.args.bytes.now c.if-bytes-ne-EVENT_LENGTH.false c.in_range.ensures (ap not c.if-not-in_range.false) c.in-2.is in
-    (rw (a.is, message-event _ _ _ a.last_z) refl, (a.last_x, message_asks _ _ _ a.last_z c.receiver.ensures a.first_y a.last_y))
+    (rw (a.is, message-event _ _ _ a.last_z, c.cut_of-in-2.ensures) refl, (a.last_x, message_asks _ _ _ a.last_z c.receiver.ensures a.first_y a.last_y))
 
 pub returns-in-3 : goal.returns-in-3
 unfolding ranges event_in step_in event_of cut_of input_event
-returns-in-3 c = let a = accepted c.args.bytes.now c.if-bytes-ne-EVENT_LENGTH.false c.in_range.ensures (ap not c.if-not-in_range.false) c.in-3.is in (rw a.is refl, (a.last_x, (a.last_y, times _ _ a.last_y)))
+returns-in-3 c = let a = accepted c.args.bytes.now c.if-bytes-ne-EVENT_LENGTH.false c.in_range.ensures (ap not c.if-not-in_range.false) c.in-3.is in (rw (a.is, c.cut_of-in-3.ensures) refl, (a.last_x, (a.last_y, times _ _ a.last_y)))
 
 pub returns-in-4 : goal.returns-in-4
 unfolding ranges event_in step_in event_of any
@@ -52,7 +52,7 @@ returns-in-6 c = let a = accepted c.args.bytes.now c.if-bytes-ne-EVENT_LENGTH.fa
 
 pub returns-in-7 : goal.returns-in-7
 unfolding ranges event_in event_of cut_of
-returns-in-7 c = let a = accepted c.args.bytes.now c.if-bytes-ne-EVENT_LENGTH.false c.in_range.ensures (ap not c.if-not-in_range.false) c.in-7.is in (rw a.is refl, a.last_y)
+returns-in-7 c = let a = accepted c.args.bytes.now c.if-bytes-ne-EVENT_LENGTH.false c.in_range.ensures (ap not c.if-not-in_range.false) c.in-7.is in (rw (a.is, c.cut_of-in-7.ensures) refl, a.last_y)
 
 pub returns-in_default : goal.returns-in_default
 unfolding ranges event_in step_in event_of any
