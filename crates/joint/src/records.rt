@@ -2,7 +2,7 @@
 ghost use Rattle.std.specs.Prelude.{◌≡◌, cond, ◌||◌, map, ℕ, ◌≤◌, eqb, take, get_or};
 ghost use Rattle.codec.specs.Lists.{select, any};
 ghost use Rattle.codec.specs.Records.{of_transaction};
-ghost use Rattle.codec.specs.Answers.{record_in, written};
+ghost use Rattle.codec.specs.Answers.{record_in, result_number, written};
 ghost use Rattle.codec.specs.Image.{write_image};
 ghost use Rattle.site.specs.Answers.{cohort_in, has_kind, effects_in};
 ghost use Rattle.joint.specs.State.{holds, recorded_cohort, stopped};
@@ -16,6 +16,7 @@ use crate::sites::Site;
 use codec::log::Log;
 use codec::message::Parts;
 use codec::record::Record;
+use codec::refusal::Refusal;
 use codec::writer::write_image;
 use site::cohort::Cohort;
 use site::effects::Effects;
@@ -270,8 +271,8 @@ impl Records {
     }
 
     // The image of the stable records, as the log of site `number`, from `at` on: 0, or 21, 23, 27, 28, 24, 25 and the buffer as it was.
-    pub(crate) fn write_log(&self, number: u8, site: Site, buffer: &mut [u8], at: usize) -> u8
-        ensures { written result buffer.new ≡ write_image number (site_from site self.now.of).stable at buffer.old }
+    pub(crate) fn write_log(&self, number: u8, site: Site, buffer: &mut [u8], at: usize) -> Result<(), Refusal>
+        ensures { written (result_number result) buffer.new ≡ write_image number (site_from site self.now.of).stable at buffer.old }
     {
         let log = Log {
             site: number,

@@ -1,7 +1,7 @@
 // The joint run: its state, and what can be seen of it.
 ghost use Rattle.std.specs.Prelude.{◌≡◌};
 ghost use Rattle.codec.specs.Image.{write_image};
-ghost use Rattle.codec.specs.Answers.{written};
+ghost use Rattle.codec.specs.Answers.{result_number, written};
 ghost use Rattle.site.specs.Answers.{coordinator_in, participant_in, outcome_in};
 ghost use Rattle.joint.specs.Answers.{transaction_in, run_in};
 ghost use Rattle.joint.specs.Program.{Begins};
@@ -10,8 +10,8 @@ use crate::answers::Answer;
 use crate::records::Records;
 use crate::sites::Site;
 use crate::transactions::Transaction;
-use codec::log::Log;
 use codec::message::Parts;
+use codec::refusal::Refusal;
 use site::phases::{CoordinatorPhase, ParticipantPhase};
 use site::presumption::Outcome;
 
@@ -149,11 +149,11 @@ impl Run {
     }
 
     // A site's log image from `at` on: 0, or the number that refuses it, 21, 23, 27, 28, 24 or 25, and the buffer as it was.
-    pub fn write_log(&self, site: u8, buffer: &mut [u8], at: usize) -> u8
-        ensures { written result buffer.new ≡ write_image site ((run_in self.now).site site).stable at buffer.old }
+    pub fn write_log(&self, site: u8, buffer: &mut [u8], at: usize) -> Result<(), Refusal>
+        ensures { written (result_number result) buffer.new ≡ write_image site ((run_in self.now).site site).stable at buffer.old }
     {
         if Run::LAST_SITE < site {
-            return Log::OVER_LIMIT;
+            return Err(Refusal::OverLimit);
         }
         let i = site as usize;
         self.records[i].write_log(site, self.sites[i], buffer, at)
