@@ -2,18 +2,18 @@
 use mathlib.Core.Path.{◌≡◌, refl, sym, ◌∙◌}
 use mathlib.Core.List.{List, [], ◌∷◌}
 use mathlib.Core.Option.{Option, none, some}
-use mathlib.Core.Bool.{Bool, true, false, not, ◌&&◌, ◌||◌}
+use mathlib.Core.Bool.{Bool, true, false, and-eq-true_iff}
 use Prim.Native.Nat.{ℕ, suc, ◌<◌, ◌≤◌, ◌+◌, ◌*◌, ◌-◌, ◌/◌, ◌%◌}
 use native.Mathlib.Omega.{arith}
 use native.Mathlib.Nat.{mul-suc, mul-le-mul_left}
 use mathlib.Core.Logic.{⊎_elim}
-use borrow.Author.Tests.{eq-eqb, ne_eqb, le-leb, lt-ltb, le-ltb, ltb-true, ltb-false, not-true}
-use lib.Dec.{ltb}
+use borrow.Author.Tests.{eq-eqb, ne_eqb, le-leb, leb-true, lt-ltb, le-ltb, ltb-true}
+use lib.Dec.{leb, ltb}
 use lib.ListN.{set}
 use Rattle.codec.specs.Lists.{every, only_if}
 use Rattle.codec.specs.Messages.{Parts, message_number, message_parts, message_answer, parts_written, is_message, number_of, number_answer}
 use Rattle.codec.specs.Answers.{written}
-use Rattle.codec.specs.Laws.Tests.{or_none, leb-ltb, lt_or_le}
+use Rattle.codec.specs.Laws.Tests.{lt_or_le}
 
 -- ---- a number stepped down
 
@@ -87,13 +87,6 @@ parts_refused (some m) n parts e = absurd cc
 
 -- ---- a message's number
 
-none_of : (a b c d : Bool) → (not a && (not b && (not c && (not d && true)))) ≡ not (((a || b) || c) || d)
-none_of true b c d = refl
-none_of false true c d = refl
-none_of false false true d = refl
-none_of false false false true = refl
-none_of false false false false = refl
-
 record InRange (m : Parts) : Type 0 where
   transaction : m.transaction ≤ 7
   one : 1 ≤ m.participant
@@ -101,33 +94,25 @@ record InRange (m : Parts) : Type 0 where
   kind : m.kind ≤ 7
 
 module _ (m : Parts) where
-  -- a part is out of range
-  abbrev pub wrong : Bool
-  wrong = ((ltb 7 m.transaction || ltb m.participant 1) || ltb 8 m.participant) || ltb 7 m.kind
-
-  is_message_lem : is_message m ≡ not wrong
+  in_range : is_message m ≡ true → InRange m
   unfolding is_message every
-  is_message_lem =
-      rw (leb-ltb m.transaction 7, leb-ltb 1 m.participant, leb-ltb m.participant 8, leb-ltb m.kind 7)
-      (none_of (ltb 7 m.transaction) (ltb m.participant 1) (ltb 8 m.participant) (ltb 7 m.kind))
+  in_range e =
+      let t = (and-eq-true_iff (leb m.transaction 7) _).0 e in
+      let p = (and-eq-true_iff (leb 1 m.participant) _).0 t.1 in
+      let q = (and-eq-true_iff (leb m.participant 8) _).0 p.1 in
+      let k = (and-eq-true_iff (leb m.kind 7) _).0 q.1 in
+      record { transaction = leb-true _ 7 t.0; one = leb-true 1 _ p.0; eight = leb-true _ 8 q.0; kind = leb-true _ 7 k.0 }
 
-  pub wrong_parts : wrong ≡ true → number_answer (number_of m) ≡ 26 ∷ []
+  pub participant_one : is_message m ≡ true → 1 ≤ m.participant
+  participant_one e = (in_range e).one
+
+  pub wrong_parts : is_message m ≡ false → number_answer (number_of m) ≡ 26 ∷ []
   unfolding number_of only_if number_answer
-  wrong_parts e = rw (is_message_lem, e)
+  wrong_parts e = rw e
 
-  pub number_of_lem : wrong ≡ false → {n : ℕ} → message_number m ≡ n → number_answer (number_of m) ≡ 0 ∷ n ∷ []
+  pub number_of_lem : is_message m ≡ true → {n : ℕ} → message_number m ≡ n → number_answer (number_of m) ≡ 0 ∷ n ∷ []
   unfolding number_of only_if number_answer
-  number_of_lem e is = rw (is_message_lem, e, is)
-
-  in_range_lem : wrong ≡ false → InRange m
-  in_range_lem e =
-      let k = or_none ((ltb 7 m.transaction || ltb m.participant 1) || ltb 8 m.participant) (ltb 7 m.kind) e in
-      let p = or_none (ltb 7 m.transaction || ltb m.participant 1) (ltb 8 m.participant) k.0 in
-      let t = or_none (ltb 7 m.transaction) (ltb m.participant 1) p.0 in
-      record { transaction = ltb-false 7 _ t.0; one = ltb-false _ 1 t.1; eight = ltb-false 8 _ p.1; kind = ltb-false 7 _ k.1 }
-
-  pub participant_one : wrong ≡ false → 1 ≤ m.participant
-  participant_one e = (in_range_lem e).one
+  number_of_lem e is = rw (e, is)
 
   pub low_number : (m.kind ≡ 7 → ⊥) → message_number m ≡ 56 * m.transaction + 7 * (m.participant - 1) + m.kind
   unfolding message_number
@@ -145,17 +130,17 @@ only_if_lem true x y e = (refl, cc)
 only_if_lem false x y e = let z : ◌≡◌ {A = ℕ} 0 1 = cc in absurd (omega arith)
 
 -- the number of parts in range
-numbered : (m : Parts) (n : ℕ) → InRange m → message_number m ≡ n → number_of m ≡ some n
+numbered : (m : Parts) {n : ℕ} → InRange m → message_number m ≡ n → number_of m ≡ some n
 unfolding number_of is_message every only_if
-numbered m n r e = rw (le-leb _ 7 r.transaction, le-leb 1 _ r.one, le-leb _ 8 r.eight, le-leb _ 7 r.kind, e)
+numbered m r e = rw (le-leb _ 7 r.transaction, le-leb 1 _ r.one, le-leb _ 8 r.eight, le-leb _ 7 r.kind, e)
 
 low_again : (n : ℕ) → n < 448 → number_of (record { transaction = n / 56; participant = n % 56 / 7 + 1; kind = n % 7 }) ≡ some n
 low_again n h =
-    numbered _ n (record { transaction = omega arith; one = omega arith; eight = omega arith; kind = omega arith }) (low_number _ (λ e. omega arith) ∙ omega arith)
+    numbered _ (record { transaction = omega arith; one = omega arith; eight = omega arith; kind = omega arith }) (low_number _ (λ e. omega arith) ∙ omega arith)
 
 vote_again : (n : ℕ) → 448 ≤ n → n < 512 → number_of (record { transaction = (n - 448) / 8; participant = (n - 448) % 8 + 1; kind = 7 }) ≡ some n
 vote_again n h l =
-    numbered _ n (record { transaction = omega arith; one = omega arith; eight = omega arith; kind = omega arith }) (vote_number _ refl ∙ omega arith)
+    numbered _ (record { transaction = omega arith; one = omega arith; eight = omega arith; kind = omega arith }) (vote_number _ refl ∙ omega arith)
 
 -- a number's parts have that number
 pub number_again : (n : ℕ) (m : Parts) → message_parts n ≡ some m → number_of m ≡ some n
@@ -184,5 +169,5 @@ pub parts_again : (m : Parts) (n : ℕ) → number_of m ≡ some n → message_p
 unfolding number_of
 parts_again m n e =
     let is = only_if_lem (is_message m) (message_number m) n e in
-    let r = in_range_lem m (not-true (wrong m) (sym (is_message_lem m) ∙ is.0)) in
+    let r = in_range m is.0 in
     ⊎_elim (low_parts m n r is.1) (λ h. vote_parts m n r is.1 (omega arith)) (lt_or_le m.kind 7)

@@ -18,6 +18,10 @@ record_from bytes = record { kind = get_or bytes 0 0; transaction = get_or bytes
 unfoldable pub next_kinds : List ℕ
 next_kinds = 0xFE ∷ 0x14 ∷ 0x08 ∷ 0 ∷ 0 ∷ 0xC0 ∷ 0 ∷ 0 ∷ []
 
+-- kind k may stand behind kind j by those masks
+unfoldable pub may_be_next : ℕ → ℕ → Bool
+may_be_next j k = every (leb j 7 ∷ leb k 7 ∷ eqb (get_or next_kinds j 0 / 2 ^ k % 2) 1 ∷ [])
+
 -- x behind y, the newest record of its transaction; `by_newest` in proofs/Sequence.antt: this is 01's sequence rule
 unfoldable pub may_follow : LogRecord → LogRecord → Bool
 may_follow y x =

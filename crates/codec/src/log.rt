@@ -45,13 +45,11 @@ impl Log {
     pub fn over_limit(site: u8, count: usize) -> bool
         ensures { result ≡ over_limit site count }
     {
-        if Parts::LAST_PARTICIPANT < site {
-            return true;
+        match site {
+            Log::COORDINATOR => Log::COORDINATOR_MOST < count,
+            1..=Parts::LAST_PARTICIPANT => Log::PARTICIPANT_MOST < count,
+            _ => true,
         }
-        if site == Log::COORDINATOR {
-            return Log::COORDINATOR_MOST < count;
-        }
-        Log::PARTICIPANT_MOST < count
     }
 
     // Where the records of an image begin: behind the opening, site, count and a pair for each.
@@ -59,7 +57,7 @@ impl Log {
     pub(crate) fn head_length(count: u8) -> usize
         ensures { result ≡ head_length count }
     {
-        Log::FIXED + Log::PAIR * (count as usize)
+        Log::FIXED + Log::PAIR * usize::from(count)
     }
 
     // The records that the log holds.

@@ -1,6 +1,6 @@
 // Message kinds and numbers: 16 bits for a message of a kind to or from a participant on a transaction.
 ghost use Rattle.std.specs.Prelude.{◌≡◌, ◌+◌, ◌*◌, ◌<◌};
-ghost use Rattle.codec.specs.Messages.{message_parts, message_answer, parts_written, number_of, number_answer};
+ghost use Rattle.codec.specs.Messages.{message_parts, message_answer, parts_written, is_message, number_of, number_answer};
 ghost use Rattle.codec.specs.Answers.{parts_in, parts_values, number_values, written};
 
 use crate::refusal::Refusal;
@@ -30,17 +30,17 @@ impl Stepped {
         requires { number < step * 8 }
         ensures { (number ≡ step * result.steps + result.rest) × (result.rest < step) }
     {
-        let mut steps: u8 = 0;
-        let mut rest = number;
-        let mut tried: u8 = 0;
-        while tried < Stepped::MOST {
-            if step <= rest {
-                steps += 1;
-                rest -= step;
+        let mut stepped = Stepped {
+            steps: 0,
+            rest: number,
+        };
+        for _tried in 0..Stepped::MOST {
+            if step <= stepped.rest {
+                stepped.steps += 1;
+                stepped.rest -= step;
             }
-            tried += 1;
         }
-        Stepped { steps, rest }
+        stepped
     }
 }
 
@@ -101,30 +101,30 @@ impl Parts {
         })
     }
 
+    // Whether there is a message of these parts.
+    #[tactic(auto, unfolding(crate::specs::Messages::is_message, crate::specs::Lists::every, crate::specs::Answers::parts_in))]
+    fn is_message(self) -> bool
+        ensures { result ≡ is_message (parts_in self) }
+    {
+        self.transaction <= Parts::LAST_TRANSACTION
+            && (1..=Parts::LAST_PARTICIPANT).contains(&self.participant)
+            && self.kind <= Parts::LAST_KIND
+    }
+
     pub fn number(self) -> Result<u16, Refusal>
         ensures { number_values result ≡ number_answer (number_of (parts_in self)) }
     {
-        let transaction = self.transaction;
-        let participant = self.participant;
-        let kind = self.kind;
-        let wrong = (Parts::LAST_TRANSACTION < transaction)
-            | (participant < 1)
-            | (Parts::LAST_PARTICIPANT < participant)
-            | (Parts::LAST_KIND < kind);
-        if wrong {
+        if !self.is_message() {
             return Err(Refusal::NoMessage);
         }
-        let place = (participant - 1) as u16;
-        if kind == Parts::READ_ONLY {
-            return Ok(
-                Parts::FIRST_READ_ONLY + Parts::READ_ONLY_STEP * (transaction as u16) + place,
-            );
+        let transaction = u16::from(self.transaction);
+        let place = u16::from(self.participant - 1);
+        if self.kind == Parts::READ_ONLY {
+            return Ok(Parts::FIRST_READ_ONLY + Parts::READ_ONLY_STEP * transaction + place);
         }
-        Ok(
-            Parts::TRANSACTION_STEP * (transaction as u16)
-                + Parts::PARTICIPANT_STEP * place
-                + (kind as u16),
-        )
+        Ok(Parts::TRANSACTION_STEP * transaction
+            + Parts::PARTICIPANT_STEP * place
+            + u16::from(self.kind))
     }
 }
 

@@ -1,8 +1,9 @@
 // One log record: its fields, its length, and the tests on it (refusals 23, 27, 28 and 24).
-ghost use Rattle.std.specs.Prelude.{◌≡◌, length, get_or, set, replicate};
+ghost use Rattle.std.specs.Prelude.{◌≡◌, ◌&&◌, leb, length, get_or, set, replicate};
+ghost use Rattle.codec.specs.Sets as sets;
 ghost use Rattle.codec.specs.Records.{bytes_of, length_of, awaits_acks, record_kind_at, fields_in_range};
 ghost use Rattle.codec.specs.Answers.{record_in, no_record};
-ghost use Rattle.codec.specs.Inside.{record_from, may_follow, answer_on};
+ghost use Rattle.codec.specs.Inside.{record_from, may_be_next, may_follow, answer_on};
 
 use crate::log::Log;
 use crate::message::Parts;
@@ -37,23 +38,20 @@ impl Newest {
     pub(crate) fn behind(self, x: Record) -> Record
         ensures { result ≡ get_or self.of x.transaction no_record }
     {
-        let transaction = x.transaction;
-        if Parts::LAST_TRANSACTION < transaction {
-            return Record::NONE;
-        }
-        self.of[transaction as usize]
+        self.of
+            .get(usize::from(x.transaction))
+            .copied()
+            .unwrap_or(Record::NONE)
     }
 
     // With one record more.
     pub(crate) fn with(self, x: Record) -> Newest
         ensures { result.of ≡ set self.of x.transaction x }
     {
-        let transaction = x.transaction;
-        if Parts::LAST_TRANSACTION < transaction {
-            return self;
-        }
         let mut newest = self;
-        newest.of[transaction as usize] = x;
+        if x.transaction <= Parts::LAST_TRANSACTION {
+            newest.of[usize::from(x.transaction)] = x;
+        }
         newest
     }
 }
@@ -62,10 +60,7 @@ impl Newest {
 fn byte(bytes: &[u8], at: usize) -> u8
     ensures { result ≡ get_or bytes.now at 0 }
 {
-    if at < bytes.len() {
-        return bytes[at];
-    }
-    0
+    bytes.get(at).copied().unwrap_or(0)
 }
 
 impl Record {
@@ -100,25 +95,20 @@ impl Record {
     const NEXT: [u16; Record::LAST_KIND as usize + 1] = [0xFE, 0x14, 0x08, 0, 0, 0xC0, 0, 0];
 
     // How many bytes a record of a kind has; 0 for what is no kind.
+    #[tactic(auto, unfolding(crate::specs::Records::length_of, crate::specs::Records::lengths))]
     pub fn length_of(kind: u8) -> usize
         ensures { result ≡ length_of kind }
     {
-        if Record::LAST_KIND < kind {
-            return 0;
-        }
-        Record::LENGTHS[kind as usize] as usize
+        let length = Record::LENGTHS.get(usize::from(kind)).copied();
+        usize::from(length.unwrap_or(0))
     }
 
     // How many bytes the record has: kind, transaction, and the fields of its kind.
+    #[tactic(auto, using(crate::specs::Laws::Fields::bytes_length))]
     pub fn length(self) -> usize
         ensures { result ≡ length (bytes_of (record_in self)) }
     {
-        let kind = self.kind;
-        let length = Record::length_of(kind);
-        if length < 2 {
-            return 2;
-        }
-        length
+        Record::length_of(self.kind).max(2)
     }
 
     // The record that bytes are, if they are one.
@@ -155,17 +145,21 @@ impl Record {
         }
     }
 
-    // Members not 0, PC a part of members; Init has PC not empty; a presumption is 0 or 1.
+    // Members not 0, PC a part of members.
+    fn masks_in_range(self) -> bool
+        ensures { result ≡ (leb 1 self.first && sets.part self.second self.first) }
+    {
+        1 <= self.first && part(self.second, self.first)
+    }
+
+    // The masks of Init and of a record 2; Init has PC not empty; a presumption is 0 or 1.
     fn fields_in_range(self) -> bool
         ensures { result ≡ fields_in_range (record_in self) }
     {
-        let kind = self.kind;
-        let first = self.first;
-        let second = self.second;
-        match kind {
-            Record::INIT => (1 <= first) & part(second, first) & (second != 0),
-            Record::COMMIT => (1 <= first) & part(second, first),
-            Record::PREPARED => first <= Record::LAST_PRESUMPTION,
+        match self.kind {
+            Record::INIT => self.masks_in_range() && self.second != 0,
+            Record::COMMIT => self.masks_in_range(),
+            Record::PREPARED => self.first <= Record::LAST_PRESUMPTION,
             Record::COMMIT_END | Record::ABORT_END | Record::COMMITTED | Record::ABORTED => true,
             _ => false,
         }
@@ -176,12 +170,21 @@ impl Record {
     pub fn awaits_acks(self) -> bool
         ensures { result ≡ awaits_acks (record_in self) }
     {
-        let kind = self.kind;
-        match kind {
+        match self.kind {
             Record::INIT | Record::COMMIT => minus(self.first, self.second) != 0,
             Record::PREPARED => self.first != 0,
             _ => false,
         }
+    }
+
+    // Whether a kind may stand behind a kind of its transaction, by the table.
+    #[tactic(auto, unfolding(crate::specs::Inside::may_be_next, crate::specs::Inside::next_kinds, crate::specs::Lists::every))]
+    fn may_be_next(before: u8, kind: u8) -> bool
+        ensures { result ≡ may_be_next before kind }
+    {
+        before <= Record::LAST_KIND
+            && kind <= Record::LAST_KIND
+            && (Record::NEXT[usize::from(before)] >> kind) % 2 == 1
     }
 
     // Whether the record may stand behind the newest one of its transaction: by the table; a record 2 behind Init by their masks,
@@ -189,22 +192,13 @@ impl Record {
     fn follows(self, newest: Record) -> bool
         ensures { result ≡ may_follow (record_in newest) (record_in self) }
     {
-        let before = newest.kind;
-        let kind = self.kind;
-        if Record::LAST_KIND < before {
-            return false;
+        match (newest.kind, self.kind) {
+            (Record::INIT, Record::COMMIT) => {
+                part(self.first, newest.first) && self.second == both(newest.second, self.first)
+            }
+            (Record::COMMIT, Record::COMMIT_END) => newest.awaits_acks(),
+            (before, kind) => Record::may_be_next(before, kind),
         }
-        if Record::LAST_KIND < kind {
-            return false;
-        }
-        if (before == Record::INIT) & (kind == Record::COMMIT) {
-            let members = self.first;
-            return part(members, newest.first) & (self.second == both(newest.second, members));
-        }
-        if (before == Record::COMMIT) & (kind == Record::COMMIT_END) {
-            return newest.awaits_acks();
-        }
-        (Record::NEXT[before as usize] >> kind) % 2 == 1
     }
 
     // The record as one of a site, behind the newest one of its transaction; or 23, 27, 28 or 24, tried in this order.

@@ -8,20 +8,20 @@ use crate::message::Parts;
 pub fn member(participant: u8, mask: u8) -> bool
     ensures { result ≡ sets.member participant mask }
 {
-    if (participant < 1) | (Parts::LAST_PARTICIPANT < participant) {
-        return false;
+    match participant {
+        1..=Parts::LAST_PARTICIPANT => (mask >> (participant - 1)) % 2 == 1,
+        _ => false,
     }
-    (mask >> (participant - 1)) % 2 == 1
 }
 
 // The set of one participant; empty for what is none.
 pub fn only(participant: u8) -> u8
     ensures { result ≡ sets.only participant }
 {
-    if (participant < 1) | (Parts::LAST_PARTICIPANT < participant) {
-        return 0;
+    match participant {
+        1..=Parts::LAST_PARTICIPANT => 1 << (participant - 1),
+        _ => 0,
     }
-    1 << (participant - 1)
 }
 
 // The members but one.
@@ -32,6 +32,7 @@ pub fn without(participant: u8, mask: u8) -> u8
 }
 
 // The members of both.
+#[tactic(auto, using(crate::specs::Laws::Masks::both_and))]
 pub fn both(a: u8, b: u8) -> u8
     ensures { result ≡ sets.both a b }
 {
@@ -39,10 +40,11 @@ pub fn both(a: u8, b: u8) -> u8
 }
 
 // The members of `a` that are not in `b`.
+#[tactic(auto, using(crate::specs::Laws::Masks::minus_and))]
 pub fn minus(a: u8, b: u8) -> u8
     ensures { result ≡ sets.minus a b }
 {
-    a & (255 - b)
+    a & !b
 }
 
 // Whether `a` is a part of `b`.
@@ -53,6 +55,7 @@ pub fn part(a: u8, b: u8) -> bool
 }
 
 // The members of `a` or `b`.
+#[tactic(auto, using(crate::specs::Laws::Masks::either_or))]
 pub fn either(a: u8, b: u8) -> u8
     ensures { result ≡ sets.either a b }
 {
@@ -63,5 +66,5 @@ pub fn either(a: u8, b: u8) -> u8
 pub fn size(mask: u8) -> u8
     ensures { result ≡ length (sets.listed mask) }
 {
-    u32::count_ones(mask as u32) as u8
+    mask.count_ones() as u8
 }

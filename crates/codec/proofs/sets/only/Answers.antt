@@ -1,15 +1,20 @@
 use native.Mathlib.Omega.{arith}
-use Rattle.codec.specs.Laws.Members.{numbered, only_made}
+use mathlib.Core.Bool.{or-true}
+use borrow.Author.Tests.{lt-ltb, le-ltb}
+use Rattle.codec.specs.Laws.Members.{only_made}
 use Rattle.codec.proofs.sets.only.Goals as goal
 
-pub returns-then-participant : goal.returns-then-participant
-returns-then-participant c = rw (only_made c.args.participant (omega arith), c.if-participant.true)
+pub returns-in-1-to-8 : goal.returns-in-1-to-8
+returns-in-1-to-8 c =
+    let p = c.args.participant in
+    rw (only_made p (omega arith), le-ltb p 1 (omega arith), le-ltb 8 p (omega arith))
 
-pub overflow_sub-result : goal.overflow_sub-result
-overflow_sub-result c = (numbered c.args.participant c.if-participant.false).0
+pub returns-in_default : goal.returns-in_default
+returns-in_default c =
+    let p = c.args.participant in
+    rw (only_made p (omega arith), lt-ltb p 1 (omega arith))
 
-pub overflow_shl-result : goal.overflow_shl-result
-overflow_shl-result c = omega (arith, (numbered c.args.participant c.if-participant.false).1)
-
-pub returns : goal.returns
-returns c = rw (only_made c.args.participant (omega arith), c.if-participant.false)
+pub returns-in_default-2 : goal.returns-in_default-2
+returns-in_default-2 c =
+    let p = c.args.participant in
+    rw (only_made p (omega arith), lt-ltb 8 p (omega arith), or-true)

@@ -1,5 +1,6 @@
 use mathlib.Core.Path.{◌≡◌, refl}
 use Prim.Native.Nat.{ℕ, zero, suc}
+use native.Mathlib.Omega.{arith}
 use borrow.Author.Tests.{lt-ltb, le-ltb}
 use Rattle.codec.specs.Image.{over_limit, most}
 use Rattle.codec.proofs.log.Log.over_limit.Goals as goal
@@ -9,14 +10,14 @@ unfolding most
 participant_most zero h = absurd (h refl)
 participant_most (suc s) h = refl
 
-pub returns-then-site-gt-LAST_PARTICIPANT : goal.returns-then-site-gt-LAST_PARTICIPANT
-unfolding over_limit
-returns-then-site-gt-LAST_PARTICIPANT c = rw (lt-ltb _ _ c.if-site-gt-LAST_PARTICIPANT.true)
-
-pub returns-then-site-eq-COORDINATOR : goal.returns-then-site-eq-COORDINATOR
+pub returns-in-0 : goal.returns-in-0
 unfolding over_limit most
-returns-then-site-eq-COORDINATOR c = rw c.if-site-eq-COORDINATOR.true
+returns-in-0 c = rw c.in-0.is
 
-pub returns : goal.returns
+pub returns-in-1-to-8 : goal.returns-in-1-to-8
 unfolding over_limit
-returns c = rw (le-ltb _ _ c.if-site-gt-LAST_PARTICIPANT.false, participant_most _ c.if-site-eq-COORDINATOR.false)
+returns-in-1-to-8 c = rw (le-ltb 8 c.args.site (omega arith), participant_most c.args.site (λ e. omega arith))
+
+pub returns-in_default : goal.returns-in_default
+unfolding over_limit
+returns-in_default c = rw (lt-ltb 8 c.args.site (omega arith))

@@ -1,20 +1,26 @@
-use mathlib.Core.Path.{sym}
+use mathlib.Core.Path.{◌≡◌, sym, ◌∙◌}
+use mathlib.Core.Bool.{true}
+use Rattle.codec.specs.Messages.{is_message}
 use Rattle.codec.specs.Answers.{parts_in, number_values}
 use Rattle.codec.proofs.Numbered.{wrong_parts, number_of_lem, participant_one, low_number, vote_number}
 use Rattle.codec.proofs.message.Parts.number.Goals as goal
 
-pub returns-then-wrong : goal.returns-then-wrong
-unfolding number_values parts_in
-returns-then-wrong c = sym (wrong_parts (parts_in c.args.self) c.if-wrong.true)
+pub returns-then-not-is_message : goal.returns-then-not-is_message
+unfolding number_values
+returns-then-not-is_message c = sym (wrong_parts _ (sym c.is_message.ensures ∙ c.if-not-is_message.true))
 
-pub overflow_sub-place : goal.overflow_sub-place
+pub overflow_sub-self : goal.overflow_sub-self
 unfolding parts_in
-overflow_sub-place c = participant_one (parts_in c.args.self) c.if-wrong.false
+overflow_sub-self c = participant_one (parts_in c.args.self) (sym c.is_message.ensures ∙ c.if-not-is_message.false)
 
-pub returns-then-kind-eq-READ_ONLY : goal.returns-then-kind-eq-READ_ONLY
+pub returns-then-self-eq-READ_ONLY : goal.returns-then-self-eq-READ_ONLY
 unfolding number_values parts_in
-returns-then-kind-eq-READ_ONLY c = let m = parts_in c.args.self in sym (number_of_lem m c.if-wrong.false (vote_number m c.if-kind-eq-READ_ONLY.true))
+returns-then-self-eq-READ_ONLY c =
+    let m = parts_in c.args.self in
+    rw (c.from-transaction.ensures, c.from-place.ensures) (sym (number_of_lem m (sym c.is_message.ensures ∙ c.if-not-is_message.false) (vote_number m c.if-self-eq-READ_ONLY.true)))
 
 pub returns : goal.returns
 unfolding number_values parts_in
-returns c = let m = parts_in c.args.self in sym (number_of_lem m c.if-wrong.false (low_number m c.if-kind-eq-READ_ONLY.false))
+returns c =
+    let m = parts_in c.args.self in
+    rw (c.from-transaction.ensures, c.from-place.ensures, c.from.ensures) (sym (number_of_lem m (sym c.is_message.ensures ∙ c.if-not-is_message.false) (low_number m c.if-self-eq-READ_ONLY.false)))

@@ -1,26 +1,36 @@
 use mathlib.Core.Path.{sym, ◌∙◌}
-use Rattle.codec.specs.Inside.{next_kinds}
-use Rattle.codec.proofs.Behind.{newest_no_kind, next_no_kind, commit_behind_init, end_behind_commit, follows_is}
+use native.Mathlib.Omega.{arith}
+use Rattle.codec.proofs.Behind.{commit_behind_init, end_behind_commit, follows_is}
 use Rattle.codec.proofs.record.Record.follows.Goals as goal
+use Rattle.codec.proofs.record.Record.follows.Goals.{in_default-via-in-1+in_default-1, in_default-via-in-2+in_default-1, in_default-via-in_default-1}
 
-pub returns-then-before-gt-LAST_KIND : goal.returns-then-before-gt-LAST_KIND
-returns-then-before-gt-LAST_KIND c = sym (newest_no_kind c.args.newest c.args.self c.if-before-gt-LAST_KIND.true)
-
-pub returns-then-kind-gt-LAST_KIND : goal.returns-then-kind-gt-LAST_KIND
-returns-then-kind-gt-LAST_KIND c = sym (next_no_kind c.args.newest c.args.self c.if-kind-gt-LAST_KIND.true)
-
-pub returns-then-before-kind : goal.returns-then-before-kind
-returns-then-before-kind c =
+pub returns-then-part : goal.returns-then-part
+returns-then-part c =
     let a = c.args in
-    rw (c.part.ensures, c.both.ensures) (sym (commit_behind_init a.newest a.self c.if-before-kind.true))
+    rw c.both.ensures (sym (commit_behind_init a.newest a.self c.in-1-eq2.is-0 c.in-1-eq2.is-1 ∙ rw (sym c.part.ensures ∙ c.if-part.true)))
 
-pub returns-then-before-kind-2 : goal.returns-then-before-kind-2
-returns-then-before-kind-2 c =
+pub returns-else-part : goal.returns-else-part
+returns-else-part c =
     let a = c.args in
-    c.awaits_acks.ensures ∙ sym (end_behind_commit a.newest a.self c.if-before-kind-2.true)
+    rw c.if-part.false (sym (commit_behind_init a.newest a.self c.in-1-eq2.is-0 c.in-1-eq2.is-1 ∙ rw (sym c.part.ensures ∙ c.if-part.false)))
 
-pub returns : goal.returns
-unfolding next_kinds
-returns c =
+pub returns-in-2-eq3 : goal.returns-in-2-eq3
+returns-in-2-eq3 c =
     let a = c.args in
-    sym (follows_is a.newest a.self c.if-before-gt-LAST_KIND.false c.if-kind-gt-LAST_KIND.false c.if-before-kind.false c.if-before-kind-2.false)
+    c.awaits_acks.ensures ∙ sym (end_behind_commit a.newest a.self c.in-2-eq3.is-0 c.in-2-eq3.is-1)
+
+pub returns-in_default : goal.returns-in_default
+returns-in_default c =
+    let a = c.args in
+    rw c.may_be_next.ensures
+    (follows_is a.newest a.self
+    (λ e f. elim c.in_default-1.branch [
+      | in_default-via-in-1+in_default-1 w ↦ omega arith
+      | in_default-via-in-2+in_default-1 w ↦ omega arith
+      | in_default-via-in_default-1 w ↦ omega arith
+    ])
+    (λ e f. elim c.in_default-1.branch [
+      | in_default-via-in-1+in_default-1 w ↦ omega arith
+      | in_default-via-in-2+in_default-1 w ↦ omega arith
+      | in_default-via-in_default-1 w ↦ omega arith
+    ]))
