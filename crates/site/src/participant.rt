@@ -143,24 +143,20 @@ impl Own {
         }
     }
 
+    #[tactic(auto, unfolding(crate::specs::Participant::on_tell, crate::specs::Participant::acking_if, crate::specs::Presumption::same_outcome))]
     fn on_tell(self, outcome: Outcome, phase: ParticipantPhase) -> Option<Row<ParticipantPhase>>
         ensures { (t : ℕ) → found_in participant_in t result ≡ participant.on_tell (presumption_in self.presumption) self.number (outcome_in outcome) (participant_in phase) }
     {
-        match phase {
-            ParticipantPhase::Working => match outcome {
-                Outcome::Commit => None,
-                Outcome::Abort => Some(self.finish(outcome)),
-            },
-            ParticipantPhase::Prepared => Some(self.finish(outcome)),
-            ParticipantPhase::Committed => match outcome {
-                Outcome::Commit => Some(self.acknowledging(outcome, phase)),
-                Outcome::Abort => None,
-            },
-            ParticipantPhase::Aborted => match outcome {
-                Outcome::Commit => None,
-                Outcome::Abort => Some(self.acknowledging(outcome, phase)),
-            },
-            ParticipantPhase::Unknown => Some(self.acknowledging(outcome, phase)),
+        match (phase, outcome) {
+            (ParticipantPhase::Prepared, _) | (ParticipantPhase::Working, Outcome::Abort) => {
+                Some(self.finish(outcome))
+            }
+            (ParticipantPhase::Committed, Outcome::Commit)
+            | (ParticipantPhase::Aborted, Outcome::Abort)
+            | (ParticipantPhase::Unknown, _) => Some(self.acknowledging(outcome, phase)),
+            (ParticipantPhase::Working, Outcome::Commit)
+            | (ParticipantPhase::Committed, Outcome::Abort)
+            | (ParticipantPhase::Aborted, Outcome::Commit) => None,
         }
     }
 
