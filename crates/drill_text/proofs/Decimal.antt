@@ -1,9 +1,8 @@
 -- Numbers in decimal digits, stored one by one or counted. Assumes nothing.
-use Rattle.std.proofs.Common.{ℕ, zero, suc, ◌+◌, ◌-◌, ◌*◌, ◌/◌, ◌%◌, ◌≤◌, ◌<◌, ◌≡◌, refl, sym, ap, ◌∙◌, Bool, true, false, ltb, List, [], ◌∷◌, ◌++◌, length, get_or, set, take, drop, arith, add-one, drop-cons, length-append, length-set, drop_of_length-le}
-use native.Mathlib.Nat.{mod-eq_of_lt, mul-le-mul_right}
+use Rattle.std.proofs.Common.{ℕ, zero, suc, ◌+◌, ◌-◌, ◌*◌, ◌/◌, ◌%◌, ◌≤◌, ◌<◌, ◌≡◌, refl, sym, ap, ◌∙◌, Bool, true, false, ltb, List, [], ◌∷◌, ◌++◌, length, get_or, set, drop, arith, add-one, drop-cons, length-append, length-set, drop_of_length-le}
+use native.Mathlib.Nat.{mod-eq_of_lt}
 use mathlib.Core.List.{append-nil, append_assoc}
-use lib.Seq.{get_or-set_same, drop-set-lt, take_all}
-use Rattle.std.proofs.lemmas.List.{take_more, take-set-le, take-append-drop}
+use lib.Seq.{get_or-set_same, drop-set-lt}
 use borrow.Author.Tests.{lt-ltb, le-ltb, ltb-true, ltb-false}
 use Rattle.std.proofs.lemmas.Grind.{get_or_default_zero}
 use Rattle.std.proofs.lemmas.Slice.Eq.{text_from_reads}

@@ -1,6 +1,6 @@
 -- The lines of a drill: how long they are, what the answers' bytes stand for, and all lines in a lent buffer.
 use Rattle.std.proofs.Common.{ℕ, zero, suc, ◌+◌, ◌*◌, ◌/◌, ◌%◌, ◌≤◌, ◌<◌, min, ◌≡◌, refl, sym, ap, ◌∙◌, Bool, true, false, leb, ltb, List, [], ◌∷◌, ◌++◌, length, get_or, take, drop, arith, zero-add, length-append, length-take}
-use mathlib.Core.List.{flatten, append-nil}
+use mathlib.Core.List.{flatten}
 use lib.Seq.{get_or-drop, take_at}
 use borrow.Author.Tests.{le-leb, lt-leb, ltb-false}
 use Rattle.std.specs.Simd.{first_chunks}

@@ -26,6 +26,7 @@ pub(crate) struct Digits {
 }
 
 impl Digits {
+    // (As a `for` over the places it would need an end that no number reaches.)
     pub(crate) fn of(n: u64) -> Digits
         ensures { ((result.from ≤ 19) × (length result.of ≡ 20)) × (drop result.from result.of ≡ decimal 19 n) }
     {
@@ -42,7 +43,7 @@ impl Digits {
     }
 }
 
-// The number of a line in five digits, as characters: no line divides.
+// The number of a line in five digits, as characters. It is counted, so that no line divides.
 #[derive(Drop)]
 pub(crate) struct Number {
     pub(crate) digits: [u8; 5],
@@ -56,6 +57,7 @@ impl Number {
         Number { digits: [b'0'; 5] }
     }
 
+    // One more.
     pub(crate) fn count(&mut self)
         requires { value self.old.digits < 99999 }
         ensures { value self.new.digits ≡ value self.old.digits + 1 }

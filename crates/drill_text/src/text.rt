@@ -27,6 +27,7 @@ impl<'a> Text<'a> {
         Text { bytes, end: 0 }
     }
 
+    // Writes bytes behind it.
     pub(crate) fn push(&mut self, bytes: &[u8])
         requires { Room self.old bytes.now }
         ensures { Pushed self.old self.new bytes.now }
@@ -43,7 +44,7 @@ impl<'a> Text<'a> {
         &self.bytes[..self.end]
     }
 
-    // A number and what ends it.
+    // A number and the byte that ends it.
     pub(crate) fn push_field(&mut self, n: u64, end: u8)
         requires { Room self.old (decimal 19 n ++ (end ∷ [])) }
         ensures { Pushed self.old self.new (decimal 19 n ++ (end ∷ [])) }
@@ -53,7 +54,7 @@ impl<'a> Text<'a> {
         self.push(&[end]);
     }
 
-    // The number of a line and a space.
+    // The number of a line and a space, digit by digit from the first that is not 0.
     fn push_number(&mut self, number: &Number)
         requires { Room self.old (decimal 5 (value number.now.digits) ++ (32 ∷ [])) }
         ensures { Pushed self.old self.new (decimal 5 (value number.now.digits) ++ (32 ∷ [])) }
@@ -71,8 +72,8 @@ impl<'a> Text<'a> {
         }
     }
 
-    // The four numbers of an answer. Where their sum is below 10, as it mostly is, each has one digit. (With `|` for `+` the eight
-    // bytes are joined in one word, which is faster.)
+    // The four numbers of an answer. Where their sum is below 10, as it mostly is, each has one digit. (`b'0' | n` is the character
+    // of a digit n as `b'0' + n` is, and so the eight bytes are joined in one word, which is faster.)
     fn push_answer(&mut self, answer: &[u8; 4])
         requires { Room self.old (line 5 answer.now) }
         ensures { Pushed self.old self.new (line 5 answer.now) }
@@ -144,6 +145,7 @@ impl<'a> Text<'a> {
     }
 }
 
+// The length of a line.
 fn line_size(number: usize, answer: &[u8; 4]) -> usize
     requires { number < 1000000 }
     ensures { (result ≡ length (line 5 (number ∷ answer.now))) × (result ≤ 35) }
@@ -190,6 +192,7 @@ fn entry_letter(run: &Run, transaction: u8, site: u8) -> u8
     letter(commit, abort)
 }
 
+// (As a chain of `filter` and `count` over a range it was not proved.)
 pub(crate) fn opened_count(run: &Run) -> usize
     ensures { (result ≡ length (opened_in (run_in run.now))) × (result ≤ 8) }
 {

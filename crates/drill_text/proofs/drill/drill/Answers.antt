@@ -1,4 +1,4 @@
-use Rattle.std.proofs.Common.{◌*◌, ◌≡◌, refl, sym, ◌∙◌, min, length, take, arith, length-take}
+use Rattle.std.proofs.Common.{◌*◌, arith, length-take}
 use Rattle.joint.specs.Drill.{drill_into}
 use Rattle.joint.specs.Answers.{run_in, totals_in}
 use Rattle.drill_text.proofs.Drilled.{Answered, answered}

@@ -1,7 +1,7 @@
 use Rattle.std.proofs.Common.{ℕ, ◌+◌, ◌*◌, ◌/◌, ◌≤◌, ◌<◌, ◌≡◌, refl, sym, ap, ◌∙◌, List, length, arith, rules}
 use Rattle.std.specs.Simd.{first_chunks}
 use Rattle.joint.specs.Answers.{run_in, totals_in}
-use Rattle.drill_text.specs.Inside.{Room, Pushed, text_of, lines_from, transaction_lines, sites, site_lines}
+use Rattle.drill_text.specs.Inside.{Room, text_of, lines_from, sites, site_lines}
 use Rattle.drill_text.proofs.Pushed.{pushed_within, pushed_front}
 use Rattle.drill_text.proofs.Drilled.{Few, sites-most, lines_short, text_size, text_short, text_none, room_for_lines, room_for_transactions, room_for_sites, text_all}
 use Rattle.drill_text.proofs.drill.write_text.Goals as goal

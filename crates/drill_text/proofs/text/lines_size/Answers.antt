@@ -1,4 +1,4 @@
-use Rattle.std.proofs.Common.{refl, ap, ◌∙◌, length, arith, length-append}
+use Rattle.std.proofs.Common.{refl, ap, length, arith, length-append}
 use Rattle.drill_text.proofs.Texts.{lines_next, lines_end}
 use Rattle.drill_text.proofs.text.lines_size.Goals as goal
 

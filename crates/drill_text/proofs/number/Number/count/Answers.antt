@@ -1,4 +1,4 @@
-use Rattle.std.proofs.Common.{ℕ, ◌+◌, ◌<◌, ◌≡◌, length, get_or, arith}
+use Rattle.std.proofs.Common.{◌+◌, ◌≡◌, length, arith}
 use Rattle.drill_text.specs.Decimal.{AllDigits, value}
 use Rattle.drill_text.proofs.Decimal.{Digit, digit, value_is, digits_of}
 use Rattle.drill_text.proofs.number.Number.count.Goals as goal

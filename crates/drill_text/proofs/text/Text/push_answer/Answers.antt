@@ -1,4 +1,4 @@
-use Rattle.std.proofs.Common.{◌<◌, ◌≡◌, refl, length, get_or, arith}
+use Rattle.std.proofs.Common.{refl, arith}
 use Rattle.drill_text.proofs.Pushed.{left_start, left_room, left_next, left_end}
 use Rattle.drill_text.proofs.Texts.{line_short, number_next, records_next, forces_next, sends_next}
 use Rattle.drill_text.proofs.text.Text.push_answer.Goals as goal

@@ -1,4 +1,4 @@
-use Rattle.std.proofs.Common.{◌+◌, ◌≡◌, refl, ap, ◌∙◌, [], ◌∷◌, ◌++◌, length, get_or, drop, arith}
+use Rattle.std.proofs.Common.{◌+◌, ap, ◌∙◌, [], ◌∷◌, ◌++◌, get_or, drop, arith}
 use Rattle.codec.specs.Laws.Stored.{Next}
 use Rattle.joint.specs.Drill.{decimal, line}
 use Rattle.drill_text.specs.Decimal.{value}

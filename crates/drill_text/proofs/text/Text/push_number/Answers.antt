@@ -1,4 +1,4 @@
-use Rattle.std.proofs.Common.{◌≡◌, length, get_or, arith}
+use Rattle.std.proofs.Common.{arith}
 use Rattle.drill_text.proofs.Decimal.{shown_one, shown_two, shown_three, shown_four, shown_five}
 use Rattle.drill_text.proofs.text.Text.push_number.Goals as goal
 
