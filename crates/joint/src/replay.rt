@@ -56,8 +56,7 @@ impl Run {
             self.sites[s] = self.sites[s].settle(row);
         }
         if row.goes_down() {
-            let transactions = forget_all(self.transactions, s);
-            self.transactions = transactions;
+            forget_all(&mut self.transactions, s);
         }
         Ok(counts)
     }

@@ -1,4 +1,4 @@
-use Prim.Native.Nat.{ℕ, zero, suc}
+use Prim.Native.Nat.{ℕ, zero, suc, ◌<◌}
 use mathlib.Core.Path.{◌≡◌, sym, ap, ◌∙◌}
 use lib.ListN.{length}
 use native.Mathlib.Omega.{arith}
@@ -13,7 +13,6 @@ use Rattle.joint.proofs.Engine.Arrays.{length-shown, all-default, pass_starts, p
 use Rattle.joint.proofs.Base.Placed.{update-own}
 use Rattle.joint.proofs.Engine.Transactions.{read_any}
 use Rattle.joint.proofs.restarts.forget_all.Goals as goal
-use Rattle.joint.proofs.restarts.forget_all.Goals.{Start}
 
 -- a transaction that was never opened has no phase to forget
 none_forgotten : (s : ℕ) → transaction_in no_transaction ≡ forgotten s (transaction_in no_transaction)
@@ -33,24 +32,22 @@ none_forgotten s = go s
     go zero = λ i. record { cohort = x.cohort; coordinator = x.coordinator; participant = same 0 i; marked = x.marked; sent = x.sent; entered = x.entered }
     go (suc n) = λ i. record { cohort = x.cohort; coordinator = x.coordinator; participant = same (suc n) i; marked = x.marked; sent = x.sent; entered = x.entered }
 
-size : (b : Start) → length b.args.transactions ≡ 8
-size b = search length-shown
+pub loop-transaction-init : goal.loop-transaction-init
+loop-transaction-init c = (pass_starts transaction_in _ no_transaction _, omega arith)
 
-pub loop-i-init : goal.loop-i-init
-loop-i-init c = (pass_starts transaction_in _ no_transaction _, omega arith)
-
-pub loop-i-preserved : goal.loop-i-preserved
-loop-i-preserved c =
+pub loop-transaction-preserved : goal.loop-transaction-preserved
+loop-transaction-preserved c =
     let s = c.args.site in
-    let now = c.loop-i.transactions in
-    let below = c.loop-i-test.true in
-    let p = c.loop-i.invariant.0 in
-    let n = size c.before.before.before.before in (
-      pass_stores transaction_in (forgotten s) no_transaction _ now c.loop-i.i c.forget.result p (omega (arith, below, n))
-          (c.forget.ensures ∙ ap (λ (x : Transaction). forgotten s (transaction_in x)) (read_any now c.loop-i.i _ no_transaction (omega (arith, below, n, p.length_kept)))),
-      omega (arith, below),
+    let l = c.loop-transaction in
+    let i = l.transaction-index in
+    let p = l.invariant.0 in
+    let below : i < length l.transactions = omega (arith, c.loop-transaction-test.true, p.length_kept) in (
+      pass_stores transaction_in (forgotten s) no_transaction _ l.transactions i c.forget.result p (omega (arith, c.loop-transaction-test.true))
+          (c.forget.ensures ∙ ap (λ (x : Transaction). forgotten s (transaction_in x)) (read_any l.transactions i _ no_transaction below)),
+      omega arith,
     )
 
 pub returns : goal.returns
 returns c =
-    pass_ends transaction_in (forgotten c.args.site) no_transaction _ c.loop-i.transactions c.loop-i.i c.loop-i.invariant.0 (omega (arith, size c.before.before, c.loop-i-test.false)) (none_forgotten _)
+    let l = c.loop-transaction in
+    pass_ends transaction_in (forgotten c.args.site) no_transaction _ l.transactions l.transaction-index l.invariant.0 (omega arith) (none_forgotten _)
