@@ -33,17 +33,13 @@ pub struct Restarted {
 }
 
 // The phase at a site is Unknown in every transaction.
-pub(crate) fn forget_all(
-    mut transactions: [Transaction; Run::TRANSACTIONS],
-    site: usize,
-) -> [Transaction; Run::TRANSACTIONS]
+pub(crate) fn forget_all(transactions: &mut [Transaction; Run::TRANSACTIONS], site: usize)
     requires { site ≤ 8 }
-    ensures { transactions_in result ≡ (λ t. forgotten site (transactions_in transactions t)) }
+    ensures { transactions_in transactions.new ≡ (λ t. forgotten site (transactions_in transactions.old t)) }
 {
     for transaction in transactions.iter_mut() {
         *transaction = transaction.forget(site);
     }
-    transactions
 }
 
 // The restart of a site in each opened transaction, in rising order, up to the cut. The first `count` of its records are
@@ -105,7 +101,7 @@ pub(crate) fn restart(
         None => u8::MAX,
     };
     let resumed = resume_all(transactions, kinds, records, count, e.site, most);
-    let after = resumed.transactions;
+    let mut after = resumed.transactions;
     let Some(cut) = e.cut else {
         return Ok(Restarted {
             sends: resumed.sends,
@@ -119,10 +115,10 @@ pub(crate) fn restart(
     if (resumed.left != 0) | !site.may_keep(cut.keep) {
         return Err(Refusal::CutTooFar);
     }
-    let forgotten = forget_all(after, e.site as usize);
+    forget_all(&mut after, e.site as usize);
     Ok(Restarted {
         sends: resumed.sends,
         log: records.stop(site, cut.keep),
-        transactions: forgotten,
+        transactions: after,
     })
 }

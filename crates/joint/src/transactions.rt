@@ -243,6 +243,8 @@ impl Transaction {
     }
 
     // With what follows a row at a site. (Where the site goes down, its phases in all transactions are to be forgotten.)
+    // A call of it costs an event more than bench/run-drill allows.
+    #[inline(always)]
     pub(crate) fn settle(self, site: u8, then: Then) -> Transaction
         requires { site ≤ 8 }
         ensures { transaction_in result ≡ then_transaction site then (transaction_in self) }

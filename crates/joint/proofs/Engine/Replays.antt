@@ -6,15 +6,15 @@ use mathlib.Core.List.{List, [], ◌∷◌, ◌++◌, flatten, append-nil}
 use native.Mathlib.Nat.{add_assoc, zero-add}
 use native.Mathlib.Numerals.{add-one}
 use native.Mathlib.Omega.{arith}
-use lib.ListN.{length, take, drop, length-drop}
-use lib.Seq.{drop-drop}
+use lib.ListN.{length, set, take, drop, length-drop}
+use lib.Seq.{sets-eq, drop-drop}
 use borrow.Author.Tests.{le-leb, lt-leb}
 use Rattle.codec.specs.Image.{stored}
 use Rattle.codec.specs.Laws.Stored.{length-stored, stored-two}
 use Rattle.joint.specs.State.{Run, fresh}
 use Rattle.codec.specs.Lists.{select}
 use Rattle.joint.specs.Event.{event_length}
-use Rattle.joint.specs.Run.{event, after, answers, answer_of}
+use Rattle.joint.specs.Run.{Answer, event, after, answers, answer_of}
 use Rattle.joint.specs.Drill.{chunks, events_of, answer_bytes, replayed}
 use Rattle.joint.specs.Safety.{Moment, happened, history}
 use Rattle.joint.specs.Totals as totals
@@ -28,6 +28,16 @@ use Rattle.joint.specs.declared.replay.Ran.{Ran}
 use Rattle.joint.proofs.Base.History.{after_snoc, answers_snoc, history_snoc}
 use Rattle.joint.proofs.Base.Forces.{held-sum, forces-append}
 use Rattle.joint.proofs.Engine.Openings.{handovers-few, openings_counted}
+
+-- an answer, byte by byte
+pub answer-stored : (buffer : List ℕ) (at : ℕ) (x : Answer) {a b c d : ℕ} → at + 4 ≤ length buffer
+    → a ≡ x.number → b ≡ x.records → c ≡ x.forces → d ≡ x.sends
+    → set (set (set (set buffer at a) (at + 1) b) (at + 2) c) (at + 3) d ≡ stored at (answer_bytes x) buffer
+unfolding stored answer_bytes
+answer-stored buffer at x h p q r s =
+    let two : at + 2 ≡ suc (suc at) = omega arith in
+    let three : at + 3 ≡ suc (suc (suc at)) = omega arith in
+    rw (p, q, r, s, add-one, two, three) (sets-eq (answer_bytes x) buffer at h)
 
 -- ---- events
 

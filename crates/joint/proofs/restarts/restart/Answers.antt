@@ -54,4 +54,4 @@ returns c x e f =
     let size : length a.records.of ≡ 24 = search length-shown in
     rw (c.in-Some-cut.is, ← most)
     (restart-cut x a.e.site c.match-e.most _ e c.if-site.false _ (resumption (goal.at.returns c).After-resume_all-resumed x e f) cut.keep
-    c.may_keep.result (c.may_keep.ensures a.records.of size) c.if-resumed-may_keep.false _ c.stop.ensures _ c.forget_all-forgotten.ensures)
+    c.may_keep.result (c.may_keep.ensures a.records.of size) c.if-resumed-may_keep.false _ c.stop.ensures _ c.forget_all.ensures)

@@ -122,7 +122,7 @@ returns-then-goes_down c bytes parse_is room =
     turned at bytes parse_is room _ (forces_put at bytes parse_is room)
     (happens_seen v s t row c.of-counts.result _ _ (c.of-counts.ensures t) (site_put at bytes parse_is room)
     (rw (sym c.goes_down.ensures ∙ c.if-goes_down.true)
-    (c.forget_all-transactions.ensures ∙ ap forget (ap transactions_in (transactions_put at bytes parse_is room) ∙ put_stored at bytes parse_is room)))
+    (c.forget_all.ensures ∙ ap forget (ap transactions_in (transactions_put at bytes parse_is room) ∙ put_stored at bytes parse_is room)))
     ∙ row_seen at bytes parse_is room)
 
 pub returns-else-goes_down : goal.returns-else-goes_down
