@@ -13,7 +13,7 @@ ghost use Rattle.joint.specs.Program.{room_for};
 
 use crate::answers::Answer;
 use crate::events::{Discarding, Input, Marking, Opening};
-use crate::records::Records;
+use crate::records::{Records, may_discard, remember};
 use crate::rows::{Found, Row, Then};
 use crate::run::Run;
 use crate::sites::Site;
@@ -138,13 +138,12 @@ pub(crate) fn discard(site: Site, records: Records, before: Transaction, e: Disc
     if !site.up {
         return Change::Refused(Answer::SiteDown);
     }
-    if !records.may_discard(e.transaction, site.stable_count()) {
+    if !may_discard(records.stable(site), e.transaction) {
         return Change::Refused(Answer::NotAllowed);
     }
     let log = records.trim(site, e.transaction);
-    let left = log.site;
     let rest = log.records;
-    let last = (e.site != 0) & !rest.remember(e.transaction, left.count());
+    let last = (e.site != 0) & !remember(rest.all(log.site), e.transaction);
     Change::Happens(Row {
         effects: Effects::NONE,
         then: Then::Discarded(last),

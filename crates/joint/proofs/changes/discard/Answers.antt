@@ -2,7 +2,6 @@ use mathlib.Core.Path.{◌≡◌, refl, sym, ap, ◌∙◌}
 use mathlib.Core.Bool.{Bool, true, false, not, ◌&&◌, ◌||◌}
 use Prim.Native.Nat.{ℕ}
 use mathlib.Core.List.{List}
-use lib.ListN.{length}
 use lib.Dec.{eqb}
 use Rattle.codec.specs.declared.record.Record.{Record}
 use Rattle.joint.specs.declared.sites.Site.{Site as ProgramSite}
@@ -11,7 +10,6 @@ use Rattle.joint.specs.State.{Site}
 use Rattle.joint.specs.Plan.{may_discard}
 use Rattle.joint.specs.Answers.{site_from, answer_in}
 use Rattle.joint.specs.Inside.{change_in}
-use Rattle.joint.proofs.Engine.Arrays.{length-shown}
 use Rattle.joint.proofs.Engine.Changes.{site_struck, struck_by, may_discard_lem, still_remembers, discard-refused, discard_unallowed, discard_drops}
 use Rattle.joint.proofs.changes.discard.Goals as goal
 
@@ -58,9 +56,8 @@ returns-then-not-may_discard c =
     let passed : site_struck w e.transaction e.site ≡ 0 =
     struck_by w e.transaction e.site e.site (λ x. false) own c.opened.ensures c.takes_part.ensures (up_of a.site a.records.of w e.site here)
     ∙ rw (c.if-not-opened.false, c.if-not-takes_part.false, c.if-not-site.false) refl in
-    let all : length a.records.of ≡ 24 = search length-shown in
     let allowed : c.may_discard.result ≡ may_discard w e.transaction e.site =
-    rw c.stable_count.ensures at c.may_discard.ensures ∙ may_discard_lem a.site a.site a.records.of a.records.of w e.transaction e.site all here in
+    rw c.stable.ensures at c.may_discard.ensures ∙ may_discard_lem a.site a.site a.records.of a.records.of w e.transaction e.site here in
     discard_unallowed w e.transaction e.site passed (sym allowed ∙ c.if-not-may_discard.true)
 
 pub returns : goal.returns
@@ -72,10 +69,8 @@ returns c =
     let passed : site_struck w e.transaction e.site ≡ 0 =
     struck_by w e.transaction e.site e.site (λ x. false) own c.opened.ensures c.takes_part.ensures (up_of a.site a.records.of w e.site here)
     ∙ rw (c.if-not-opened.false, c.if-not-takes_part.false, c.if-not-site.false) refl in
-    let all : length a.records.of ≡ 24 = search length-shown in
     let allowed : c.may_discard.result ≡ may_discard w e.transaction e.site =
-    rw c.stable_count.ensures at c.may_discard.ensures ∙ may_discard_lem a.site a.site a.records.of a.records.of w e.transaction e.site all here in
-    let rest : length c.trim-log.result.records.of ≡ 24 = search length-shown in
+    rw c.stable.ensures at c.may_discard.ensures ∙ may_discard_lem a.site a.site a.records.of a.records.of w e.transaction e.site here in
     discard_drops w e.transaction e.site passed (sym allowed ∙ c.if-not-may_discard.false) _
-    (forgets (eqb e.site 0) _ _ (rw c.count.ensures at c.remember.ensures
-    ∙ still_remembers a.site c.trim-log.result.site a.records.of c.trim-log.result.records.of w e.transaction e.site all here rest c.trim-log.ensures))
+    (forgets (eqb e.site 0) _ _ (rw c.all.ensures at c.remember.ensures
+    ∙ still_remembers a.site c.trim-log.result.site a.records.of c.trim-log.result.records.of w e.transaction e.site here c.trim-log.ensures))

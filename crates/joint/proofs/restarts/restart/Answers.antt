@@ -1,14 +1,10 @@
-use Prim.Native.Nat.{ℕ}
 use mathlib.Core.Path.{◌≡◌, ap, ◌∙◌}
-use mathlib.Core.List.{map}
-use lib.ListN.{length, take}
-use Rattle.codec.specs.Answers.{record_in}
+use lib.ListN.{length}
 use Rattle.joint.specs.State as plain
 use Rattle.joint.specs.State.{holds}
 use Rattle.joint.specs.Answers.{site_from, transactions_in, answer_in}
 use Rattle.joint.specs.Inside.{resumed_in, resumed, restarted_in}
 use Rattle.joint.proofs.Engine.Arrays.{length-shown}
-use Rattle.joint.proofs.Engine.Sites.{stable-taken}
 use Rattle.joint.proofs.Engine.Restarted.{restart-up, restart-whole, restart_too_far, restart-cut}
 use Rattle.joint.proofs.restarts.restart.Goals as goal
 
@@ -24,9 +20,9 @@ returns-then-e-eq-NO_CUT c x e f =
     let a = c.args in
     let records = a.records.of in
     let size : length records ≡ 24 = search length-shown in
-    let stable = ap (λ (n : ℕ). take n (map record_in records)) c.stable_count-count.ensures ∙ stable-taken a.site records size ∙ ap (λ (a : plain.Site). a.stable) e in
+    let stable = c.stable-stable.ensures ∙ ap (λ (a : plain.Site). a.stable) e in
     let resumption : resumed_in c.resume_all-resumed.result ≡ resumed x a.e.site a.e.cut =
-    c.resume_all-resumed.ensures x f (λ t k ht hk. c.kinds-kinds.ensures t k ht hk ∙ ap (holds t k) stable) stable in
+    c.resume_all-resumed.ensures x f (λ t k ht hk. c.kinds.ensures t k ht hk ∙ ap (holds t k) stable) stable in
     restart-whole x _ _ a.e.keep _ e c.if-site.false _ resumption c.if-e-eq-NO_CUT.true _ (c.start.ensures records)
 
 pub returns-then-resumed-may_keep : goal.returns-then-resumed-may_keep
@@ -35,9 +31,9 @@ returns-then-resumed-may_keep c x e f =
     let a = c.args in
     let records = a.records.of in
     let size : length records ≡ 24 = search length-shown in
-    let stable = ap (λ (n : ℕ). take n (map record_in records)) c.stable_count-count.ensures ∙ stable-taken a.site records size ∙ ap (λ (a : plain.Site). a.stable) e in
+    let stable = c.stable-stable.ensures ∙ ap (λ (a : plain.Site). a.stable) e in
     let resumption : resumed_in c.resume_all-resumed.result ≡ resumed x a.e.site a.e.cut =
-    c.resume_all-resumed.ensures x f (λ t k ht hk. c.kinds-kinds.ensures t k ht hk ∙ ap (holds t k) stable) stable in
+    c.resume_all-resumed.ensures x f (λ t k ht hk. c.kinds.ensures t k ht hk ∙ ap (holds t k) stable) stable in
     restart_too_far x _ _ _ _ e c.if-site.false _ resumption c.if-e-eq-NO_CUT.false
     c.may_keep.result (c.may_keep.ensures records size) c.if-resumed-may_keep.true _ f
 
@@ -47,8 +43,8 @@ returns c x e f =
     let a = c.args in
     let records = a.records.of in
     let size : length records ≡ 24 = search length-shown in
-    let stable = ap (λ (n : ℕ). take n (map record_in records)) c.stable_count-count.ensures ∙ stable-taken a.site records size ∙ ap (λ (a : plain.Site). a.stable) e in
+    let stable = c.stable-stable.ensures ∙ ap (λ (a : plain.Site). a.stable) e in
     let resumption : resumed_in c.resume_all-resumed.result ≡ resumed x a.e.site a.e.cut =
-    c.resume_all-resumed.ensures x f (λ t k ht hk. c.kinds-kinds.ensures t k ht hk ∙ ap (holds t k) stable) stable in
+    c.resume_all-resumed.ensures x f (λ t k ht hk. c.kinds.ensures t k ht hk ∙ ap (holds t k) stable) stable in
     restart-cut x _ _ _ _ e c.if-site.false _ resumption c.if-e-eq-NO_CUT.false
     c.may_keep.result (c.may_keep.ensures records size) c.if-resumed-may_keep.false _ c.stop.ensures _ c.forget_all.ensures

@@ -24,7 +24,7 @@ returns-in_default c = λ w own h log.
     let t = c.args.t in
     let low : 1 ≤ c.args.site = omega (arith, c.if-site-eq0.false) in
     absurd (some-none (sym (ap (planned c.args.site t (with_participant c.args.site)) (no_participant-row t c.restart-answer.result c.in_default.not-Row)
-    ∙ participant_restarts c.args.transaction w t own c.args.site low c.requires.0 r.result r.ensures.0 r.ensures.1.0 r.ensures.1.1.0 r.ensures.1.1.1
+    ∙ participant_restarts c.args.transaction w t own c.args.site low c.requires r.result r.ensures.0 r.ensures.1.0 r.ensures.1.1.0 r.ensures.1.1.1
     (has_kind c.args.kinds) c.restart-answer.result (c.restart-answer.ensures t) h)))
 
 pub returns : goal.returns
@@ -32,5 +32,5 @@ unfolding planned row_plan then_in
 returns c = λ w own h log.
     let r = c.participant-participant in
     let low : 1 ≤ c.args.site = omega (arith, c.if-site-eq0.false) in
-    some_same (participant_restarts c.args.transaction w c.args.t own c.args.site low c.requires.0 r.result r.ensures.0 r.ensures.1.0 r.ensures.1.1.0 r.ensures.1.1.1
+    some_same (participant_restarts c.args.transaction w c.args.t own c.args.site low c.requires r.result r.ensures.0 r.ensures.1.0 r.ensures.1.1.0 r.ensures.1.1.1
     (has_kind c.args.kinds) (answer.Row c.in-Row.row) (rw c.in-Row.is at (c.restart-answer.ensures c.args.t)) h)
