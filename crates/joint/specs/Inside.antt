@@ -4,7 +4,6 @@ use Rattle.std.specs.Prelude as std
 use Rattle.std.proofs.Math.Option.{Option, none, some}
 use Rattle.codec.specs.Lists.{select}
 use Rattle.codec.specs.Sets.{member, empty}
-use Rattle.codec.specs.Records.{LogRecord, of_transaction}
 use Rattle.codec.specs.declared.record.Record.{Record}
 use Rattle.site.specs.Step.{prepare, messages, receiver, Effect}
 use Rattle.site.specs.Participant.{ParticipantPhase}
@@ -44,15 +43,6 @@ size a = length (a.stable ++ a.unforced)
 -- a log has room for the records that effects append
 abbrev pub Fits : List Effect → plain.Site → Type 0
 Fits es a = size a + counted run.is_append es ≤ 24
-
--- where the oldest record that passes a test stands; behind the last one where none does
-unfoldable pub oldest_at : (LogRecord → Bool) → List LogRecord → ℕ
-oldest_at f [] = 0
-oldest_at f (x ∷ xs) = cond (f x) 0 (suc (oldest_at f xs))
-
--- a record of transaction t and of kind k, or of any kind where k is 0
-unfoldable pub sought : ℕ → ℕ → LogRecord → Bool
-sought t k x = of_transaction t x && (eqb k 0 || eqb x.kind k)
 
 -- by its counts: how many of a site's 24 records are stable, and how many are of the log
 abbrev pub stable_of : Site → ℕ

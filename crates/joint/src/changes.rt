@@ -13,7 +13,7 @@ ghost use Rattle.joint.specs.Program.{room_for};
 
 use crate::answers::Refusal;
 use crate::events::{Cut, Discarding, Input, Marking, Opening, Step};
-use crate::records::Records;
+use crate::records::{Records, may_discard, remember};
 use crate::rows::{Row, Then};
 use crate::run::Run;
 use crate::sites::Site;
@@ -136,11 +136,11 @@ fn discard(site: Site, records: Records, before: Transaction, e: Discarding) -> 
     ensures { (w : plain.Run) → site_from site records.of ≡ w.site e.site → transaction_in before ≡ w.transaction e.transaction → change_in w e.site e.transaction result ≡ taken w (event.discarding e.transaction e.site) none }
 {
     ready(site, before, e.site)?;
-    if !records.may_discard(e.transaction, site.stable_count()) {
+    if !may_discard(records.stable(site), e.transaction) {
         return Err(Refusal::NotAllowed);
     }
     let log = records.trim(site, e.transaction);
-    let last = (e.site != 0) & !log.records.remember(e.transaction, log.site.count());
+    let last = (e.site != 0) & !remember(log.records.all(log.site), e.transaction);
     Ok(Row {
         effects: Effects::NONE,
         then: Then::Discarded(last),

@@ -1,5 +1,5 @@
 // The records of a site's log. Its counts stand apart (src/sites.rt): only what appends, drops or reads a record comes here.
-ghost use Rattle.std.specs.Prelude.{◌≡◌, cond, ◌||◌, map, ℕ, ◌≤◌, eqb, take, get_or};
+ghost use Rattle.std.specs.Prelude.{◌≡◌, cond, ◌||◌, ◌++◌, map, ℕ, ◌≤◌, eqb, get_or};
 ghost use Rattle.codec.specs.Lists.{select, any};
 ghost use Rattle.codec.specs.Records.{of_transaction};
 ghost use Rattle.codec.specs.Answers.{record_in, result_number, written};
@@ -8,7 +8,7 @@ ghost use Rattle.site.specs.Answers.{cohort_in, has_kind, effects_in};
 ghost use Rattle.joint.specs.State.{holds, recorded_cohort, stopped};
 ghost use Rattle.joint.specs.Plan as plan;
 ghost use Rattle.joint.specs.Answers.{site_from, no_records};
-ghost use Rattle.joint.specs.Inside.{oldest_at, sought, put_at, put_row, row_site, Fits};
+ghost use Rattle.joint.specs.Inside.{count_of, put_at, put_row, row_site, Fits};
 
 use crate::rows::{Row, Then};
 use crate::run::Run;
@@ -33,12 +33,6 @@ pub struct SiteLog {
     pub records: Records,
 }
 
-// By transaction: a set of record kinds, bit k for kind k.
-#[derive(Clone, Copy)]
-pub struct Kinds {
-    pub of: [u16; Run::TRANSACTIONS],
-}
-
 // With one bit more.
 pub(crate) fn with_bit(set: u16, at: u8) -> u16
     requires { at ≤ 15 }
@@ -51,11 +45,59 @@ pub(crate) fn with_bit(set: u16, at: u8) -> u16
 fn closes(x: Record) -> bool
     ensures { result ≡ plan.closes (record_in x) }
 {
-    let kind = x.kind;
-    match kind {
+    match x.kind {
         Record::COMMIT => !x.awaits_acks(),
         Record::COMMIT_END | Record::ABORT_END | Record::COMMITTED | Record::ABORTED => true,
         _ => false,
+    }
+}
+
+// ---- some records of a log, oldest first
+
+// By transaction: the kinds of its records, bit k for kind k.
+pub(crate) fn kinds(records: &[Record]) -> [u16; Run::TRANSACTIONS]
+    ensures { (t k : ℕ) → t ≤ 7 → k ≤ 7 → has_kind (get_or result t 0) k ≡ holds t k (map record_in records.now) }
+{
+    let mut kinds = [0u16; Run::TRANSACTIONS];
+    for x in records {
+        if x.transaction <= Parts::LAST_TRANSACTION && x.kind <= Record::LAST_KIND {
+            let at = x.transaction as usize;
+            kinds[at] = with_bit(kinds[at], x.kind);
+        }
+    }
+    kinds
+}
+
+// Whether there is one of a transaction.
+pub(crate) fn remember(records: &[Record], transaction: u8) -> bool
+    ensures { result ≡ any (of_transaction transaction) (map record_in records.now) }
+{
+    records.iter().any(|x| x.transaction == transaction)
+}
+
+// Whether the newest one of a transaction closes it.
+pub(crate) fn may_discard(records: &[Record], transaction: u8) -> bool
+    ensures { result ≡ plan.newest plan.closes (select (of_transaction transaction) (map record_in records.now)) }
+{
+    records
+        .iter()
+        .rev()
+        .find(|x| x.transaction == transaction)
+        .is_some_and(|x| closes(*x))
+}
+
+// The cohort in the oldest one of a transaction that is Commit, or that is Init.
+pub(crate) fn cohort(records: &[Record], transaction: u8, commit: bool) -> Cohort
+    ensures { cohort_in result ≡ recorded_cohort transaction (cond commit 2 1) (map record_in records.now) }
+{
+    let kind = if commit { Record::COMMIT } else { Record::INIT };
+    let found = records
+        .iter()
+        .find(|x| x.transaction == transaction && x.kind == kind);
+    let x = found.copied().unwrap_or(Record::NONE);
+    Cohort {
+        members: x.first,
+        presume_commit: x.second,
     }
 }
 
@@ -68,57 +110,57 @@ impl Records {
         }
     }
 
-    // A record of kind 0 is none.
-    fn put(self, at: usize, x: Record) -> Records
-        ensures { result.of ≡ put_at at x self.of }
+    // Those that are stable at a site, and all of its log.
+    pub(crate) fn stable(&self, site: Site) -> &[Record]
+        ensures { map record_in result.now ≡ (site_from site self.now.of).stable }
     {
-        if (x.kind == 0) | (Log::COORDINATOR_MOST <= at) {
-            return self;
-        }
-        let mut records = self;
-        records.of[at] = x;
-        records
+        &self.of[..site.stable_count()]
     }
 
-    // A row's records of a transaction, behind the first `count`.
-    fn append(self, count: usize, transaction: u8, effects: Effects) -> Records
-        requires { count ≤ 24 }
-        ensures { result.of ≡ put_row count transaction effects self.of }
+    pub(crate) fn all(&self, site: Site) -> &[Record]
+        ensures { map record_in result.now ≡ (site_from site self.now.of).stable ++ (site_from site self.now.of).unforced }
     {
-        let first = self.put(
-            count,
-            Record {
-                kind: effects.appended,
-                transaction,
-                first: effects.first,
-                second: effects.second,
-            },
-        );
-        let next = if effects.appended == 0 {
-            count
-        } else {
-            count + 1
+        &self.of[..site.count()]
+    }
+
+    // A record of kind 0 is none.
+    fn put(mut self, at: usize, x: Record) -> Records
+        ensures { result.of ≡ put_at at x self.of }
+    {
+        if x.kind != 0 && at < Log::COORDINATOR_MOST {
+            self.of[at] = x;
+        }
+        self
+    }
+
+    // A row's records of a transaction, behind those of the log.
+    fn append(self, site: Site, transaction: u8, effects: Effects) -> Records
+        ensures { result.of ≡ put_row (count_of site) transaction effects self.of }
+    {
+        let count = site.count();
+        let first = Record {
+            kind: effects.appended,
+            transaction,
+            first: effects.first,
+            second: effects.second,
         };
-        first.put(
-            next,
-            Record {
-                kind: effects.last,
-                transaction,
-                first: 0,
-                second: 0,
-            },
-        )
+        let last = Record {
+            kind: effects.last,
+            transaction,
+            first: 0,
+            second: 0,
+        };
+        self.put(count, first)
+            .put(count + usize::from(effects.appended != 0), last)
     }
 
     // After a row of a transaction, with the counts of its site.
     pub(crate) fn after(self, site: Site, transaction: u8, row: Row) -> SiteLog
         ensures { Fits (effects_in transaction row.effects) (site_from site self.of) → site_from result.site result.records.of ≡ row_site transaction row (site_from site self.of) }
     {
-        let effects = row.effects;
-        let then = row.then;
-        let records = self.append(site.count(), transaction, effects);
-        let after = site.after(effects);
-        match then {
+        let records = self.append(site, transaction, row.effects);
+        let after = site.after(row.effects);
+        match row.then {
             Then::Discarded(_) => records.trim(after, transaction),
             Then::Down(keep) => records.stop(after, keep),
             _ => SiteLog {
@@ -137,14 +179,10 @@ impl Records {
         let unforced = site.unforced_count();
         let mut records = self.of;
         let mut to = stable;
-        let mut left = unforced;
-        while 0 < left {
-            let place = unforced - left;
-            left -= 1;
+        for place in 0..unforced {
             let at = stable + place;
-            let x = records[at];
-            records[to] = x;
-            let bit = ((keep as u32) >> place) % 2;
+            records[to] = records[at];
+            let bit = (u32::from(keep) >> place) % 2;
             to += bit as usize;
         }
         SiteLog {
@@ -157,117 +195,27 @@ impl Records {
         }
     }
 
-    // The kinds of the first `count` records of each transaction.
-    pub(crate) fn kinds(self, count: usize) -> Kinds
-        requires { count ≤ 24 }
-        ensures { (t k : ℕ) → t ≤ 7 → k ≤ 7 → has_kind (get_or result.of t 0) k ≡ holds t k (take count (map record_in self.of)) }
-    {
-        let records = self.of;
-        let mut kinds = [0u16; Run::TRANSACTIONS];
-        let mut i = 0;
-        while i < count {
-            let x = records[i];
-            i += 1;
-            if (x.transaction <= Parts::LAST_TRANSACTION) & (x.kind <= Record::LAST_KIND) {
-                let at = x.transaction as usize;
-                kinds[at] = with_bit(kinds[at], x.kind);
-            }
-        }
-        Kinds { of: kinds }
-    }
-
-    // Whether the newest of the first `count` records of a transaction closes it.
-    pub(crate) fn may_discard(self, transaction: u8, count: usize) -> bool
-        requires { count ≤ 24 }
-        ensures { result ≡ plan.newest plan.closes (select (of_transaction transaction) (take count (map record_in self.of))) }
-    {
-        let records = self.of;
-        let mut i = count;
-        while 0 < i {
-            i -= 1;
-            let x = records[i];
-            if x.transaction == transaction {
-                return closes(x);
-            }
-        }
-        false
-    }
-
-    // Of the first `count` records: where the oldest one of a transaction and a kind stands, of any kind where `kind` is 0;
-    // `count`, where there is none.
-    fn oldest(self, transaction: u8, kind: u8, count: usize) -> usize
-        requires { count ≤ 24 }
-        ensures { result ≡ oldest_at (sought transaction kind) (take count (map record_in self.of)) }
-    {
-        let records = self.of;
-        let mut i = 0;
-        while i < count {
-            let x = records[i];
-            if (x.transaction == transaction) & ((kind == 0) | (x.kind == kind)) {
-                return i;
-            }
-            i += 1;
-        }
-        count
-    }
-
-    // The cohort in the oldest of the first `count` records of a transaction that is Commit, or that is Init.
-    pub(crate) fn cohort(self, transaction: u8, commit: bool, count: usize) -> Cohort
-        requires { count ≤ 24 }
-        ensures { cohort_in result ≡ recorded_cohort transaction (cond commit 2 1) (take count (map record_in self.of)) }
-    {
-        let kind = if commit { Record::COMMIT } else { Record::INIT };
-        let oldest = self.oldest(transaction, kind, count);
-        if count <= oldest {
-            return Cohort {
-                members: 0,
-                presume_commit: 0,
-            };
-        }
-        let x = self.of[oldest];
-        Cohort {
-            members: x.first,
-            presume_commit: x.second,
-        }
-    }
-
     // Without the oldest stable record of a transaction.
     pub(crate) fn trim(self, site: Site, transaction: u8) -> SiteLog
         ensures { site_from result.site result.records.of ≡ plan.trimmed transaction (site_from site self.of) }
     {
-        let stable = site.stable_count();
-        let oldest = self.oldest(transaction, 0, stable);
-        if stable <= oldest {
+        let stable = self.stable(site);
+        let Some(oldest) = stable.iter().position(|x| x.transaction == transaction) else {
             return SiteLog {
                 site,
                 records: self,
             };
-        }
-        let count = site.count();
-        let last = count - 1;
-        let mut records = self.of;
-        let mut i = oldest;
-        while i < last {
-            let x = records[i + 1];
-            records[i] = x;
-            i += 1;
-        }
+        };
+        let mut records = self;
+        records.of.copy_within(oldest + 1..site.count(), oldest);
         SiteLog {
             site: Site {
-                up: site.up,
-                stable: (stable - 1) as u8,
-                unforced: (count - stable) as u8,
+                stable: (site.stable_count() - 1) as u8,
+                unforced: site.unforced_count() as u8,
+                ..site
             },
-            records: Records { of: records },
+            records,
         }
-    }
-
-    // Whether the first `count` have one of a transaction.
-    pub(crate) fn remember(self, transaction: u8, count: usize) -> bool
-        requires { count ≤ 24 }
-        ensures { result ≡ any (of_transaction transaction) (take count (map record_in self.of)) }
-    {
-        self.oldest(transaction, 0, count) < count
     }
 
     // The image of the stable records, as the log of site `number`, from `at` on: 0, or 21, 23, 27, 28, 24, 25 and the buffer as it was.

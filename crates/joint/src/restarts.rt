@@ -1,5 +1,5 @@
 // Restart of a site, in each opened transaction; and power that goes at a site.
-ghost use Rattle.std.specs.Prelude.{◌≡◌, map, ◌≤◌, take};
+ghost use Rattle.std.specs.Prelude.{◌≡◌, map, ◌≤◌};
 ghost use Rattle.codec.specs.Answers.{record_in};
 ghost use Rattle.joint.specs.State as plain;
 ghost use Rattle.joint.specs.State.{forgotten};
@@ -9,11 +9,12 @@ ghost use Rattle.joint.specs.Inside.{KindsOf, resumed_in, resumed, restarted_in,
 
 use crate::answers::Refusal;
 use crate::events::Restart;
-use crate::records::{Kinds, Records, SiteLog};
+use crate::records::{Records, SiteLog, kinds};
 use crate::rows::Row;
 use crate::run::Run;
 use crate::sites::Site;
 use crate::transactions::Transaction;
+use codec::record::Record;
 use site::effects::less;
 
 // All transactions after a restart's effects; how many more could have happened, and how many messages were sent.
@@ -42,35 +43,28 @@ pub(crate) fn forget_all(transactions: &mut [Transaction; Run::TRANSACTIONS], si
     }
 }
 
-// The restart of a site in each opened transaction, in rising order, up to the cut. The first `count` of its records are
-// stable, and `kinds` has their kinds. It appends and forces nothing.
+// The restart of a site in each opened transaction, in rising order, up to the cut. `kinds` has the kinds of its stable
+// records. It appends and forces nothing.
 fn resume_all(
-    transactions: [Transaction; Run::TRANSACTIONS],
-    kinds: Kinds,
-    records: Records,
-    count: usize,
+    mut transactions: [Transaction; Run::TRANSACTIONS],
+    kinds: [u16; Run::TRANSACTIONS],
+    records: &[Record],
     site: u8,
     cut: u8,
 ) -> Resumed
-    requires { (site ≤ 8) × (count ≤ 24) }
-    ensures { (x : plain.Run) → transactions_in transactions ≡ x.transaction → KindsOf kinds.of x site → take count (map record_in records.of) ≡ (x.site site).stable → resumed_in result ≡ resumed x site cut }
+    requires { site ≤ 8 }
+    ensures { (x : plain.Run) → transactions_in transactions ≡ x.transaction → KindsOf kinds x site → map record_in records.now ≡ (x.site site).stable → resumed_in result ≡ resumed x site cut }
 {
-    let kinds = kinds.of;
-    let mut transactions = transactions;
     let mut left = cut;
     let mut sends: u8 = 0;
-    let mut i: usize = 0;
-    while i < Run::TRANSACTIONS {
-        let at = i;
-        i += 1;
-        let transaction = transactions[at];
+    for (i, transaction) in transactions.iter_mut().enumerate() {
         if transaction.opened() {
-            let number = at as u8;
-            let row = Row::restart(transaction, number, site, kinds[at], records, count);
+            let number = i as u8;
+            let row = Row::restart(*transaction, number, site, kinds[i], records);
             let effects = row.effects;
             let happened = effects.cut(number, left);
             let after = transaction.after(site, happened);
-            transactions[at] = after.settle(site, row.then);
+            *transaction = after.settle(site, row.then);
             left = less(left, effects.count());
             sends += happened.sends();
         }
@@ -94,13 +88,12 @@ pub(crate) fn restart(
     if site.up {
         return Err(Refusal::SiteUp);
     }
-    let count = site.stable_count();
-    let kinds = records.kinds(count);
+    let stable = records.stable(site);
     let most = match e.cut {
         Some(cut) => cut.after,
         None => u8::MAX,
     };
-    let resumed = resume_all(transactions, kinds, records, count, e.site, most);
+    let resumed = resume_all(transactions, kinds(stable), stable, e.site, most);
     let mut after = resumed.transactions;
     let Some(cut) = e.cut else {
         return Ok(Restarted {

@@ -1,5 +1,5 @@
 // One site's row in a transaction, by site's step or restart, and what follows its effects.
-ghost use Rattle.std.specs.Prelude.{◌≡◌, true, ◌&&◌, ◌||◌, map, ℕ, ◌≤◌, leb, take};
+ghost use Rattle.std.specs.Prelude.{◌≡◌, true, ◌&&◌, ◌||◌, map, ℕ, ◌≤◌, leb};
 ghost use Rattle.codec.specs.Sets.{member};
 ghost use Rattle.codec.specs.Answers.{record_in};
 ghost use Rattle.site.specs.Numbers.{input_of, receives};
@@ -11,7 +11,7 @@ ghost use Rattle.joint.specs.Plan as plan;
 ghost use Rattle.joint.specs.Answers.{transaction_in};
 ghost use Rattle.joint.specs.Inside.{plan_in, found_in, writes_log, goes_down, MayReceive};
 
-use crate::records::Records;
+use crate::records::cohort;
 use crate::transactions::Transaction;
 use codec::record::Record;
 use site::coordinator::{Coordinator, CoordinatorState};
@@ -126,21 +126,20 @@ impl Row {
     }
 
     // At restart of a site in transaction `t`, from the kinds of record that the stable log has of it, bit k for kind k, and at
-    // the coordinator from the masks in the record from which it resumes. The first `count` records are stable.
+    // the coordinator from the masks in the record from which it resumes. `records` are the stable ones.
     pub(crate) fn restart(
         transaction: Transaction,
         t: u8,
         site: u8,
         kinds: u16,
-        records: Records,
-        count: usize,
+        records: &[Record],
     ) -> Row
-        requires { (site ≤ 8) × (count ≤ 24) }
-        ensures { (w : plain.Run) → transaction_in transaction ≡ w.transaction t → ((k : ℕ) → k ≤ 7 → has_kind kinds k ≡ holds t k (w.site site).stable) → take count (map record_in records.of) ≡ (w.site site).stable → plan_in site t result ≡ plan.restarting w site t }
+        requires { site ≤ 8 }
+        ensures { (w : plain.Run) → transaction_in transaction ≡ w.transaction t → ((k : ℕ) → k ≤ 7 → has_kind kinds k ≡ holds t k (w.site site).stable) → map record_in records.now ≡ (w.site site).stable → plan_in site t result ≡ plan.restarting w site t }
     {
         if site == 0 {
             let coordinator = Coordinator {
-                cohort: records.cohort(t, has(kinds, Record::COMMIT), count),
+                cohort: cohort(records, t, has(kinds, Record::COMMIT)),
                 state: CoordinatorState {
                     phase: CoordinatorPhase::Unknown,
                     taken_out: 0,

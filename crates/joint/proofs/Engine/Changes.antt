@@ -2,7 +2,7 @@
 use Prim.Native.Nat.{ℕ, ◌+◌, ◌≤◌, ◌<◌}
 use mathlib.Core.Path.{◌≡◌, refl, sym, ap, ap₂, ◌∙◌, fun_ext}
 use mathlib.Core.Bool.{Bool, true, false, cond, not, ◌&&◌, ◌||◌}
-use mathlib.Core.List.{List, [], ◌∷◌, ◌++◌, map}
+use mathlib.Core.List.{List, [], ◌∷◌, ◌++◌}
 use mathlib.Core.Option.{Option, none, some}
 use lib.ListN.{length, take, get_or, length-take, length-drop, length-map, length-append}
 use lib.Dec.{eqb, leb}
@@ -10,8 +10,7 @@ use native.Mathlib.Omega.{arith}
 use borrow.Author.Tests.{le-leb, lt-leb, leb-true}
 use Rattle.codec.specs.Lists.{any, every, first, select, only_if}
 use Rattle.codec.specs.Sets.{empty, listed}
-use Rattle.codec.specs.Records.{LogRecord, of_transaction}
-use Rattle.codec.specs.Answers.{record_in}
+use Rattle.codec.specs.Records.{of_transaction}
 use Rattle.codec.specs.declared.record.Record.{Record}
 use Rattle.site.specs.Step.{Effect, force, given}
 use Rattle.site.specs.Numbers.{input_of, appending, entry_of}
@@ -26,7 +25,7 @@ use Rattle.joint.specs.Plan.{Plan, plan, step, settling, acting, or_nothing, ope
 use Rattle.joint.specs.Run.{partly, can_cut, cut_short, carry, carry_plan, is_append, is_force, is_send, count, answer_of}
 use Rattle.joint.specs.Program.{room_for, room_for_plan}
 use Rattle.joint.specs.Answers.{site_from, no_site, number_of, seen}
-use Rattle.joint.specs.Inside.{site_after, counted, size, Fits, stable_of, count_of, put_row, Here, then_in, plan_in, Asks, upon_input, unready, taken}
+use Rattle.joint.specs.Inside.{site_after, counted, size, Fits, count_of, put_row, Here, then_in, plan_in, Asks, upon_input, unready, taken}
 use Rattle.joint.specs.declared.answers.Refusal.{Refusal}
 use Rattle.joint.specs.declared.sites.Site.{Site}
 use Rattle.joint.specs.declared.rows.Row.{Row}
@@ -34,7 +33,7 @@ use Rattle.joint.specs.declared.rows.Then.{Then}
 use Rattle.joint.specs.declared.rows.Then.TheVariants as follows
 use Rattle.joint.proofs.Base.Updates.{update_same}
 use Rattle.joint.proofs.Engine.Effects.{fits_cut}
-use Rattle.joint.proofs.Engine.Sites.{row-length, stable-taken, log-taken}
+use Rattle.joint.proofs.Engine.Sites.{row-length}
 use Rattle.joint.proofs.Base.Placed.{performed, acting-length, acting-take, acting-counted}
 use Rattle.joint.proofs.Engine.Refused.{above_zero, refused_by, refuse-seen, refused_by_lem, refused_as, not-refused}
 use Rattle.joint.proofs.Engine.Rows.{no_effects, no_effects_lem}
@@ -260,17 +259,15 @@ module _ (w : Run) (s t : ℕ) where
 -- ---- discard
 
 -- by the counts and the records
-module _ (x y : Site) (rs qs : List Record) (w : Run) (t s : ℕ) (all : length rs ≡ 24) (own : site_from x rs ≡ w.site s) where
-  pub may_discard_lem : newest closes (select (of_transaction t) (take (stable_of x) (map record_in rs))) ≡ may_discard w t s
+module _ (x y : Site) (rs qs : List Record) (w : Run) (t s : ℕ) (own : site_from x rs ≡ w.site s) where
+  pub may_discard_lem : newest closes (select (of_transaction t) (site_from x rs).stable) ≡ may_discard w t s
   unfolding may_discard closed
-  may_discard_lem = ap (λ (l : List LogRecord). newest closes (select (of_transaction t) l)) (stable-taken x rs all ∙ ap (λ (a : plain.Site). a.stable) own)
+  may_discard_lem = ap (λ (a : plain.Site). newest closes (select (of_transaction t) a.stable)) own
 
   -- y with qs is the log without the record
-  pub still_remembers : length qs ≡ 24 → site_from y qs ≡ trimmed t (site_from x rs) → any (of_transaction t) (take (count_of y) (map record_in qs)) ≡ remembers t (trimmed t (w.site s))
+  pub still_remembers : site_from y qs ≡ trimmed t (site_from x rs) → any (of_transaction t) ((site_from y qs).stable ++ (site_from y qs).unforced) ≡ remembers t (trimmed t (w.site s))
   unfolding remembers
-  still_remembers n e =
-      ap (any (of_transaction t)) (log-taken y qs n)
-      ∙ ap (λ (a : plain.Site). any (of_transaction t) (a.stable ++ a.unforced)) (e ∙ ap (trimmed t) own)
+  still_remembers e = ap (λ (a : plain.Site). any (of_transaction t) (a.stable ++ a.unforced)) (e ∙ ap (trimmed t) own)
 
 module _ (w : Run) (t s : ℕ) where
   discard_struck : first (refusals w (discarding t s)) ≡ unready (w.transaction t) s (w.site s).up

@@ -1,13 +1,16 @@
--- Walks over the first records of an array: what one record more changes.
-use Prim.Native.Nat.{ℕ, suc, ◌+◌, ◌-◌, ◌≤◌, ◌<◌}
-use mathlib.Core.Path.{◌≡◌, refl, sym, ap, ◌∙◌, fun_ext}
-use mathlib.Core.Bool.{Bool, true, false, cond, ◌&&◌, ◌||◌, and-true, and-eq-true_iff, or-false, or_comm}
-use mathlib.Core.List.{List, [], ◌∷◌, ◌++◌, map, append_assoc, append-nil}
+-- Look-ups among records, by transaction and kind.
+use Prim.Native.Nat.{ℕ, suc, ◌≤◌, ◌<◌}
+use mathlib.Core.Path.{◌≡◌, refl, sym, ap, ◌∙◌}
+use mathlib.Core.Bool.{Bool, true, false, cond, ◌&&◌, ◌||◌, and-eq-true_iff, or-false, or_comm}
+use mathlib.Core.List.{List, [], ◌∷◌, ◌++◌, map, map-append, append-nil, reverse, reverse-cons, reverse-reverse}
 use native.Mathlib.Omega.{arith}
-use borrow.Author.Tests.{eq-eqb, eqb-true, eqb-false, ne_eqb, lt-ltb, le-ltb, le-leb}
-use lib.ListN.{length, take, get_or, set, replicate, length-map, get_or-map, length-take}
-use lib.Seq.{take-suc, take-add, get_or-take, get_or-set_same, get_or-set_other}
-use lib.Dec.{eqb, leb, ltb, leb-suc-suc}
+use borrow.Author.Tests.{eq-eqb, eqb-true, eqb-false}
+use lib.ListN.{length, take, get_or, set, replicate, length-map, get_or-map}
+use lib.Seq.{take-suc, get_or-set_same, get_or-set_other}
+use lib.Dec.{eqb}
+use Rattle.std.specs.Prelude.{Option, None, Some}
+use Rattle.std.specs.List.{list_any, find}
+use Rattle.std.specs.Option.{unwrap_or}
 use Rattle.codec.specs.Lists.{select, any}
 use Rattle.codec.specs.Records.{LogRecord, lengths, length_of, of_transaction, members_in, presume_commit_in}
 use Rattle.codec.specs.Answers.{record_in, no_record}
@@ -17,12 +20,17 @@ use Rattle.site.specs.Cohort.{Cohort}
 use Rattle.site.specs.Answers.{has_kind}
 use Rattle.joint.specs.State.{holds, recorded_cohort}
 use Rattle.joint.specs.Plan.{newest}
-use Rattle.joint.specs.Inside.{oldest_at, sought}
-use Rattle.joint.proofs.Base.Booleans.{eqb-sym, clash}
+use Rattle.joint.proofs.Base.Booleans.{eqb-sym}
 use Rattle.site.specs.Laws.Lists.{select-append}
 use Rattle.joint.proofs.Base.Lists.{any_append}
 
--- ---- lists
+-- one passes
+pub any_passes : (f : LogRecord → Bool) (rs : List Record) → list_any (λ x. f (record_in x)) rs ≡ any f (map record_in rs)
+unfolding any
+any_passes f [] = refl
+any_passes f (x ∷ rs) = ap (λ (b : Bool). f (record_in x) || b) (any_passes f rs)
+
+-- ---- the newest that passes g
 
 newest-last : (f : LogRecord → Bool) (xs : List LogRecord) (x : LogRecord) → newest f (xs ++ (x ∷ [])) ≡ f x
 unfolding newest
@@ -30,64 +38,31 @@ newest-last f [] x = refl
 newest-last f (y ∷ []) x = refl
 newest-last f (y ∷ z ∷ xs) x = newest-last f (z ∷ xs) x
 
-module _ (f : LogRecord → Bool) where
-  oldest_append : (xs ys : List LogRecord) → oldest_at f xs ≡ length xs → oldest_at f (xs ++ ys) ≡ length xs + oldest_at f ys
-  unfolding oldest_at
-  oldest_append [] ys e = omega arith
-  oldest_append (x ∷ xs) ys e = go (f x) refl (λ h. oldest_append xs ys h)
+module _ (f g : LogRecord → Bool) where
+  -- of the one that was found, if one was
+  abbrev pub passes : Option Record → Bool
+  passes None = false
+  passes (Some x) = f (record_in x)
+
+  -- newest first
+  newest_of : (rs : List Record) → passes (find (λ x. g (record_in x)) rs) ≡ newest f (select g (map record_in (reverse rs)))
+  unfolding newest select
+  newest_of [] = refl
+  newest_of (x ∷ rs) =
+      rw (reverse-cons x rs, map-append, select-append) (go (g (record_in x)) (newest_of rs))
     where
-      go : (b : Bool) → f x ≡ b → (oldest_at f xs ≡ length xs → oldest_at f (xs ++ ys) ≡ length xs + oldest_at f ys)
-          → cond (f x) 0 (suc (oldest_at f (xs ++ ys))) ≡ suc (length xs) + oldest_at f ys
-      go true q more = absurd (omega (arith, rw q at e))
-      go false q more = rw q (omega (arith, more (omega (arith, rw q at e))))
+      go : (b : Bool) → passes (find (λ x. g (record_in x)) rs) ≡ newest f (select g (map record_in (reverse rs)))
+          → passes (cond b (Some x) (find (λ x. g (record_in x)) rs)) ≡ newest f (select g (map record_in (reverse rs)) ++ cond b (record_in x ∷ []) [])
+      go true e = sym (newest-last f (select g (map record_in (reverse rs))) (record_in x))
+      go false e = e ∙ ap (newest f) (sym (append-nil (select g (map record_in (reverse rs)))))
 
-  -- one passes where the oldest stands in the list
-  pub any_oldest : (xs : List LogRecord) → ltb (oldest_at f xs) (length xs) ≡ any f xs
-  unfolding oldest_at any
-  any_oldest [] = refl
-  any_oldest (x ∷ xs) = go (f x) (any_oldest xs)
-    where
-      go : (b : Bool) → ltb (oldest_at f xs) (length xs) ≡ any f xs → ltb (cond b 0 (suc (oldest_at f xs))) (suc (length xs)) ≡ (b || any f xs)
-      go true more = lt-ltb 0 (suc (length xs)) (omega arith)
-      go false more = leb-suc-suc (suc (oldest_at f xs)) (length xs) ∙ more
-
--- sought by its transaction alone
-pub any_kind : (t : ℕ) → sought t 0 ≡ of_transaction t
-unfolding sought
-any_kind t = fun_ext (λ x. and-true (of_transaction t x))
-
--- the oldest that passes a test passes it
-oldest_passes : (f : LogRecord → Bool) (d : LogRecord) (xs : List LogRecord) → oldest_at f xs < length xs → f (get_or xs (oldest_at f xs) d) ≡ true
-unfolding oldest_at
-oldest_passes f d [] h = absurd (omega (arith, h))
-oldest_passes f d (x ∷ xs) h = go (f x) refl h (oldest_passes f d xs)
-  where
-    go : (b : Bool) → f x ≡ b → cond b 0 (suc (oldest_at f xs)) < suc (length xs) → (oldest_at f xs < length xs → f (get_or xs (oldest_at f xs) d) ≡ true)
-        → f (get_or (x ∷ xs) (cond b 0 (suc (oldest_at f xs))) d) ≡ true
-    go true e h more = e
-    go false e h more = more (omega (arith, h))
+  pub newest_passes : (rs : List Record) → passes (find (λ x. g (record_in x)) (reverse rs)) ≡ newest f (select g (map record_in rs))
+  newest_passes rs = newest_of (reverse rs) ∙ ap (λ (xs : List Record). newest f (select g (map record_in xs))) (reverse-reverse rs)
 
 -- ---- the cohort in the oldest record 2, or in the oldest record 1
 
 abbrev masks_at : LogRecord → Cohort
 masks_at x = record { members = members_in x; presume_commit = presume_commit_in x }
-
-module _ (t k : ℕ) (some : eqb k 0 ≡ false) (d : LogRecord) where
-  recorded_by : (xs : List LogRecord) → recorded_cohort t k xs
-      ≡ cond (ltb (oldest_at (sought t k) xs) (length xs)) (masks_at (get_or xs (oldest_at (sought t k) xs) d)) (record { members = 0; presume_commit = 0 })
-  unfolding recorded_cohort oldest_at
-  recorded_by [] = refl
-  recorded_by (x ∷ xs) =
-      ap (λ (b : Bool). cond b (masks_at x) (recorded_cohort t k xs)) same ∙ go (sought t k x) (oldest_at (sought t k) xs) (recorded_by xs)
-    where
-      same : (of_transaction t x && eqb x.kind k) ≡ sought t k x
-      same = unfold sought in rw some refl
-
-      go : (b : Bool) (n : ℕ) → recorded_cohort t k xs ≡ cond (ltb n (length xs)) (masks_at (get_or xs n d)) (record { members = 0; presume_commit = 0 })
-          → cond b (masks_at x) (recorded_cohort t k xs)
-          ≡ cond (ltb (cond b 0 (suc n)) (suc (length xs))) (masks_at (get_or (x ∷ xs) (cond b 0 (suc n)) d)) (record { members = 0; presume_commit = 0 })
-      go true n more = rw (lt-ltb 0 (suc (length xs)) (omega arith)) refl
-      go false n more = rw (leb-suc-suc (suc n) (length xs)) more
 
 -- records 1 and 2 have two fields
 masks_in : (x : Record) (b : Bool) → x.kind ≡ cond b 2 1 → masks_at (record_in x) ≡ record { members = x.first; presume_commit = x.second }
@@ -95,48 +70,24 @@ unfolding record_in members_in presume_commit_in length_of lengths
 masks_in x true e = rw e refl
 masks_in x false e = rw e refl
 
-sought-kind : (t k : ℕ) (x : Record) → eqb k 0 ≡ false → sought t k (record_in x) ≡ true → x.kind ≡ k
-unfolding sought record_in
-sought-kind t k x e q =
-    let both = (and-eq-true_iff (of_transaction t (record_in x)) (eqb k 0 || eqb x.kind k)).0 q in
-    eqb-true x.kind k (rw e at both.1)
+module _ (t : ℕ) (b : Bool) where
+  abbrev pub recorded : Record → Bool
+  recorded x = eqb x.transaction t && eqb x.kind (cond b 2 1)
 
--- of the first `count` records, n being where it stands
-module _ (t : ℕ) (b : Bool) (rs : List Record) (count n : ℕ) (all : length rs ≡ 24) (few : count ≤ 24)
-    (stands : n ≡ oldest_at (sought t (cond b 2 1)) (take count (map record_in rs))) where
-  abbrev kind : ℕ
-  kind = cond b 2 1
+  pub masks_recorded : (rs : List Record) → let x = unwrap_or (find recorded rs) no_record in
+      record { members = x.first; presume_commit = x.second } ≡ recorded_cohort t (cond b 2 1) (map record_in rs)
+  unfolding recorded_cohort of_transaction record_in
+  masks_recorded [] = refl
+  masks_recorded (x ∷ rs) = go (recorded x) refl (masks_recorded rs)
+    where
+      go : (p : Bool) → recorded x ≡ p → let y = unwrap_or (find recorded rs) no_record in
+          ◌≡◌ {A = Cohort} (record { members = y.first; presume_commit = y.second }) (recorded_cohort t (cond b 2 1) (map record_in rs))
+          → let z = unwrap_or (cond p (Some x) (find recorded rs)) no_record in
+          ◌≡◌ {A = Cohort} (record { members = z.first; presume_commit = z.second }) (cond p (masks_at (record_in x)) (recorded_cohort t (cond b 2 1) (map record_in rs)))
+      go true q more = sym (masks_in x b (eqb-true x.kind (cond b 2 1) ((and-eq-true_iff (eqb x.transaction t) (eqb x.kind (cond b 2 1))).0 q).1))
+      go false q more = more
 
-  abbrev log : List LogRecord
-  log = take count (map record_in rs)
-
-  real : (b : Bool) → eqb (cond b 2 1) 0 ≡ false
-  real true = refl
-  real false = refl
-
-  sized : length log ≡ count
-  sized = simp (length-take, length-map) (omega (arith, all, few))
-
-  pub none_recorded : count ≤ n → record { members = 0; presume_commit = 0 } ≡ recorded_cohort t (cond b 2 1) (take count (map record_in rs))
-  none_recorded h = sym (recorded_by t kind (real b) (record_in no_record) log ∙ rw (← stands, sized, le-ltb n count h) refl)
-
-  pub masks_recorded : n < count → record { members = (get_or rs n no_record).first; presume_commit = (get_or rs n no_record).second } ≡ recorded_cohort t (cond b 2 1) (take count (map record_in rs))
-  masks_recorded h =
-      let x = get_or rs n no_record in
-      let read : get_or log n (record_in no_record) ≡ record_in x = get_or-take count (map record_in rs) n (record_in no_record) h ∙ get_or-map record_in rs n no_record in
-      let passes : sought t kind (record_in x) ≡ true = rw (← stands, read) at (oldest_passes (sought t kind) (record_in no_record) log (omega (arith, stands, h, sized))) in
-      sym (recorded_by t kind (real b) (record_in no_record) log ∙ rw (← stands, sized, lt-ltb n count h, read) (masks_in x b (sought-kind t kind x (real b) passes)))
-
--- ---- a record's transaction
-
-module _ (t : ℕ) (x : Record) where
-  pub of_it : x.transaction ≡ t → of_transaction t (record_in x) ≡ true
-  unfolding of_transaction record_in
-  of_it e = eq-eqb x.transaction t e
-
-  pub of_another : (x.transaction ≡ t → ⊥) → of_transaction t (record_in x) ≡ false
-  unfolding of_transaction record_in
-  of_another e = ne_eqb x.transaction t e
+-- ---- the kinds of each transaction
 
 -- by transaction and kind up to 7: the sets of the kinds of the first i records
 abbrev pub Collected : List Record → List ℕ → ℕ → Type 0
@@ -148,12 +99,11 @@ collect_starts rs t k ht hk =
     alike_eq _ _ (below_at_2 8 8 (λ t k. alike (has_kind (get_or (replicate 8 0) t 0) k) false) tt t k (omega arith) (omega arith))
 
 -- a transaction or a kind above 7 is another one
-another : (a b t k : ℕ) → t ≤ 7 → k ≤ 7 → (leb a 7 && leb b 7) ≡ false → (eqb a t && eqb b k) ≡ false
+another : (a b t k : ℕ) → t ≤ 7 → k ≤ 7 → (a ≤ 7 → b ≤ 7 → ⊥) → (eqb a t && eqb b k) ≡ false
 another a b t k ht hk e = go (eqb a t) (eqb b k) refl refl
   where
     go : (p q : Bool) → eqb a t ≡ p → eqb b k ≡ q → (p && q) ≡ false
-    go true true p q =
-        absurd (clash (sym (rw (le-leb a 7 (omega (arith, eqb-true a t p)), le-leb b 7 (omega (arith, eqb-true b k q))) refl) ∙ e))
+    go true true p q = absurd (e (omega (arith, eqb-true a t p)) (omega (arith, eqb-true b k q)))
     go true false p q = refl
     go false q h l = refl
 
@@ -163,35 +113,6 @@ module _ (rs : List Record) (i n : ℕ) (next : suc i ≡ n) (lt : i < length rs
   one_more : take n (map record_in rs) ≡ take i (map record_in rs) ++ (record_in (get_or rs i no_record) ∷ [])
   one_more =
       rw (← next, ← get_or-map record_in rs i no_record) (take-suc (map record_in rs) i (record_in no_record) (rw length-map lt))
-
-  -- the newest that passes g: it is record i, or it is before it
-  module _ (f g : LogRecord → Bool) where
-    pub newest_here : g (record_in (get_or rs i no_record)) ≡ true
-        → newest f (select g (take n (map record_in rs))) ≡ f (record_in (get_or rs i no_record))
-    unfolding select
-    newest_here e =
-        rw (one_more, select-append, e) (newest-last f (select g (take i (map record_in rs))) (record_in (get_or rs i no_record)))
-
-    pub newest-before : g (record_in (get_or rs i no_record)) ≡ false
-        → newest f (select g (take n (map record_in rs))) ≡ newest f (select g (take i (map record_in rs)))
-    unfolding select
-    newest-before e = rw (one_more, select-append, e) (ap (newest f) (append-nil (select g (take i (map record_in rs)))))
-
-  -- the first i do not pass f
-  module _ (f : LogRecord → Bool) (e : oldest_at f (take i (map record_in rs)) ≡ i) where
-    none : oldest_at f (take i (map record_in rs)) ≡ length (take i (map record_in rs))
-    none = simp (length-take, length-map) (omega arith)
-
-    pub oldest_here : (m : ℕ) → i < m → f (record_in (get_or rs i no_record)) ≡ true → oldest_at f (take m (map record_in rs)) ≡ i
-    unfolding oldest_at
-    oldest_here m le q =
-        let d : m ≡ n + (m - n) = omega arith in
-        rw (d, take-add, one_more, append_assoc)
-        (oldest_append f (take i (map record_in rs)) _ none ∙ rw (q, ← none) (omega arith))
-
-    pub oldest_later : f (record_in (get_or rs i no_record)) ≡ false → oldest_at f (take n (map record_in rs)) ≡ n
-    unfolding oldest_at
-    oldest_later q = rw one_more (oldest_append f (take i (map record_in rs)) _ none ∙ rw (q, ← none) (omega arith))
 
   -- a kind among t's records: record i has it, or it was there before
   holds_more : (t k : ℕ) → holds t k (take n (map record_in rs))
@@ -225,7 +146,7 @@ module _ (rs : List Record) (i n : ℕ) (next : suc i ≡ n) (lt : i < length rs
           rw (get_or-set_other kinds (get_or rs i no_record).transaction t v 0 (eqb-false t _ q))
           (w t k ht hk ∙ holds-before t k (rw (eqb-sym (get_or rs i no_record).transaction t, q) refl))
 
-  pub collect_none : (kinds : List ℕ) → (leb (get_or rs i no_record).transaction 7 && leb (get_or rs i no_record).kind 7) ≡ false
+  pub collect_none : (kinds : List ℕ) → ((get_or rs i no_record).transaction ≤ 7 → (get_or rs i no_record).kind ≤ 7 → ⊥)
       → Collected rs kinds i → Collected rs kinds n
   collect_none kinds e w t k ht hk =
       let x = get_or rs i no_record in

@@ -2,7 +2,6 @@ use mathlib.Core.Path.{◌≡◌, refl, sym, ap, ◌∙◌}
 use mathlib.Core.Bool.{Bool, true, false, not, ◌&&◌, ◌||◌}
 use Prim.Native.Nat.{ℕ}
 use mathlib.Core.List.{List}
-use lib.ListN.{length}
 use lib.Dec.{eqb}
 use Rattle.std.proofs.lemmas.Result.{err_from_is_err_and}
 use Rattle.codec.specs.declared.record.Record.{Record}
@@ -12,7 +11,6 @@ use Rattle.joint.specs.State.{Site}
 use Rattle.joint.specs.Plan.{may_discard}
 use Rattle.joint.specs.Answers.{site_from, number_of}
 use Rattle.joint.specs.Inside.{change_in}
-use Rattle.joint.proofs.Engine.Arrays.{length-shown}
 use Rattle.joint.proofs.Engine.Changes.{unready_here, may_discard_lem, still_remembers, discard-refused, discard_unallowed, discard_drops}
 use Rattle.joint.proofs.changes.discard.Goals as goal
 
@@ -42,9 +40,8 @@ returns-then-not-may_discard c =
     λ w here own.
     let a = c.args in
     let e = a.e in
-    let all : length a.records.of ≡ 24 = search length-shown in
     let allowed : c.may_discard.result ≡ may_discard w e.transaction e.site =
-    rw c.stable_count.ensures at c.may_discard.ensures ∙ may_discard_lem a.site a.site a.records.of a.records.of w e.transaction e.site all here in
+    rw c.stable.ensures at c.may_discard.ensures ∙ may_discard_lem a.site a.site a.records.of a.records.of w e.transaction e.site here in
     discard_unallowed w e.transaction e.site (unready_here w e.transaction e.site e.site own (up_of a.site a.records.of w e.site here) c.in_ok-ready.ensures)
     (sym allowed ∙ c.if-not-may_discard.true)
 
@@ -54,11 +51,9 @@ returns c =
     λ w here own.
     let a = c.args in
     let e = a.e in
-    let all : length a.records.of ≡ 24 = search length-shown in
     let allowed : c.may_discard.result ≡ may_discard w e.transaction e.site =
-    rw c.stable_count.ensures at c.may_discard.ensures ∙ may_discard_lem a.site a.site a.records.of a.records.of w e.transaction e.site all here in
-    let rest : length c.trim-log.result.records.of ≡ 24 = search length-shown in
+    rw c.stable.ensures at c.may_discard.ensures ∙ may_discard_lem a.site a.site a.records.of a.records.of w e.transaction e.site here in
     discard_drops w e.transaction e.site (unready_here w e.transaction e.site e.site own (up_of a.site a.records.of w e.site here) c.in_ok-ready.ensures)
     (sym allowed ∙ c.if-not-may_discard.false) _
-    (forgets (eqb e.site 0) _ _ (rw c.count.ensures at c.remember.ensures
-    ∙ still_remembers a.site c.trim-log.result.site a.records.of c.trim-log.result.records.of w e.transaction e.site all here rest c.trim-log.ensures))
+    (forgets (eqb e.site 0) _ _ (rw c.all.ensures at c.remember.ensures
+    ∙ still_remembers a.site c.trim-log.result.site a.records.of c.trim-log.result.records.of w e.transaction e.site here c.trim-log.ensures))

@@ -1,14 +1,10 @@
-use Prim.Native.Nat.{ℕ}
 use mathlib.Core.Path.{◌≡◌, ap, ◌∙◌}
-use mathlib.Core.List.{map}
-use lib.ListN.{length, take}
-use Rattle.codec.specs.Answers.{record_in}
+use lib.ListN.{length}
 use Rattle.joint.specs.State as plain
 use Rattle.joint.specs.State.{holds}
 use Rattle.joint.specs.Answers.{site_from, transactions_in, number_of}
 use Rattle.joint.specs.Inside.{resumed_in, resumed, restarted_in, cut_in}
 use Rattle.joint.proofs.Engine.Arrays.{length-shown}
-use Rattle.joint.proofs.Engine.Sites.{stable-taken}
 use Rattle.joint.proofs.Engine.Restarted.{restart-up, restart-whole, restart_too_far, restart-cut}
 use Rattle.joint.proofs.restarts.restart.Goals as goal
 use Rattle.joint.proofs.restarts.restart.Goals.{After-resume_all-resumed, in-Some, in-None}
@@ -24,8 +20,8 @@ resumption c x e f =
     let a = c.args in
     let records = a.records.of in
     let size : length records ≡ 24 = search length-shown in
-    let stable = ap (λ (n : ℕ). take n (map record_in records)) c.stable_count-count.ensures ∙ stable-taken a.site records size ∙ ap (λ (a : plain.Site). a.stable) e in
-    c.resume_all-resumed.ensures x f (λ t k ht hk. c.kinds-kinds.ensures t k ht hk ∙ ap (holds t k) stable) stable
+    let stable = c.stable-stable.ensures ∙ ap (λ (a : plain.Site). a.stable) e in
+    c.resume_all-resumed.ensures x f (λ t k ht hk. c.kinds.ensures t k ht hk ∙ ap (holds t k) stable) stable
 
 pub returns-in_default : goal.returns-in_default
 unfolding restarted_in resumed_in site_from

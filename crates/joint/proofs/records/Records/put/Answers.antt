@@ -1,33 +1,20 @@
-use Prim.Native.Nat.{◌<◌}
-use mathlib.Core.Path.{◌≡◌, sym}
-use native.Mathlib.Omega.{arith}
-use borrow.Author.Tests.{eqb-false, leb-false}
+use mathlib.Core.Path.{◌≡◌, refl, sym}
+use borrow.Author.Tests.{eq-eqb, ne_eqb, le-leb}
 use lib.ListN.{length}
-use lib.Dec.{eqb, leb}
-use Rattle.codec.specs.Laws.Tests.{or_none}
 use Rattle.joint.proofs.Engine.Arrays.{length-shown}
 use Rattle.joint.proofs.Engine.Sites.{put_kept, put_some}
 use Rattle.joint.proofs.records.Records.put.Goals as goal
-use Rattle.joint.proofs.records.Records.put.Goals.{Else-x-at}
+use Rattle.joint.proofs.records.Records.put.Goals.{else-x-ne0-via-then-x-ne0+else-at-lt-COORDINATOR_MOST, else-x-ne0-via-else-x-ne0}
 
--- a record, and a place for it
-left : (c : Else-x-at) → let s = c.args in (s.x.kind ≡ 0 → ⊥) × (s.at < 24)
-left c =
+pub returns-then-at-lt-COORDINATOR_MOST : goal.returns-then-at-lt-COORDINATOR_MOST
+returns-then-at-lt-COORDINATOR_MOST c = let s = c.args in sym (put_some s.at s.x s.self.of c.if-x-ne0.true)
+
+-- none, or no place for it
+pub returns-else-x-ne0 : goal.returns-else-x-ne0
+returns-else-x-ne0 c =
     let s = c.args in
-    let h = or_none (eqb s.x.kind 0) (leb 24 s.at) c.if-x-at.false in
-    (eqb-false s.x.kind 0 h.0, leb-false 24 s.at h.1)
-
-pub returns-then-x-at : goal.returns-then-x-at
-returns-then-x-at c = let s = c.args in
     let all : length s.self.of ≡ 24 = search length-shown in
-    put_kept s.at s.x s.self.of all c.if-x-at.true
-
-pub offset_bounds-records-at : goal.offset_bounds-records-at
-offset_bounds-records-at c = omega (arith, (left c).1)
-
-pub bounds-records-at : goal.bounds-records-at
-bounds-records-at c = (left c).1
-
-pub returns : goal.returns
-returns c = let s = c.args in
-    sym (put_some s.at s.x s.self.of (left c).0)
+    elim c.else-x-ne0.branch [
+      | else-x-ne0-via-then-x-ne0+else-at-lt-COORDINATOR_MOST w ↦ put_kept s.at s.x s.self.of all (rw (ne_eqb s.x.kind 0 w.if-x-ne0.true, le-leb 24 s.at w.if-at-lt-COORDINATOR_MOST.false) refl)
+      | else-x-ne0-via-else-x-ne0 w ↦ put_kept s.at s.x s.self.of all (rw (eq-eqb s.x.kind 0 w.if-x-ne0.false) refl)
+    ]
