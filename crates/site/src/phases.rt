@@ -109,13 +109,7 @@ impl ParticipantPhase {
     pub fn number(self) -> u8
         ensures { result ≡ participant_phase (participant_in self) }
     {
-        match self {
-            ParticipantPhase::Working => 0,
-            ParticipantPhase::Prepared => 1,
-            ParticipantPhase::Committed => 2,
-            ParticipantPhase::Aborted => 3,
-            ParticipantPhase::Unknown => 4,
-        }
+        self as u8
     }
 
     pub fn decided(outcome: Outcome) -> ParticipantPhase
