@@ -28,6 +28,7 @@ pub struct Participant {
     pub marked: bool,
 }
 
+#[tactic(auto, using(crate::proofs::ByKind::among_yes, crate::proofs::ByKind::among_no))]
 fn is_participant(number: u8) -> bool
     ensures listed { result ≡ any (eqb number) participants }
     ensures numbered { result ≡ true → Numbered number }
