@@ -13,10 +13,8 @@ use Rattle.codec.specs.Laws.Members.{high_bits}
 use Rattle.site.specs.Cohort.{Cohort, owing}
 use Rattle.site.specs.Coordinator as coordinator
 use Rattle.site.specs.Participant as participant
-use Rattle.site.specs.Numbers.{waiting_set, coordinator_from, participant_from, waiting_in_range}
-use Rattle.site.specs.Answers.{coordinator_in, has_kind}
-use Rattle.site.specs.declared.phases.CoordinatorPhase.{CoordinatorPhase}
-use Rattle.site.specs.declared.phases.CoordinatorPhase.TheVariants.{Open, Collecting, Committing, Aborting, Unknown}
+use Rattle.site.specs.Numbers.{coordinator_from, participant_from, waiting_in_range}
+use Rattle.site.specs.Answers.{has_kind}
 
 pub last_coordinator : (phase w : ℕ) → 4 ≤ phase → coordinator_from phase w ≡ coordinator.unknown
 unfolding coordinator_from
