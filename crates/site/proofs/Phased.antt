@@ -13,32 +13,22 @@ use Rattle.codec.specs.Laws.Members.{high_bits}
 use Rattle.site.specs.Cohort.{Cohort, owing}
 use Rattle.site.specs.Coordinator as coordinator
 use Rattle.site.specs.Participant as participant
-use Rattle.site.specs.Numbers.{waiting_set, coordinator_from, participant_from, waiting_in_range}
-use Rattle.site.specs.Answers.{coordinator_in, has_kind}
-use Rattle.site.specs.declared.phases.CoordinatorPhase.{CoordinatorPhase}
-use Rattle.site.specs.declared.phases.CoordinatorPhase.TheVariants.{Open, Collecting, Committing, Aborting, Unknown}
+use Rattle.site.specs.Numbers.{coordinator_from, participant_from, waiting_in_range}
+use Rattle.site.specs.Answers.{has_kind}
 
-pub last-coordinator : (phase w : ℕ) → 4 ≤ phase → coordinator_from phase w ≡ coordinator.unknown
+pub last_coordinator : (phase w : ℕ) → 4 ≤ phase → coordinator_from phase w ≡ coordinator.unknown
 unfolding coordinator_from
-last-coordinator phase w h =
+last_coordinator phase w h =
     get_or-eq_default
     (coordinator.initial ∷ coordinator.collecting w ∷ coordinator.awaiting_acks commit w ∷ coordinator.awaiting_acks abort w ∷ [])
     coordinator.unknown h
 
-pub last-participant : (phase : ℕ) → 4 ≤ phase → participant_from phase ≡ participant.unknown
+pub last_participant : (phase : ℕ) → 4 ≤ phase → participant_from phase ≡ participant.unknown
 unfolding participant_from
-last-participant phase h =
+last_participant phase h =
     get_or-eq_default
     (participant.working ∷ participant.prepared ∷ participant.decided commit ∷ participant.decided abort ∷ [])
     participant.unknown h
-
-pub waits_for_none : (x : CoordinatorPhase) → ((w : ℕ) → x ≡ Collecting w → ⊥) → ((w : ℕ) → x ≡ Committing w → ⊥) → ((w : ℕ) → x ≡ Aborting w → ⊥) → waiting_set (coordinator_in x) ≡ 0
-unfolding waiting_set
-waits_for_none Open a b c = refl
-waits_for_none (Collecting w) a b c = absurd (a w refl)
-waits_for_none (Committing w) a b c = absurd (b w refl)
-waits_for_none (Aborting w) a b c = absurd (c w refl)
-waits_for_none Unknown a b c = refl
 
 none_of_five : (n : ℕ) → (n ≡ 0 → ⊥) → (n ≡ 1 → ⊥) → (n ≡ 2 → ⊥) → (n ≡ 3 → ⊥) → (n ≡ 4 → ⊥) → 5 ≤ n
 none_of_five zero a b c d e = absurd (a refl)

@@ -217,6 +217,7 @@ impl Coordinator {
         }
     }
 
+    #[tactic(auto, using(crate::proofs::Rows::tell_one, crate::proofs::Sent::member_numbered), unfolding(crate::specs::Coordinator::on_yes, crate::specs::Coordinator::telling, codec::specs::Lists::only_if))]
     fn on_yes(self, participant: u8) -> Option<Row<CoordinatorPhase>>
         requires { sets.member participant self.cohort.members ≡ true }
         ensures { (t : ℕ) → found_in coordinator_in t result ≡ coordinator.on_yes t (cohort_in self.cohort) self.state.taken_out participant (coordinator_in self.state.phase) }

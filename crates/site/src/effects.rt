@@ -166,6 +166,7 @@ fn up_to(left: u8, x: u8) -> u8
 }
 
 // How many entries a number stands for: what is no outcome enters nothing.
+#[tactic(auto, using(crate::proofs::Cut::entry_none, crate::proofs::Cut::entry_one))]
 fn entries(entered: u8) -> u8
     ensures { (result ≡ length (entry_of entered)) × (result ≤ 1) }
 {

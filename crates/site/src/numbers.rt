@@ -16,7 +16,7 @@ use codec::log::Log;
 use codec::message::Parts;
 use codec::sets::{both, member, part};
 
-// A refusal, and zeros.
+// A refusal, and zeros, as include/dpr.h has it.
 const REFUSED: u64 = 1;
 
 // The bytes of a result, the lowest first: answer 0, phase, waiting set, set taken out, and the numbers of the row.
@@ -34,7 +34,7 @@ fn packed(phase: u8, waiting: u8, taken_out: u8, row: Summary) -> u64
         + 0x100_0000_0000_0000 * (row.to as u64)
 }
 
-// The numbers of a step's answer; where there is no row, with the phase, the waiting set and the set taken out that are given.
+// The numbers of a step's answer, in two functions, as the definitions have two: over a trait of a state's numbers they were longer. Where there is no row, with the phase, the waiting set and the set taken out that are given.
 pub fn coordinator_result(
     answer: Result<Option<Row<CoordinatorState>>, Refused>,
     phase: u8,

@@ -28,6 +28,7 @@ pub struct Participant {
     pub marked: bool,
 }
 
+#[tactic(auto, using(crate::proofs::ByKind::among_yes, crate::proofs::ByKind::among_no))]
 fn is_participant(number: u8) -> bool
     ensures listed { result ≡ any (eqb number) participants }
     ensures numbered { result ≡ true → Numbered number }
@@ -179,6 +180,7 @@ impl Own {
 
 impl Participant {
     // The step by the kind's number: a kind that a participant never receives, and what is no participant, is refused.
+    #[tactic(auto, using(crate::proofs::ByKind::no_participant_lem, crate::proofs::ByKind::participant_never))]
     pub fn step(self, kind: u8) -> Result<Option<Row<ParticipantPhase>>, Refused>
         ensures { (t : ℕ) → participant_answer_in t result ≡ participant_answer (presumption_in self.presumption) self.number self.marked kind (participant_in self.phase) }
     {

@@ -21,8 +21,8 @@ impl CoordinatorPhase {
     // The largest number of a phase. A participant's phases are as many.
     pub const LAST: u8 = 4;
 
-    // What is no phase is Unknown.
-    #[tactic(auto, unfolding(crate::specs::Numbers::coordinator_from))]
+    // What is no phase is Unknown. Not a From: that would not say that it takes every number.
+    #[tactic(auto, using(crate::proofs::Phased::last_coordinator), unfolding(crate::specs::Numbers::coordinator_from))]
     pub fn from_numbers(phase: u8, waiting: u8) -> CoordinatorPhase
         ensures { coordinator_in result ≡ coordinator_from phase waiting }
     {
@@ -92,7 +92,7 @@ pub enum ParticipantPhase {
 
 impl ParticipantPhase {
     // What is no phase is Unknown.
-    #[tactic(auto, unfolding(crate::specs::Numbers::participant_from))]
+    #[tactic(auto, using(crate::proofs::Phased::last_participant), unfolding(crate::specs::Numbers::participant_from))]
     pub fn from_number(phase: u8) -> ParticipantPhase
         ensures { participant_in result ≡ participant_from phase }
     {
@@ -109,13 +109,7 @@ impl ParticipantPhase {
     pub fn number(self) -> u8
         ensures { result ≡ participant_phase (participant_in self) }
     {
-        match self {
-            ParticipantPhase::Working => 0,
-            ParticipantPhase::Prepared => 1,
-            ParticipantPhase::Committed => 2,
-            ParticipantPhase::Aborted => 3,
-            ParticipantPhase::Unknown => 4,
-        }
+        self as u8
     }
 
     pub fn decided(outcome: Outcome) -> ParticipantPhase

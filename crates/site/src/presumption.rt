@@ -108,9 +108,6 @@ impl Presumption {
     pub fn number(self) -> u8
         ensures { result ≡ presumption_number (presumption_in self) }
     {
-        match self {
-            Presumption::Abort => 0,
-            Presumption::Commit => 1,
-        }
+        self as u8
     }
 }

@@ -5,6 +5,7 @@ ghost use Rattle.site.specs.Answers.{has_kind};
 // The last kind that a set has room for.
 const LAST: u8 = 15;
 
+#[tactic(auto, using(crate::proofs::Phased::no_kind), unfolding(crate::specs::Answers::has_kind))]
 pub fn has(records: u16, kind: u8) -> bool
     ensures { result ≡ has_kind records kind }
 {

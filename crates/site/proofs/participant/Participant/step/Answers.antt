@@ -5,13 +5,8 @@ use Rattle.site.specs.Step.{messages}
 use Rattle.site.specs.Participant.{participant_step}
 use Rattle.site.specs.Numbers.{kinds_received, receives, input_of}
 use Rattle.site.specs.Answers.{presumption_in, participant_in}
-use Rattle.site.proofs.ByKind.{no_participant_lem, participant_takes, participant_never}
+use Rattle.site.proofs.ByKind.{participant_takes}
 use Rattle.site.proofs.participant.Participant.step.Goals as goal
-
-pub returns-then-not-is_participant : goal.returns-then-not-is_participant
-returns-then-not-is_participant c t =
-    let s = c.args.self in
-    no_participant_lem (presumption_in s.presumption) s.number s.marked c.args.kind (participant_in s.phase) (sym c.is_participant.ensures.listed ∙ c.if-not-is_participant.true)
 
 pub returns-in-0 : goal.returns-in-0
 unfolding receives kinds_received any input_of messages participant_step
@@ -40,7 +35,3 @@ returns-in-17 c t =
     let s = c.args.self in
     let n = sym c.is_participant.ensures.listed ∙ c.if-not-is_participant.false in
     participant_takes (presumption_in s.presumption) s.number s.marked c.args.kind (participant_in s.phase) t 17 _ n (omega arith) refl (rw (c.on_timer.ensures t))
-
-pub returns-in-1-to-2 : goal.returns-in-1-to-2
-returns-in-1-to-2 c t =
-    participant_never (presumption_in c.args.self.presumption) c.args.self.number c.args.self.marked c.args.kind (participant_in c.args.self.phase) (λ e. omega arith) (λ e. omega arith) (λ e. omega arith) (λ e. omega arith)
