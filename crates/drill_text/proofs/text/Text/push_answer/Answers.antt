@@ -1,4 +1,4 @@
-use Rattle.std.proofs.Common.{◌<◌, ◌≡◌, [], ◌∷◌, length, get_or, arith}
+use Rattle.std.proofs.Common.{◌≡◌, [], ◌∷◌, get_or, arith}
 use Rattle.joint.specs.Drill.{line}
 use Rattle.drill_text.proofs.Texts.{line_short, line_wide}
 use Rattle.drill_text.proofs.text.Text.push_answer.Goals as goal

@@ -1,4 +1,4 @@
-use Rattle.std.proofs.Common.{◌≡◌, refl, length, arith}
+use Rattle.std.proofs.Common.{refl, arith}
 use Rattle.drill_text.proofs.Pushed.{left_start, left_room, left_next, left_end}
 use Rattle.drill_text.proofs.Texts.{field_next, field_last, fields_next}
 use Rattle.drill_text.proofs.text.Text.push_fields.Goals as goal
