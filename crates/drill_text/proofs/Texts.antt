@@ -52,21 +52,17 @@ module _ (a : List ℕ) (four : length a ≡ 4) where
       ap (line 5) spelled
       ∙ rw (one_digit 5 (at 0) (omega arith), one_digit 5 (at 1) (omega arith), one_digit 5 (at 2) (omega arith), one_digit 5 (at 3) (omega arith))
 
-  -- of any
+  -- of six digits at most, each written as one of any size
   wide : (k : ℕ) → at k < 1000000 → decimal 19 (at k) ≡ decimal 5 (at k)
   wide k h = decimal_wider 5 19 (at k) (omega arith) (omega (arith, h))
 
-  pub number_next : at 0 < 1000000 → Next (line 5 a) (decimal 19 (at 0) ++ (32 ∷ [])) (line 5 (at 1 ∷ at 2 ∷ at 3 ∷ []))
-  number_next h = record { split = ap (line 5) spelled ∙ rw (wide 0 h) (field_next 5 (at 0) (at 1) (at 2 ∷ at 3 ∷ [])).split }
+  pub line_wide : at 0 < 1000000 → at 1 < 1000000 → at 2 < 1000000 → at 3 < 1000000 → line 5 a ≡ line 19 (at 0 ∷ at 1 ∷ at 2 ∷ at 3 ∷ [])
+  unfolding line
+  line_wide h i j k = ap (line 5) spelled ∙ rw (wide 0 h, wide 1 i, wide 2 j, wide 3 k) refl
 
-  pub records_next : at 1 < 1000000 → Next (line 5 (at 1 ∷ at 2 ∷ at 3 ∷ [])) (decimal 19 (at 1) ++ (32 ∷ [])) (line 5 (at 2 ∷ at 3 ∷ []))
-  records_next h = rw (wide 1 h) (field_next 5 (at 1) (at 2) (at 3 ∷ []))
-
-  pub forces_next : at 2 < 1000000 → Next (line 5 (at 2 ∷ at 3 ∷ [])) (decimal 19 (at 2) ++ (32 ∷ [])) (line 5 (at 3 ∷ []))
-  forces_next h = rw (wide 2 h) (field_next 5 (at 2) (at 3) [])
-
-  pub sends_next : at 3 < 1000000 → Next (line 5 (at 3 ∷ [])) (decimal 19 (at 3) ++ (10 ∷ [])) []
-  sends_next h = rw (wide 3 h) (field_last 5 (at 3))
+  -- of any size
+  pub fields_next : Next (line 19 a) (decimal 19 (at 0) ++ (32 ∷ [])) (line 19 (at 1 ∷ at 2 ∷ at 3 ∷ []))
+  fields_next = record { split = ap (line 19) spelled ∙ (field_next 19 (at 0) (at 1) (at 2 ∷ at 3 ∷ [])).split }
 
   -- a line's number, and what is behind it
   pub counted_next : (n : ℕ) → Next (line 5 (n ∷ a)) (decimal 5 n ++ (32 ∷ [])) (line 5 a)

@@ -45,13 +45,26 @@ impl<'a> Text<'a> {
     }
 
     // A number and the byte that ends it.
-    pub(crate) fn push_field(&mut self, n: u64, end: u8)
+    fn push_field(&mut self, n: u64, end: u8)
         requires { Room self.old (decimal 19 n ++ (end ∷ [])) }
         ensures { Pushed self.old self.new (decimal 19 n ++ (end ∷ [])) }
     {
         let digits = Digits::of(n);
         self.push(&digits.of[digits.from..]);
         self.push(&[end]);
+    }
+
+    // Four numbers with a space between, and a newline. (Out of line it would keep the text's end in memory, which is slower.)
+    #[inline(always)]
+    pub(crate) fn push_fields(&mut self, numbers: [u64; 4])
+        requires { Room self.old (line 19 numbers) }
+        ensures { Pushed self.old self.new (line 19 numbers) }
+    {
+        let [first, second, third, fourth] = numbers;
+        self.push_field(first, b' ');
+        self.push_field(second, b' ');
+        self.push_field(third, b' ');
+        self.push_field(fourth, b'\n');
     }
 
     // The number of a line and a space, digit by digit from the first that is not 0.
@@ -91,10 +104,7 @@ impl<'a> Text<'a> {
                 b'\n',
             ]);
         } else {
-            self.push_field(number as u64, b' ');
-            self.push_field(records as u64, b' ');
-            self.push_field(forces as u64, b' ');
-            self.push_field(sends as u64, b'\n');
+            self.push_fields([number as u64, records as u64, forces as u64, sends as u64]);
         }
     }
 

@@ -9,14 +9,12 @@ use joint::totals::Totals;
 
 impl Text<'_> {
     // The line of a site: four numbers.
+    #[tactic(auto, unfolding(joint::specs::Drill::totals_line, joint::specs::Answers::totals_seen))]
     fn push_totals(&mut self, x: Totals)
         requires { Room self.old (totals_line (totals_seen x)) }
         ensures { Pushed self.old self.new (totals_line (totals_seen x)) }
     {
-        self.push_field(x.forces, b' ');
-        self.push_field(x.handovers, b' ');
-        self.push_field(x.quotient, b' ');
-        self.push_field(x.remainder, b'\n');
+        self.push_fields([x.forces, x.handovers, x.quotient, x.remainder]);
     }
 
     // The lines of the sites, at most 84 bytes each.
