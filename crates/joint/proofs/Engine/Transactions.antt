@@ -2,7 +2,7 @@
 use Prim.Native.Nat.{ℕ, zero, suc, ◌+◌, ◌-◌, ◌≤◌, ◌<◌}
 use mathlib.Core.Path.{◌≡◌, refl, sym, ◌∙◌, fun_ext}
 use mathlib.Core.Bool.{Bool, true, false, cond, ◌&&◌, ◌||◌, and-true, and-false}
-use mathlib.Core.List.{List, [], ◌∷◌}
+use mathlib.Core.List.{List}
 use lib.ListN.{length, get_or, set}
 use lib.Seq.{get_or-set_same, get_or-set_other}
 use lib.Dec.{eqb, ltb, eqb→eq}
@@ -25,7 +25,7 @@ use Rattle.site.specs.declared.phases.CoordinatorPhase.TheVariants as phases
 use Rattle.site.specs.declared.phases.ParticipantPhase.{ParticipantPhase}
 use Rattle.site.specs.declared.phases.ParticipantPhase.TheVariants as held
 use Rattle.joint.specs.State as plain
-use Rattle.joint.specs.State.{takes_part, update, with_participant, with_marked, with_entered, forgotten}
+use Rattle.joint.specs.State.{update, with_participant, with_marked, with_entered, forgotten}
 use Rattle.joint.specs.Plan.{opened_as}
 use Rattle.joint.specs.Answers.{transaction_in, entered_in}
 use Rattle.joint.specs.Inside.{transaction_after}
@@ -33,23 +33,12 @@ use Rattle.joint.specs.declared.transactions.Transaction.{Transaction}
 use Rattle.joint.proofs.Base.Sends.{sent-each, any_ordered}
 use Rattle.joint.proofs.Engine.Arrays.{stored}
 
--- below its length an array reads the same with any default
-pub read_any : {A : Type 0} (l : List A) (i : ℕ) (d d' : A) → i < length l → get_or l i d ≡ get_or l i d'
-read_any [] i d d' h = absurd (omega (arith, h))
-read_any (x ∷ l) zero d d' h = refl
-read_any (x ∷ l) (suc i) d d' h = read_any l i d d' (omega (arith, h))
-
 transaction_path : {g : Cohort} {c : coordinator.Coordinator} {p p' : ℕ → participant.ParticipantPhase} {m : ℕ → Bool} {s s' : ℕ → ℕ → Bool} {e e' : ℕ → outcomes.Outcome → Bool}
     → p ≡ p' → s ≡ s' → e ≡ e'
     → ◌≡◌ {A = plain.Transaction} (record { cohort = g; coordinator = c; participant = p; marked = m; sent = s; entered = e }) (record { cohort = g; coordinator = c; participant = p'; marked = m; sent = s'; entered = e' })
 transaction_path {g} {c} {m} p s e = λ i. record { cohort = g; coordinator = c; participant = p i; marked = m; sent = s i; entered = e i }
 
 -- ---- by site
-
-pub part-member : (x : plain.Transaction) (s : ℕ) → (s ≡ 0 → ⊥) → takes_part x s ≡ member s x.cohort.members
-unfolding takes_part
-part-member x zero h = absurd (h refl)
-part-member x (suc n) h = refl
 
 pub forgotten-participant : (x : plain.Transaction) (s : ℕ) → (s ≡ 0 → ⊥) → forgotten s x ≡ with_participant s participant.unknown x
 unfolding forgotten plain.with_coordinator with_participant
