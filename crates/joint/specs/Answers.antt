@@ -19,7 +19,6 @@ use Rattle.joint.specs.Drill.{Replayed}
 use Rattle.codec.specs.declared.record.Record.{Record}
 use Rattle.joint.specs.declared.sites.Site.{Site}
 use Rattle.joint.specs.declared.records.Records.{Records}
-use Rattle.joint.specs.declared.transactions.Held.{Held}
 use Rattle.joint.specs.declared.transactions.Transaction.{Transaction}
 use Rattle.joint.specs.declared.answers.Counts.{Counts}
 use Rattle.joint.specs.declared.answers.Refusal.{Refusal}
@@ -51,9 +50,6 @@ unfoldable pub entered_in : ℕ → ℕ → ℕ → Outcome → Bool
 entered_in committed aborted s commit = has_kind committed s
 entered_in committed aborted s abort = has_kind aborted s
 
-abbrev pub no_held : Held
-no_held = record { phase = participant.Unknown }
-
 -- the coordinator's part, from its phase and the set taken out
 abbrev pub part_in : CoordinatorPhase → ℕ → Coordinator
 part_in phase out = record { phase = coordinator_in phase; taken_out = out }
@@ -64,7 +60,7 @@ transaction_in x =
     record {
       cohort = record { members = x.part.members; presume_commit = x.part.presume_commit };
       coordinator = part_in x.part.phase x.taken_out;
-      participant = λ p. participant_in (get_or x.participants p no_held).phase;
+      participant = λ p. participant_in (get_or x.participants p participant.Unknown);
       marked = has_kind x.marked;
       sent = λ p k. member p (get_or x.sent k 0);
       entered = entered_in x.committed x.aborted;
@@ -75,7 +71,7 @@ no_transaction =
     record {
       part = record { phase = coordinator.Unknown; members = 0; presume_commit = 0 };
       taken_out = 0;
-      participants = replicate 9 no_held;
+      participants = replicate 9 participant.Unknown;
       sent = replicate 8 0;
       marked = 0;
       committed = 0;

@@ -1,6 +1,6 @@
 // A transaction (01: a handover): the coordinator's part, and what each site has of it.
-ghost use Rattle.std.specs.Prelude.{◌≡◌, not, ◌||◌, ℕ, ◌≤◌};
-ghost use Rattle.codec.specs.Sets.{empty, member};
+ghost use Rattle.std.specs.Prelude.{◌≡◌, not, ℕ, ◌≤◌};
+ghost use Rattle.codec.specs.Sets.{empty};
 ghost use Rattle.site.specs.Numbers.{entry_of};
 ghost use Rattle.site.specs.Answers.{coordinator_state_in, cohort_in, participant_in, outcome_in, sending, effects_in};
 ghost use Rattle.joint.specs.State.{names, takes_part, with_coordinator, with_participant, with_marked, forgotten};
@@ -20,12 +20,6 @@ use site::phases::{CoordinatorPhase, ParticipantPhase};
 use site::presumption::Outcome;
 use site::record_kinds::has;
 
-// A participant's phase.
-#[derive(Clone, Copy)]
-pub struct Held {
-    pub phase: ParticipantPhase,
-}
-
 // The coordinator's phase, and the cohort as opened: the members, 0 until then, and those that presume commit.
 #[derive(Clone, Copy)]
 pub struct Part {
@@ -41,7 +35,7 @@ pub struct Transaction {
     // The participants that the coordinator has taken out.
     pub taken_out: u8,
     // By site; Unknown at the coordinator.
-    pub participants: [Held; Run::SITES],
+    pub participants: [ParticipantPhase; Run::SITES],
     // By kind of message: the participants whose message was sent.
     pub sent: [u8; Run::KINDS],
     // The participants that are marked as ones that only looked, bit p for participant p.
@@ -51,24 +45,11 @@ pub struct Transaction {
     pub aborted: u16,
 }
 
-// With the members of another set.
-fn with_all(set: u8, to: u8) -> u8
-    ensures { (q : ℕ) → member q result ≡ (member q set || member q to) }
-{
-    either(set, to)
-}
-
 // Whether members name a site: each participant among them, and the coordinator in any case.
 pub(crate) fn names(members: u8, site: u8) -> bool
     ensures { result ≡ names members site }
 {
     site == 0 || member(site, members)
-}
-
-impl Held {
-    pub const UNKNOWN: Held = Held {
-        phase: ParticipantPhase::Unknown,
-    };
 }
 
 impl Transaction {
@@ -82,7 +63,7 @@ impl Transaction {
                 presume_commit: 0,
             },
             taken_out: 0,
-            participants: [Held::UNKNOWN; Run::SITES],
+            participants: [ParticipantPhase::Unknown; Run::SITES],
             sent: [0; Run::KINDS],
             marked: 0,
             committed: 0,
@@ -91,8 +72,9 @@ impl Transaction {
     }
 
     // As its step takes it.
-    pub(crate) fn coordinator(self) -> Coordinator
-        ensures { (cohort_in result.cohort ≡ (transaction_in self).cohort) × (coordinator_state_in result.state ≡ (transaction_in self).coordinator) }
+    #[tactic(auto, unfolding(crate::specs::Answers::transaction_in))]
+    pub(crate) fn coordinator(&self) -> Coordinator
+        ensures { (cohort_in result.cohort ≡ (transaction_in self.now).cohort) × (coordinator_state_in result.state ≡ (transaction_in self.now).coordinator) }
     {
         Coordinator {
             cohort: Cohort {
@@ -106,39 +88,38 @@ impl Transaction {
         }
     }
 
-    pub fn opened(self) -> bool
-        ensures { result ≡ not (empty (transaction_in self).cohort.members) }
+    #[tactic(auto, unfolding(crate::specs::Answers::transaction_in, codec::specs::Sets::empty))]
+    pub fn opened(&self) -> bool
+        ensures { result ≡ not (empty (transaction_in self.now).cohort.members) }
     {
-        let part = self.part;
-        part.members != 0
+        self.part.members != 0
     }
 
     // The coordinator takes part in each transaction, a participant in those that it is a member of.
     #[tactic(auto, unfolding(crate::specs::Answers::transaction_in, crate::specs::State::takes_part))]
-    pub fn takes_part(self, site: u8) -> bool
-        ensures { result ≡ takes_part (transaction_in self) site }
+    pub fn takes_part(&self, site: u8) -> bool
+        ensures { result ≡ takes_part (transaction_in self.now) site }
     {
         names(self.part.members, site)
     }
 
-    pub fn marked(self, participant: u8) -> bool
-        ensures { result ≡ (transaction_in self).marked participant }
+    #[tactic(auto, unfolding(crate::specs::Answers::transaction_in))]
+    pub fn marked(&self, participant: u8) -> bool
+        ensures { result ≡ (transaction_in self.now).marked participant }
     {
         has(self.marked, participant)
     }
 
-    pub fn sent(self, participant: u8, kind: u8) -> bool
-        ensures { result ≡ (transaction_in self).sent participant kind }
+    pub fn sent(&self, participant: u8, kind: u8) -> bool
+        ensures { result ≡ (transaction_in self.now).sent participant kind }
     {
-        if Parts::LAST_KIND < kind {
-            return false;
-        }
-        let at = kind as usize;
-        member(participant, self.sent[at])
+        let to = self.sent.get(usize::from(kind)).copied().unwrap_or(0);
+        member(participant, to)
     }
 
-    pub fn entered(self, site: u8, outcome: Outcome) -> bool
-        ensures { result ≡ (transaction_in self).entered site (outcome_in outcome) }
+    #[tactic(auto, unfolding(crate::specs::Answers::transaction_in, crate::specs::Answers::entered_in))]
+    pub fn entered(&self, site: u8, outcome: Outcome) -> bool
+        ensures { result ≡ (transaction_in self.now).entered site (outcome_in outcome) }
     {
         match outcome {
             Outcome::Commit => has(self.committed, site),
@@ -146,79 +127,66 @@ impl Transaction {
         }
     }
 
-    pub fn participant_phase(self, participant: u8) -> ParticipantPhase
-        ensures { participant_in result ≡ (transaction_in self).participant participant }
+    pub fn participant_phase(&self, participant: u8) -> ParticipantPhase
+        ensures { participant_in result ≡ (transaction_in self.now).participant participant }
     {
-        if Run::LAST_SITE < participant {
-            return ParticipantPhase::Unknown;
-        }
-        let at = participant as usize;
-        let held = self.participants[at];
-        held.phase
+        let found = self.participants.get(usize::from(participant));
+        found.copied().unwrap_or(ParticipantPhase::Unknown)
     }
 
     // ---- changes
 
-    pub fn with_coordinator(self, phase: CoordinatorPhase, taken_out: u8) -> Transaction
+    #[tactic(auto, unfolding(crate::specs::Answers::transaction_in, crate::specs::State::with_coordinator))]
+    pub fn with_coordinator(mut self, phase: CoordinatorPhase, taken_out: u8) -> Transaction
         ensures { transaction_in result ≡ with_coordinator 0 (part_in phase taken_out) (transaction_in self) }
     {
-        let was = self.part;
-        let part = Part {
-            phase,
-            members: was.members,
-            presume_commit: was.presume_commit,
-        };
-        let mut transaction = self;
-        transaction.part = part;
-        transaction.taken_out = taken_out;
-        transaction
+        self.part.phase = phase;
+        self.taken_out = taken_out;
+        self
     }
 
-    pub(crate) fn with_participant(self, participant: usize, phase: ParticipantPhase) -> Transaction
+    pub(crate) fn with_participant(
+        mut self,
+        participant: usize,
+        phase: ParticipantPhase,
+    ) -> Transaction
         requires { participant ≤ 8 }
         ensures { transaction_in result ≡ with_participant participant (participant_in phase) (transaction_in self) }
     {
-        let mut transaction = self;
-        transaction.participants[participant] = Held { phase };
-        transaction
+        self.participants[participant] = phase;
+        self
     }
 
-    pub(crate) fn with_marked(self, participant: u8) -> Transaction
+    pub(crate) fn with_marked(mut self, participant: u8) -> Transaction
         requires { participant ≤ 8 }
         ensures { transaction_in result ≡ with_marked participant (transaction_in self) }
     {
-        let mut transaction = self;
-        transaction.marked = with_bit(self.marked, participant);
-        transaction
+        self.marked = with_bit(self.marked, participant);
+        self
     }
 
     // 1 commit, 2 abort; what is neither enters nothing.
-    fn enter(self, site: u8, entered: u8) -> Transaction
+    fn enter(mut self, site: u8, entered: u8) -> Transaction
         requires { site ≤ 8 }
         ensures { transaction_in result ≡ transaction_after site (entry_of entered) (transaction_in self) }
     {
-        let mut transaction = self;
-        if entered == Effects::COMMIT_ENTERED {
-            transaction.committed = with_bit(self.committed, site);
-            return transaction;
+        match entered {
+            Effects::COMMIT_ENTERED => self.committed = with_bit(self.committed, site),
+            Effects::ABORT_ENTERED => self.aborted = with_bit(self.aborted, site),
+            _ => {}
         }
-        if entered == Effects::ABORT_ENTERED {
-            transaction.aborted = with_bit(self.aborted, site);
-            return transaction;
-        }
-        transaction
+        self
     }
 
     // A message of each participant in a set. What is no kind of message is not sent.
-    fn send(self, kind: u8, to: u8) -> Transaction
+    fn send(mut self, kind: u8, to: u8) -> Transaction
         ensures { (s t owing : ℕ) → transaction_in result ≡ transaction_after s (sending t kind owing to) (transaction_in self) }
     {
-        let mut transaction = self;
-        if (to != 0) & (kind <= Parts::LAST_KIND) {
+        if kind <= Parts::LAST_KIND {
             let at = kind as usize;
-            transaction.sent[at] = with_all(self.sent[at], to);
+            self.sent[at] = either(self.sent[at], to);
         }
-        transaction
+        self
     }
 
     // With a row's entry and messages at a site.
@@ -226,8 +194,8 @@ impl Transaction {
         requires { site ≤ 8 }
         ensures { (t : ℕ) → transaction_in result ≡ transaction_after site (effects_in t effects) (transaction_in self) }
     {
-        let entered = self.enter(site, effects.entered);
-        entered.send(effects.message, effects.to)
+        self.enter(site, effects.entered)
+            .send(effects.message, effects.to)
     }
 
     // The phases at a site are Unknown, and the set taken out is gone with them.
@@ -268,28 +236,20 @@ impl Transaction {
     }
 
     // Opened: the coordinator Open, members Working.
-    pub fn open(self, members: u8, presume_commit: u8) -> Transaction
+    pub fn open(mut self, members: u8, presume_commit: u8) -> Transaction
         ensures { transaction_in result ≡ opened_as (record { members = members; presume_commit = presume_commit }) (transaction_in self) }
     {
-        let mut participants = self.participants;
-        let mut i: usize = 1;
-        while i < Run::SITES {
+        for (i, phase) in self.participants.iter_mut().enumerate() {
             if member(i as u8, members) {
-                participants[i] = Held {
-                    phase: ParticipantPhase::Working,
-                };
+                *phase = ParticipantPhase::Working;
             }
-            i += 1;
         }
-        let part = Part {
+        self.part = Part {
             phase: CoordinatorPhase::Open,
             members,
             presume_commit,
         };
-        let mut transaction = self;
-        transaction.participants = participants;
-        transaction.part = part;
-        transaction.taken_out = 0;
-        transaction
+        self.taken_out = 0;
+        self
     }
 }

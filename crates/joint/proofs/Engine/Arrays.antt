@@ -1,9 +1,9 @@
 -- Arrays of the program as functions of the index: what a store, a fresh array and a pass over all elements do to the function.
-use Prim.Native.Nat.{ℕ, zero, suc, ◌+◌, ◌≤◌, ◌<◌}
+use Prim.Native.Nat.{ℕ, zero, suc, ◌≤◌, ◌<◌}
 use mathlib.Core.Path.{◌≡◌, refl, sym, ap, ◌∙◌, fun_ext}
 use mathlib.Core.Bool.{Bool, true, false, cond}
 use mathlib.Core.List.{List, [], ◌∷◌, map}
-use lib.ListN.{length, get_or, set, length-map, length-set, replicate}
+use lib.ListN.{length, get_or, set, length-map, replicate}
 use lib.Seq.{get_or-set_same, get_or-set_other}
 use lib.Dec.{eqb, ltb}
 use borrow.Author.Tests.{eqb-true, eqb-false, ltb-true, ltb-false}
@@ -44,26 +44,6 @@ pub record Passed {A B : Type 0} (h : A → B) (g : B → B) (d : A) (before now
   pub back : (j : ℕ) → i ≤ j → get_or now j d ≡ get_or before j d
 
 module _ {A B : Type 0} (h : A → B) (g : B → B) (d : A) (before : List A) where
-  pub pass_starts : Passed h g d before before 0
-  pass_starts = record { length_kept = refl; front = λ j l. absurd (omega (arith, l)); back = λ j l. refl }
-
-  -- element i is stored, changed
-  pub pass_stores : (now : List A) (i : ℕ) (v : A) → Passed h g d before now i → i < length before → h v ≡ g (h (get_or now i d))
-      → Passed h g d before (set now i v) (i + 1)
-  pass_stores now i v p lt e =
-      record {
-        length_kept = simp length-set p.length_kept;
-        front = λ j l. front j l (eqb j i) refl;
-        back = λ j l. get_or-set_other now i j v d (λ q. absurd (omega (arith, l, q))) ∙ p.back j (omega (arith, l));
-      }
-    where
-      front : (j : ℕ) → j < i + 1 → (b : Bool) → eqb j i ≡ b → h (get_or (set now i v) j d) ≡ g (h (get_or before j d))
-      front j l true q =
-          rw (eqb-true j i q, get_or-set_same now i v d (omega (arith, lt, p.length_kept)))
-          (e ∙ ap (λ (x : A). g (h x)) (p.back i (omega arith)))
-      front j l false q =
-          ap h (get_or-set_other now i j v d (eqb-false j i q)) ∙ p.front j (omega (arith, l, eqb-false j i q))
-
   -- all have been passed: the change holds at every index, if it leaves the default
   pub pass_ends : (now : List A) (i : ℕ) → Passed h g d before now i → length before ≤ i → h d ≡ g (h d)
       → ◌≡◌ {A = ℕ → B} (λ j. h (get_or now j d)) (λ j. g (h (get_or before j d)))

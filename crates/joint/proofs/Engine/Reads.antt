@@ -15,7 +15,7 @@ use Rattle.joint.specs.declared.sites.Site.{Site}
 use Rattle.joint.specs.declared.records.Records.{Records}
 use Rattle.joint.specs.declared.transactions.Transaction.{Transaction}
 use Rattle.joint.specs.declared.run.Run.{Run}
-use Rattle.joint.proofs.Engine.Arrays.{stored, get_or_past}
+use Rattle.joint.proofs.Engine.Arrays.{stored}
 
 -- within an array the default does not matter
 pub get_or-within {ℓ} : {A : Type ℓ} (l : List A) (i : ℕ) (d e : A) → i < length l → get_or l i d ≡ get_or l i e
@@ -39,19 +39,6 @@ module _ (r : Run) where
   pub transaction_read : (i : ℕ) (d : Transaction) → length r.transactions ≡ 8 → i ≤ 7 → transaction_in (get_or r.transactions i d) ≡ (run_in r).transaction i
   unfolding run_in
   transaction_read i d e h = ap transaction_in (get_or-within r.transactions i d no_transaction (omega (arith, e, h)))
-
-  -- what is no site or no transaction is as in a fresh run
-  pub up_past : (i : ℕ) → length r.sites ≡ 9 → 8 < i → ((run_in r).site i).up ≡ true
-  unfolding run_in site_from
-  up_past i e h = ap (λ (x : Site). x.up) (get_or_past r.sites i no_site (omega (arith, e, h)))
-
-  pub up_read : (i : ℕ) (d : Site) → length r.sites ≡ 9 → i ≤ 8 → (get_or r.sites i d).up ≡ ((run_in r).site i).up
-  unfolding run_in site_from
-  up_read i d e h = ap (λ (x : Site). x.up) (get_or-within r.sites i d no_site (omega (arith, e, h)))
-
-  pub transaction_past : (i : ℕ) → length r.transactions ≡ 8 → 7 < i → (run_in r).transaction i ≡ transaction_in no_transaction
-  unfolding run_in
-  transaction_past i e h = ap transaction_in (get_or_past r.transactions i no_transaction (omega (arith, e, h)))
 
 -- ---- stores
 

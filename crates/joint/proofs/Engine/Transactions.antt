@@ -1,13 +1,13 @@
 -- What the program's changes of a transaction do to what it stands for.
 use Prim.Native.Nat.{ℕ, zero, suc, ◌+◌, ◌-◌, ◌≤◌, ◌<◌}
 use mathlib.Core.Path.{◌≡◌, refl, sym, ◌∙◌, fun_ext}
-use mathlib.Core.Bool.{Bool, true, false, cond, not, ◌&&◌, ◌||◌, and-true, and-false, and-eq-true_iff}
-use mathlib.Core.List.{List, [], ◌∷◌, map}
+use mathlib.Core.Bool.{Bool, true, false, cond, ◌&&◌, ◌||◌, and-true, and-false}
+use mathlib.Core.List.{List}
 use lib.ListN.{length, get_or, set}
 use lib.Seq.{get_or-set_same, get_or-set_other}
-use lib.Dec.{eqb, leb, ltb, eqb→eq}
+use lib.Dec.{eqb, ltb, eqb→eq}
 use native.Mathlib.Omega.{arith}
-use borrow.Author.Tests.{eqb-true, eqb-false, ltb-true, ltb-false, lt-ltb, le-ltb, le-leb, leb-true}
+use borrow.Author.Tests.{eqb-true, eqb-false, ltb-true, ltb-false, lt-ltb, le-ltb, le-leb, lt-leb}
 use Rattle.codec.specs.Lists.{any}
 use Rattle.codec.specs.Sets.{member, either}
 use Rattle.codec.specs.Laws.Tests.{below_at}
@@ -16,29 +16,22 @@ use Rattle.codec.specs.Laws.Members.{no_participant, numbered, no_member}
 use Rattle.site.specs.Presumption as outcomes
 use Rattle.site.specs.Presumption.{commit, abort, same_outcome}
 use Rattle.site.specs.Cohort.{Cohort}
-use Rattle.site.specs.Step.{prepare, messages, message_kind, send, given}
+use Rattle.site.specs.Step.{prepare, messages, message_kind, given}
 use Rattle.site.specs.Coordinator as coordinator
 use Rattle.site.specs.Coordinator.{ordered}
 use Rattle.site.specs.Participant as participant
 use Rattle.site.specs.Answers.{participant_in, has_kind, sending}
 use Rattle.site.specs.declared.phases.CoordinatorPhase.TheVariants as phases
 use Rattle.site.specs.declared.phases.ParticipantPhase.{ParticipantPhase}
-use Rattle.site.specs.Laws.Order.{ordered-none}
+use Rattle.site.specs.declared.phases.ParticipantPhase.TheVariants as held
 use Rattle.joint.specs.State as plain
-use Rattle.joint.specs.State.{takes_part, update, with_participant, with_marked, with_entered, forgotten}
+use Rattle.joint.specs.State.{update, with_participant, with_marked, with_entered, forgotten}
 use Rattle.joint.specs.Plan.{opened_as}
-use Rattle.joint.specs.Answers.{transaction_in, entered_in, no_held}
+use Rattle.joint.specs.Answers.{transaction_in, entered_in}
 use Rattle.joint.specs.Inside.{transaction_after}
-use Rattle.joint.specs.declared.transactions.Held.{Held}
 use Rattle.joint.specs.declared.transactions.Transaction.{Transaction}
 use Rattle.joint.proofs.Base.Sends.{sent-each, any_ordered}
 use Rattle.joint.proofs.Engine.Arrays.{stored}
-
--- below its length an array reads the same with any default
-pub read_any : {A : Type 0} (l : List A) (i : ℕ) (d d' : A) → i < length l → get_or l i d ≡ get_or l i d'
-read_any [] i d d' h = absurd (omega (arith, h))
-read_any (x ∷ l) zero d d' h = refl
-read_any (x ∷ l) (suc i) d d' h = read_any l i d d' (omega (arith, h))
 
 transaction_path : {g : Cohort} {c : coordinator.Coordinator} {p p' : ℕ → participant.ParticipantPhase} {m : ℕ → Bool} {s s' : ℕ → ℕ → Bool} {e e' : ℕ → outcomes.Outcome → Bool}
     → p ≡ p' → s ≡ s' → e ≡ e'
@@ -46,11 +39,6 @@ transaction_path : {g : Cohort} {c : coordinator.Coordinator} {p p' : ℕ → pa
 transaction_path {g} {c} {m} p s e = λ i. record { cohort = g; coordinator = c; participant = p i; marked = m; sent = s i; entered = e i }
 
 -- ---- by site
-
-pub part-member : (x : plain.Transaction) (s : ℕ) → (s ≡ 0 → ⊥) → takes_part x s ≡ member s x.cohort.members
-unfolding takes_part
-part-member x zero h = absurd (h refl)
-part-member x (suc n) h = refl
 
 pub forgotten-participant : (x : plain.Transaction) (s : ℕ) → (s ≡ 0 → ⊥) → forgotten s x ≡ with_participant s participant.unknown x
 unfolding forgotten plain.with_coordinator with_participant
@@ -60,11 +48,11 @@ forgotten-participant x (suc n) h = refl
 -- ---- a phase is stored
 
 pub phase-stored : (x : Transaction) (i : ℕ) → i < length x.participants → (phase : ParticipantPhase)
-    → transaction_in (record { part = x.part; taken_out = x.taken_out; participants = set x.participants i (record { phase = phase }); marked = x.marked; sent = x.sent; committed = x.committed; aborted = x.aborted })
+    → transaction_in (record { part = x.part; taken_out = x.taken_out; participants = set x.participants i phase; marked = x.marked; sent = x.sent; committed = x.committed; aborted = x.aborted })
     ≡ with_participant i (participant_in phase) (transaction_in x)
 unfolding transaction_in with_participant
 phase-stored x i lt phase =
-    transaction_path (stored (λ (v : Held). participant_in v.phase) (λ _. participant_in phase) x.participants i (record { phase = phase }) no_held lt refl) refl refl
+    transaction_path (stored participant_in (λ _. participant_in phase) x.participants i phase held.Unknown lt refl) refl refl
 
 -- ---- a mark is stored
 
@@ -141,19 +129,10 @@ sent_all x t kind owing to v k lt byte e s =
             (or_comm (member q (get_or x.sent kind 0)) (member q to))
         by false h = rw (get_or-set_other x.sent kind j v 0 (eqb-false j kind h), and-false) refl
 
--- what is sent is a message
-pub is_kind : (to kind : ℕ) → (not (eqb to 0) && leb kind 7) ≡ true → kind ≤ 7
-is_kind to kind q = leb-true kind 7 ((and-eq-true_iff (not (eqb to 0)) (leb kind 7)).0 q).1
-
--- to nobody, or what is no message
-pub sent-none : (t kind owing to : ℕ) → (not (eqb to 0) && leb kind 7) ≡ false → (s : ℕ) (x : plain.Transaction) → x ≡ transaction_after s (sending t kind owing to) x
+-- what is no message
+pub sent-none : (t kind owing to : ℕ) → 7 < kind → (s : ℕ) (x : plain.Transaction) → x ≡ transaction_after s (sending t kind owing to) x
 unfolding sending given transaction_after
-sent-none t kind owing to q s x = by (eqb to 0) refl (leb kind 7) q
-  where
-    by : (z : Bool) → eqb to 0 ≡ z → (m : Bool) → (not z && m) ≡ false → x ≡ transaction_after s (cond m (map (send (get_or messages kind prepare)) (ordered t owing to)) []) x
-    by true e true q = rw (eqb-true to 0 e, ordered-none t owing) refl
-    by z e false q = refl
-    by false e true q = cc
+sent-none t kind owing to q s x = rw (lt-leb kind 7 q) refl
 
 -- ---- a transaction is opened
 
@@ -178,13 +157,12 @@ ltb_next p n = go (eqb p n) refl (ltb p n) refl
     go false e false h = le-ltb p (n + 1) (omega (arith, ltb-false p n h, eqb-false p n e))
 
 module _ (m : ℕ) (x : plain.Transaction) where
-  -- no site below 1 is a member
-  pub none_working : m < 256 → working_below 1 m x ≡ x
+  pub none_working : working_below 0 m x ≡ x
   unfolding working_below
-  none_working h = transaction_path (fun_ext (λ p. go p (ltb p 1) refl)) refl refl
+  none_working = transaction_path (fun_ext (λ p. go p (ltb p 0) refl)) refl refl
     where
-      go : (p : ℕ) (b : Bool) → ltb p 1 ≡ b → cond (b && member p m) participant.working (x.participant p) ≡ x.participant p
-      go p true e = rw (no_member p m h (rw e refl)) refl
+      go : (p : ℕ) (b : Bool) → ltb p 0 ≡ b → cond (b && member p m) participant.working (x.participant p) ≡ x.participant p
+      go p true e = absurd (omega (arith, ltb-true p 0 e))
       go p false e = refl
 
   -- the next site, if it is a member, and if not
@@ -209,7 +187,7 @@ module _ (m : ℕ) (x : plain.Transaction) where
       go p false q = refl
 
 -- the coordinator Open, with phases
-abbrev pub opening : Transaction → ℕ → ℕ → List Held → Transaction
+abbrev pub opening : Transaction → ℕ → ℕ → List ParticipantPhase → Transaction
 opening x m pc held =
     record {
       part = record { phase = phases.Open; members = m; presume_commit = pc };

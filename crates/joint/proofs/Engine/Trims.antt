@@ -60,7 +60,7 @@ moved k n rs lt few =
     let split : n ≡ suc k + m = omega arith in
     let whole : take (k + m) (copy_within rs (k + 1) n k) ≡ take k rs ++ take m (drop (k + 1) rs) =
     take-paste rs k (drop (k + 1) rs) m (omega arith) (simp length-drop (omega arith)) in
-    rw (e, take-map) (ap (map record_in) whole ∙ map-append record_in (take k rs) (take m (drop (k + 1) rs))
+    rw (e, take-map record_in (k + m) (copy_within rs (k + 1) n k)) (ap (map record_in) whole ∙ map-append record_in (take k rs) (take m (drop (k + 1) rs))
     ∙ rw (← take-map record_in k rs, ← take-map record_in m (drop (k + 1) rs), ← drop-map record_in (k + 1) rs) (shifted k n m (map record_in rs) split))
 
 -- ---- the site

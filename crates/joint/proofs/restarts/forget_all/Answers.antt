@@ -6,8 +6,8 @@ use Rattle.site.specs.Answers.{participant_in}
 use Rattle.site.specs.Participant.{ParticipantPhase}
 use Rattle.joint.specs.State as plain
 use Rattle.joint.specs.State.{update, forgotten, with_coordinator, with_participant}
-use Rattle.joint.specs.Answers.{no_held, transaction_in, no_transaction}
-use Rattle.joint.specs.declared.transactions.Held.{Held}
+use Rattle.joint.specs.Answers.{transaction_in, no_transaction}
+use Rattle.site.specs.declared.phases.ParticipantPhase.TheVariants as held
 use Rattle.joint.specs.declared.transactions.Transaction.{Transaction}
 use Rattle.joint.proofs.Engine.Arrays.{length-shown, all-default, pass_starts, pass_stores, pass_ends}
 use Rattle.joint.proofs.Base.Placed.{update-own}
@@ -23,7 +23,7 @@ none_forgotten s = go s
     x = transaction_in no_transaction
 
     unknown : (s : ℕ) → x.participant s ≡ ParticipantPhase.unknown
-    unknown s = unfold transaction_in in ap (λ (h : Held). participant_in h.phase) (all-default 9 s no_held)
+    unknown s = unfold transaction_in in ap participant_in (all-default 9 s held.Unknown)
 
     same : (s : ℕ) → x.participant ≡ update s (λ _. ParticipantPhase.unknown) x.participant
     same s = sym (update-own s x.participant) ∙ ap (λ (c : ParticipantPhase). update s (λ _. c) x.participant) (unknown s)

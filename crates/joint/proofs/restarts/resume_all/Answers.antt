@@ -13,7 +13,7 @@ use Rattle.joint.specs.Inside.{transaction_after, then_transaction, resumed_in}
 use Rattle.joint.specs.declared.transactions.Transaction.{Transaction}
 use Rattle.joint.proofs.Engine.Arrays.{length-shown}
 use Rattle.joint.proofs.Engine.Effects.{row-sends}
-use Rattle.joint.proofs.Engine.Transactions.{read_any}
+use Rattle.joint.proofs.Engine.Reads.{get_or-within}
 use Rattle.joint.proofs.Engine.Resuming.{resuming_starts, resuming-row, resuming_passed, resuming_ends}
 use Rattle.joint.proofs.restarts.resume_all.Goals as goal
 use Rattle.joint.proofs.restarts.resume_all.Goals.{then-opened, else-opened}
@@ -23,7 +23,7 @@ loop-i-init c = resuming_starts _ _ _ _ _ (search length-shown)
 
 -- transaction i is read, and whether it is opened
 read : (l : List Transaction) (i : ℕ) (d : Transaction) → i < length l → transaction_in (get_or l i d) ≡ transactions_in l i
-read l i d h = ap transaction_in (read_any l i d no_transaction h)
+read l i d h = ap transaction_in (get_or-within l i d no_transaction h)
 
 is_opened : (l : List Transaction) (i : ℕ) (d : Transaction) (o b : Bool) → i < length l → o ≡ not (empty (transaction_in (get_or l i d)).cohort.members) → o ≡ b
     → not (empty (transactions_in l i).cohort.members) ≡ b

@@ -7,9 +7,10 @@ use Rattle.codec.specs.Sets.{member}
 use Rattle.codec.specs.Laws.Members.{high_bits, none_in}
 use Rattle.site.specs.Presumption.{Outcome, commit, abort}
 use Rattle.site.specs.Answers.{participant_in, has_kind}
+use Rattle.site.specs.declared.phases.ParticipantPhase.TheVariants as held
 use Rattle.joint.specs.State.{unknown_part, fresh}
 use Rattle.joint.specs.Totals.{highest, held}
-use Rattle.joint.specs.Answers.{site_from, no_site, no_records, entered_in, no_held, transaction_in, no_transaction, run_in, forces_in}
+use Rattle.joint.specs.Answers.{site_from, no_site, no_records, entered_in, transaction_in, no_transaction, run_in, forces_in}
 use Rattle.joint.specs.declared.sites.Site.{Site}
 use Rattle.joint.specs.declared.records.Records.{Records}
 use Rattle.joint.proofs.Engine.Arrays.{all-default}
@@ -35,7 +36,7 @@ no_transaction_lem t =
     λ i. record {
       cohort = (fresh.transaction t).cohort;
       coordinator = unknown_part;
-      participant = λ p. participant_in (all-default 9 p no_held i).phase;
+      participant = λ p. participant_in (all-default 9 p held.Unknown i);
       marked = λ p. no_kind p i;
       sent = λ p k. (ap (member p) (all-default 8 k 0) ∙ none_in p) i;
       entered = λ s o. nothing_entered s o i;

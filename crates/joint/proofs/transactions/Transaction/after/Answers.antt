@@ -9,5 +9,5 @@ pub returns : goal.returns
 returns c t =
     let a = c.args in
     c.send.ensures a.site t a.effects.owing
-    ∙ ap (transaction_after a.site (sending t a.effects.message a.effects.owing a.effects.to)) c.enter-entered.ensures
+    ∙ ap (transaction_after a.site (sending t a.effects.message a.effects.owing a.effects.to)) c.enter.ensures
     ∙ sym (transaction-row a.site t (transaction_in a.self) a.effects)

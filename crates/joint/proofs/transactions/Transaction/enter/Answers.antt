@@ -1,5 +1,6 @@
 use Prim.Native.Nat.{ℕ, zero, suc}
 use mathlib.Core.Path.{◌≡◌, refl, sym}
+use native.Mathlib.Omega.{arith}
 use Rattle.site.specs.Numbers.{entry_of}
 use Rattle.joint.specs.State as plain
 use Rattle.joint.specs.Inside.{transaction_after}
@@ -13,17 +14,17 @@ nothing_entered s x (suc zero) a b = absurd (a refl)
 nothing_entered s x (suc (suc zero)) a b = absurd (b refl)
 nothing_entered s x (suc (suc (suc n))) a b = refl
 
-pub returns-then-entered-eq-COMMIT_ENTERED : goal.returns-then-entered-eq-COMMIT_ENTERED
+pub returns-in-1 : goal.returns-in-1
 unfolding entry_of transaction_after
-returns-then-entered-eq-COMMIT_ENTERED c =
+returns-in-1 c =
     let a = c.args in
-    rw c.if-entered-eq-COMMIT_ENTERED.true (commit_entered a.self a.site c.with_bit.result c.with_bit.ensures)
+    rw c.in-1.is (commit_entered a.self a.site c.with_bit.result c.with_bit.ensures)
 
-pub returns-then-entered-eq-ABORT_ENTERED : goal.returns-then-entered-eq-ABORT_ENTERED
+pub returns-in-2 : goal.returns-in-2
 unfolding entry_of transaction_after
-returns-then-entered-eq-ABORT_ENTERED c =
+returns-in-2 c =
     let a = c.args in
-    rw c.if-entered-eq-ABORT_ENTERED.true (abort_entered a.self a.site c.with_bit-then-entered-eq-ABORT_ENTERED.result c.with_bit-then-entered-eq-ABORT_ENTERED.ensures)
+    rw c.in-2.is (abort_entered a.self a.site c.with_bit-in-2.result c.with_bit-in-2.ensures)
 
-pub returns : goal.returns
-returns c = sym (nothing_entered _ _ c.args.entered c.if-entered-eq-COMMIT_ENTERED.false c.if-entered-eq-ABORT_ENTERED.false)
+pub returns-in_default : goal.returns-in_default
+returns-in_default c = sym (nothing_entered _ _ c.args.entered (omega arith) (omega arith))

@@ -1,6 +1,7 @@
 use Prim.Native.Nat.{◌<◌}
 use mathlib.Core.Path.{◌≡◌, sym, ap, ◌∙◌}
 use lib.ListN.{length, length-set}
+use lib.Seq.{set-get_or}
 use native.Mathlib.Omega.{arith}
 use Rattle.site.specs.Participant.{working}
 use Rattle.site.specs.declared.phases.ParticipantPhase.TheVariants as phases
@@ -12,30 +13,23 @@ use Rattle.joint.proofs.transactions.Transaction.open.Goals.{then-member, else-m
 
 pub loop-i-init : goal.loop-i-init
 loop-i-init c =
-    let a = c.args in
-    let n : length a.self.participants ≡ 9 = search length-shown in
-    (omega arith, (omega arith, (n, sym (none_working a.members _ (omega arith)))))
+    let n : length c.args.self.participants ≡ 9 = search length-shown in
+    (n, sym (none_working c.args.members _))
 
 pub loop-i-preserved : goal.loop-i-preserved
 loop-i-preserved c =
     let l = c.loop-i in
     let a = c.args in
-    let lt : l.i < length l.participants = omega arith in
+    let lt : l.i < length l.phase-items = omega arith in
     let known = c.member.ensures in
     elim c.if-member.branch [
-      | then-member w ↦ (
-        omega arith,
-        (
-          omega arith,
-          rw w.participants-is (
-            simp length-set l.invariant.1.1.0,
-            phase-stored (opening a.self a.members a.presume_commit l.participants) l.i lt phases.Working
-                ∙ ap (with_participant l.i working) l.invariant.1.1.1
-                ∙ next_working a.members _ l.i (sym known ∙ w.if-member.true),
-          ),
-        ),
+      | then-member w ↦ rw w.phase-items-is (
+        simp length-set l.invariant.0,
+        phase-stored (opening a.self a.members a.presume_commit l.phase-items) l.i lt phases.Working
+            ∙ ap (with_participant l.i working) l.invariant.1
+            ∙ next_working a.members _ l.i (sym known ∙ w.if-member.true),
       )
-      | else-member w ↦ (omega arith, (omega arith, rw w.participants-is (l.invariant.1.1.0, l.invariant.1.1.1 ∙ next_left a.members _ l.i (sym known ∙ w.if-member.false))))
+      | else-member w ↦ rw (w.phase-items-is, set-get_or l.phase-items l.i _) (l.invariant.0, l.invariant.1 ∙ next_left a.members _ l.i (sym known ∙ w.if-member.false))
     ]
 
 pub returns : goal.returns
@@ -43,4 +37,4 @@ returns c =
     let l = c.loop-i in
     let a = c.args in
     let all : l.i ≡ 9 = omega arith in
-    rw all at l.invariant.1.1.1 ∙ all_working a.members a.presume_commit a.self (omega arith)
+    rw all at l.invariant.1 ∙ all_working a.members a.presume_commit a.self (omega arith)

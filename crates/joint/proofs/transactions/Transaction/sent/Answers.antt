@@ -1,19 +1,13 @@
-use mathlib.Core.Path.{◌≡◌, sym}
-use lib.ListN.{length}
-use native.Mathlib.Omega.{arith}
-use Rattle.codec.specs.Laws.Members.{none_in}
-use Rattle.joint.specs.Answers.{transaction_in}
-use Rattle.joint.proofs.Engine.Arrays.{get_or_past}
+use mathlib.Core.Path.{◌≡◌, ap, ◌∙◌}
+use lib.ListN.{get_or}
 use borrow.Author.Rules.{rules}
+use Rattle.codec.specs.Sets.{member}
+use Rattle.joint.specs.Answers.{transaction_in}
 use Rattle.joint.proofs.transactions.Transaction.sent.Goals as goal
-
-pub returns-then-kind-gt-LAST_KIND : goal.returns-then-kind-gt-LAST_KIND
-unfolding transaction_in
-returns-then-kind-gt-LAST_KIND c =
-    let a = c.args in
-    let n : length a.self.sent ≡ 8 = search rules in
-    rw (get_or_past a.self.sent a.kind 0 (omega arith)) (sym (none_in a.participant))
 
 pub returns : goal.returns
 unfolding transaction_in
-returns c = c.member.ensures
+returns c =
+    let a = c.args in
+    let e : c.unwrap_or-to.result ≡ get_or a.self.now.sent a.kind 0 = search rules in
+    c.member.ensures ∙ ap (member a.participant) e
