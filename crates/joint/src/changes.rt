@@ -74,17 +74,13 @@ fn carry(site: Site, transaction: u8, row: Row, cut: Option<Cut>) -> Result<Row,
 fn all_up(sites: [Site; Run::SITES], members: u8) -> bool
     ensures { result ≡ not (any (λ s. not (get_or sites s no_site).up) (0 ∷ listed members)) }
 {
-    let coordinator = sites[0];
-    if !coordinator.up {
+    if !sites[0].up {
         return false;
     }
-    let mut i: u8 = 1;
-    while i <= Run::LAST_SITE {
-        let site = sites[i as usize];
-        if member(i, members) & !site.up {
+    for i in 1..=Run::LAST_SITE {
+        if member(i, members) & !sites[i as usize].up {
             return false;
         }
-        i += 1;
     }
     true
 }

@@ -59,18 +59,15 @@ fn resume_all(
     let mut transactions = transactions;
     let mut left = cut;
     let mut sends: u8 = 0;
-    let mut i: usize = 0;
-    while i < Run::TRANSACTIONS {
-        let at = i;
-        i += 1;
-        let transaction = transactions[at];
+    for i in 0..Run::TRANSACTIONS {
+        let transaction = transactions[i];
         if transaction.opened() {
-            let number = at as u8;
-            let row = Row::restart(transaction, number, site, kinds[at], records, count);
+            let number = i as u8;
+            let row = Row::restart(transaction, number, site, kinds[i], records, count);
             let effects = row.effects;
             let happened = effects.cut(number, left);
             let after = transaction.after(site, happened);
-            transactions[at] = after.settle(site, row.then);
+            transactions[i] = after.settle(site, row.then);
             left = less(left, effects.count());
             sends += happened.sends();
         }

@@ -1,4 +1,3 @@
-use Prim.Native.Nat.{◌-◌}
 use mathlib.Core.Bool.{not}
 use lib.ListN.{get_or}
 use Rattle.joint.specs.Answers.{no_site}
@@ -7,6 +6,3 @@ use Rattle.joint.proofs.changes.all_up.Given as goal
 
 abbrev pub invariant-loop-i : goal.invariant-loop-i
 invariant-loop-i l = Reached (λ s. not (get_or l.sites s no_site).up) l.members l.i
-
-abbrev pub decreases-loop-i : goal.decreases-loop-i
-decreases-loop-i l = 9 - l.i

@@ -15,6 +15,7 @@ use Rattle.joint.proofs.Engine.Effects.{row-sends}
 use Rattle.joint.proofs.Engine.Transactions.{read_any}
 use Rattle.joint.proofs.Engine.Resuming.{resuming_starts, resuming-row, resuming_passed, resuming_ends}
 use Rattle.joint.proofs.restarts.resume_all.Goals as goal
+use Rattle.joint.proofs.restarts.resume_all.Goals.{then-opened, else-opened}
 
 pub loop-i-init : goal.loop-i-init
 loop-i-init c = resuming_starts _ _ _ _ _ (search length-shown)
@@ -32,28 +33,28 @@ overflow_add-sends c =
     let below : c.loop-i.i < 8 = omega arith in
     record { fits = omega (arith, c.sends-sends.ensures.1, c.loop-i.invariant.few, below) }
 
-pub loop-i-preserved-then-opened : goal.loop-i-preserved-then-opened
-loop-i-preserved-then-opened c =
-    let l = c.loop-i in
-    let below : l.i < 8 = omega arith in
-    let within : l.i < length l.transactions = omega (arith, below, l.invariant.size) in
-    let a = c.args in
-    let hs = effects_in l.i c.cut-happened.result in
-    resuming-row a.site a.cut a.kinds.of _ a.transactions _ l.left l.sends l.i l.invariant below (is_opened l.transactions l.i _ c.opened.result _ within c.opened.ensures c.if-opened.true)
-    c.restart-row.result hs c.settle.result c.less-left.result c.sends-sends.result
-    (λ x e. c.restart-row.ensures x (read l.transactions l.i _ within ∙ e))
-    c.cut-happened.ensures
-    (c.settle.ensures ∙ ap (then_transaction a.site c.restart-row.result.then) (c.after-after.ensures l.i ∙ ap (transaction_after a.site hs) (read l.transactions l.i _ within)))
-    (c.less-left.ensures ∙ ap (λ (k : ℕ). l.left - k) (c.count.ensures l.i))
-    (c.sends-sends.ensures.0 l.i ∙ sym (row-sends l.i c.cut-happened.result))
-    c.sends-sends.ensures.1
-
 pub loop-i-preserved : goal.loop-i-preserved
 loop-i-preserved c =
     let l = c.loop-i in
     let below : l.i < 8 = omega arith in
     let within : l.i < length l.transactions = omega (arith, below, l.invariant.size) in
-    resuming_passed _ _ _ _ _ _ l.left l.sends l.i l.invariant below (is_opened l.transactions l.i _ c.opened.result _ within c.opened.ensures c.if-opened.false)
+    let a = c.args in
+    elim c.if-opened.branch [
+      | then-opened w ↦
+          let hs = effects_in l.i w.cut-happened.result in
+          rw (w.transactions-is, w.left-is, w.sends-is)
+          (resuming-row a.site a.cut a.kinds.of _ a.transactions _ l.left l.sends l.i l.invariant below (is_opened l.transactions l.i _ c.opened.result _ within c.opened.ensures w.if-opened.true)
+          w.restart-row.result hs w.settle.result w.less-left.result w.sends-sends.result
+          (λ x e. w.restart-row.ensures x (read l.transactions l.i _ within ∙ e))
+          w.cut-happened.ensures
+          (w.settle.ensures ∙ ap (then_transaction a.site w.restart-row.result.then) (w.after-after.ensures l.i ∙ ap (transaction_after a.site hs) (read l.transactions l.i _ within)))
+          (w.less-left.ensures ∙ ap (λ (k : ℕ). l.left - k) (w.count.ensures l.i))
+          (w.sends-sends.ensures.0 l.i ∙ sym (row-sends l.i w.cut-happened.result))
+          w.sends-sends.ensures.1)
+      | else-opened w ↦
+          rw (w.transactions-is, w.left-is, w.sends-is)
+          (resuming_passed _ _ _ _ _ _ l.left l.sends l.i l.invariant below (is_opened l.transactions l.i _ c.opened.result _ within c.opened.ensures w.if-opened.false))
+    ]
 
 pub returns : goal.returns
 unfolding resumed_in
