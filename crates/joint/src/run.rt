@@ -84,9 +84,7 @@ impl Run {
         if Run::LAST_SITE < site {
             return true;
         }
-        let at = site as usize;
-        let found = self.sites[at];
-        found.up
+        self.sites[site as usize].up
     }
 
     pub(crate) fn transaction(self, transaction: u8) -> Transaction
@@ -95,70 +93,58 @@ impl Run {
         if Parts::LAST_TRANSACTION < transaction {
             return Transaction::new();
         }
-        let at = transaction as usize;
-        self.transactions[at]
+        self.transactions[transaction as usize]
     }
 
     pub fn members(self, transaction: u8) -> u8
         ensures { result ≡ ((run_in self).transaction transaction).cohort.members }
     {
-        let found = self.transaction(transaction);
-        let part = found.part;
-        part.members
+        self.transaction(transaction).part.members
     }
 
     pub fn presume_commit(self, transaction: u8) -> u8
         ensures { result ≡ ((run_in self).transaction transaction).cohort.presume_commit }
     {
-        let found = self.transaction(transaction);
-        let part = found.part;
-        part.presume_commit
+        self.transaction(transaction).part.presume_commit
     }
 
     pub fn coordinator_phase(self, transaction: u8) -> CoordinatorPhase
         ensures { coordinator_in result ≡ ((run_in self).transaction transaction).coordinator.phase }
     {
-        let found = self.transaction(transaction);
-        let part = found.part;
-        part.phase
+        self.transaction(transaction).part.phase
     }
 
     // The participants that the coordinator has taken out.
     pub fn taken_out(self, transaction: u8) -> u8
         ensures { result ≡ ((run_in self).transaction transaction).coordinator.taken_out }
     {
-        let found = self.transaction(transaction);
-        found.taken_out
+        self.transaction(transaction).taken_out
     }
 
     pub fn participant_phase(self, transaction: u8, participant: u8) -> ParticipantPhase
         ensures { participant_in result ≡ ((run_in self).transaction transaction).participant participant }
     {
-        let found = self.transaction(transaction);
-        found.participant_phase(participant)
+        self.transaction(transaction).participant_phase(participant)
     }
 
     // Whether a participant is marked as one that only looked.
     pub fn marked(self, transaction: u8, participant: u8) -> bool
         ensures { result ≡ ((run_in self).transaction transaction).marked participant }
     {
-        let found = self.transaction(transaction);
-        found.marked(participant)
+        self.transaction(transaction).marked(participant)
     }
 
     // Whether a message of a kind, to a participant or from it, was sent.
     pub fn sent(self, transaction: u8, participant: u8, kind: u8) -> bool
         ensures { result ≡ ((run_in self).transaction transaction).sent participant kind }
     {
-        let found = self.transaction(transaction);
-        found.sent(participant, kind)
+        self.transaction(transaction).sent(participant, kind)
     }
 
     pub fn entered(self, transaction: u8, site: u8, outcome: Outcome) -> bool
         ensures { result ≡ ((run_in self).transaction transaction).entered site (outcome_in outcome) }
     {
-        let found = self.transaction(transaction);
-        found.entered(site, outcome)
+        self.transaction(transaction).entered(site, outcome)
     }
 
     // A site's log image from `at` on: 0, or the number that refuses it, 21, 23, 27, 28, 24 or 25, and the buffer as it was.
@@ -169,8 +155,6 @@ impl Run {
             return Log::OVER_LIMIT;
         }
         let i = site as usize;
-        let found = self.sites[i];
-        let records = self.records[i];
-        records.write_log(site, found.stable_count(), buffer, at)
+        self.records[i].write_log(site, self.sites[i].stable_count(), buffer, at)
     }
 }

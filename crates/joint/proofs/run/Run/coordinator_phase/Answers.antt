@@ -5,4 +5,4 @@ use Rattle.joint.proofs.run.Run.coordinator_phase.Goals as goal
 
 pub returns : goal.returns
 unfolding transaction_in
-returns c = ap (λ (x : plain.Transaction). x.coordinator.phase) c.transaction-found.ensures
+returns c = ap (λ (x : plain.Transaction). x.coordinator.phase) c.transaction.ensures

@@ -5,4 +5,4 @@ use Rattle.joint.proofs.run.Run.sent.Goals as goal
 pub returns : goal.returns
 returns c =
     let a = c.args in
-    c.sent.ensures ∙ ap (λ (x : plain.Transaction). x.sent a.participant a.kind) c.transaction-found.ensures
+    c.sent.ensures ∙ ap (λ (x : plain.Transaction). x.sent a.participant a.kind) c.transaction.ensures

@@ -5,4 +5,4 @@ use Rattle.joint.proofs.run.Run.taken_out.Goals as goal
 
 pub returns : goal.returns
 unfolding transaction_in
-returns c = ap (λ (x : plain.Transaction). x.coordinator.taken_out) c.transaction-found.ensures
+returns c = ap (λ (x : plain.Transaction). x.coordinator.taken_out) c.transaction.ensures
