@@ -5,7 +5,7 @@ use Rattle.codec.specs.Sets.{member}
 use Rattle.codec.specs.Answers.{record_in, no_record}
 use Rattle.site.specs.Presumption.{Outcome, commit, abort}
 use Rattle.site.specs.Coordinator.{Coordinator}
-use Rattle.site.specs.Answers.{coordinator_in, participant_in, has_kind}
+use Rattle.site.specs.Answers.{coordinator_state_in, cohort_in, participant_in, has_kind}
 use Rattle.site.specs.declared.phases.CoordinatorPhase.{CoordinatorPhase}
 use Rattle.site.specs.declared.phases.CoordinatorPhase.TheVariants as coordinator
 use Rattle.site.specs.declared.phases.ParticipantPhase.TheVariants as participant
@@ -50,16 +50,12 @@ unfoldable pub entered_in : ℕ → ℕ → ℕ → Outcome → Bool
 entered_in committed aborted s commit = has_kind committed s
 entered_in committed aborted s abort = has_kind aborted s
 
--- the coordinator's part, from its phase and the set taken out
-abbrev pub part_in : CoordinatorPhase → ℕ → Coordinator
-part_in phase out = record { phase = coordinator_in phase; taken_out = out }
-
 -- `marked` has bit p for participant p; `sent` has the participants whose message was sent, by the message's kind
 unfoldable pub transaction_in : Transaction → plain.Transaction
 transaction_in x =
     record {
-      cohort = record { members = x.part.members; presume_commit = x.part.presume_commit };
-      coordinator = part_in x.part.phase x.taken_out;
+      cohort = cohort_in x.part.cohort;
+      coordinator = coordinator_state_in (record { phase = x.part.phase; taken_out = x.taken_out });
       participant = λ p. participant_in (get_or x.participants p participant.Unknown);
       marked = has_kind x.marked;
       sent = λ p k. member p (get_or x.sent k 0);
@@ -69,7 +65,7 @@ transaction_in x =
 abbrev pub no_transaction : Transaction
 no_transaction =
     record {
-      part = record { phase = coordinator.Unknown; members = 0; presume_commit = 0 };
+      part = record { phase = coordinator.Unknown; cohort = record { members = 0; presume_commit = 0 } };
       taken_out = 0;
       participants = replicate 9 participant.Unknown;
       sent = replicate 8 0;

@@ -8,7 +8,7 @@ use Rattle.codec.specs.declared.record.Record.{Record}
 use Rattle.site.specs.Step.{prepare, messages, receiver, Effect}
 use Rattle.site.specs.Participant.{ParticipantPhase}
 use Rattle.site.specs.Numbers.{input_of, receives}
-use Rattle.site.specs.Answers.{effects_in, participant_in, has_kind}
+use Rattle.site.specs.Answers.{coordinator_state_in, cohort_in, effects_in, participant_in, has_kind}
 use Rattle.site.specs.declared.effects.Effects.{Effects}
 use Rattle.joint.specs.State as plain
 use Rattle.joint.specs.State.{takes_part, appended, stopped, with_coordinator, with_participant, with_marked, at_site, at_transaction, update, holds, opened, down, perform_all}
@@ -18,7 +18,7 @@ use Rattle.joint.specs.Plan.{Plan, step, or_nothing, acting, opened_as, trimmed,
 use Rattle.joint.specs.Run as run
 use Rattle.joint.specs.Run.{is_send, count, event_parsed, answer_of}
 unfoldable pub use Rattle.joint.specs.Laws.Effects.{site_after, transaction_after, counted}
-use Rattle.joint.specs.Answers.{site_from, part_in, transactions_in, refusal_number, number_of, Seen, seen}
+use Rattle.joint.specs.Answers.{site_from, transactions_in, refusal_number, number_of, Seen, seen}
 use Rattle.joint.specs.Program.{has_room}
 use Rattle.joint.specs.declared.answers.Refusal.{Refusal}
 use Rattle.joint.specs.declared.answers.Refusal.TheVariants as refusals
@@ -69,9 +69,9 @@ Here x w s = (rs : List Record) × ((length rs ≡ 24) × (site_from x rs ≡ w.
 
 unfoldable pub then_in : ℕ → ℕ → Then → plain.Run → plain.Run
 then_in s t follows.Same = λ r. r
-then_in s t (follows.Coordinator c) = at_transaction t (with_coordinator 0 (part_in c.phase c.taken_out))
+then_in s t (follows.Coordinator c) = at_transaction t (with_coordinator 0 (coordinator_state_in c))
 then_in s t (follows.Participant c) = at_transaction t (with_participant s (participant_in c))
-then_in s t (follows.Opened m c) = at_transaction t (opened_as (record { members = m; presume_commit = c }))
+then_in s t (follows.Opened g) = at_transaction t (opened_as (cohort_in g))
 then_in s t (follows.Discarded last) = λ r. forgotten_unless (not last) t s (at_site s (trimmed t) r)
 then_in s t (follows.Down keep) = down s keep
 then_in s t follows.Marked = at_transaction t (with_marked s)
@@ -81,16 +81,16 @@ unfoldable pub then_site : ℕ → Then → plain.Site → plain.Site
 then_site t follows.Same a = a
 then_site t (follows.Coordinator c) a = a
 then_site t (follows.Participant c) a = a
-then_site t (follows.Opened m c) a = a
+then_site t (follows.Opened g) a = a
 then_site t (follows.Discarded last) a = trimmed t a
 then_site t (follows.Down keep) a = stopped keep a
 then_site t follows.Marked a = a
 
 unfoldable pub then_transaction : ℕ → Then → plain.Transaction → plain.Transaction
 then_transaction s follows.Same x = x
-then_transaction s (follows.Coordinator c) x = with_coordinator 0 (part_in c.phase c.taken_out) x
+then_transaction s (follows.Coordinator c) x = with_coordinator 0 (coordinator_state_in c) x
 then_transaction s (follows.Participant c) x = with_participant s (participant_in c) x
-then_transaction s (follows.Opened m c) x = opened_as (record { members = m; presume_commit = c }) x
+then_transaction s (follows.Opened g) x = opened_as (cohort_in g) x
 then_transaction s (follows.Discarded last) x = cond last (with_participant s ParticipantPhase.unknown x) x
 then_transaction s (follows.Down keep) x = x
 then_transaction s follows.Marked x = with_marked s x
@@ -99,7 +99,7 @@ unfoldable pub goes_down : Then → Bool
 goes_down follows.Same = false
 goes_down (follows.Coordinator c) = false
 goes_down (follows.Participant c) = false
-goes_down (follows.Opened m c) = false
+goes_down (follows.Opened g) = false
 goes_down (follows.Discarded last) = false
 goes_down (follows.Down keep) = true
 goes_down follows.Marked = false
@@ -109,7 +109,7 @@ unfoldable pub moves : Then → Bool
 moves follows.Same = false
 moves (follows.Coordinator c) = false
 moves (follows.Participant c) = false
-moves (follows.Opened m c) = false
+moves (follows.Opened g) = false
 moves (follows.Discarded last) = true
 moves (follows.Down keep) = not (eqb keep 0)
 moves follows.Marked = false
@@ -182,7 +182,7 @@ step_transaction (steps.Crash e) = 0
 step_transaction (steps.Mark e) = e.transaction
 
 unfoldable pub step_in : Step → Parsed
-step_in (steps.Open e) = record { event = opening e.transaction e.members e.presume_commit; cut = none }
+step_in (steps.Open e) = record { event = opening e.transaction e.cohort.members e.cohort.presume_commit; cut = none }
 step_in (steps.Input e) = record { event = input_event e.kind e.transaction e.participant; cut = cut_in e.cut }
 step_in (steps.Force s) = record { event = forcing s; cut = none }
 step_in (steps.Discard e) = record { event = discarding e.transaction e.site; cut = none }

@@ -82,20 +82,17 @@ fn all_up(sites: &[Site; Run::SITES], members: u8) -> bool
 }
 
 fn open(sites: &[Site; Run::SITES], before: Transaction, e: Opening) -> Result<Row, Refusal>
-    ensures { (w : plain.Run) → ((i : ℕ) → (get_or sites.now i no_site).up ≡ (w.site i).up) → transaction_in before ≡ w.transaction e.transaction → change_in w 0 e.transaction result ≡ taken w (event.opening e.transaction e.members e.presume_commit) none }
+    ensures { (w : plain.Run) → ((i : ℕ) → (get_or sites.now i no_site).up ≡ (w.site i).up) → transaction_in before ≡ w.transaction e.transaction → change_in w 0 e.transaction result ≡ taken w (event.opening e.transaction e.cohort.members e.cohort.presume_commit) none }
 {
     if before.opened() {
         return Err(Refusal::OpenedBefore);
     }
-    if !all_up(sites, e.members) {
+    if !all_up(sites, e.cohort.members) {
         return Err(Refusal::SiteDown);
     }
     Ok(Row {
         effects: Effects::NONE,
-        then: Then::Opened {
-            members: e.members,
-            presume_commit: e.presume_commit,
-        },
+        then: Then::Opened(e.cohort),
     })
 }
 

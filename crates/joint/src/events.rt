@@ -9,6 +9,7 @@ use crate::answers::Refusal;
 use crate::run::Run;
 use codec::message::Parts;
 use codec::sets::part;
+use site::cohort::Cohort;
 use site::inputs::{BEGIN, TIMER};
 
 // Power goes after so many effects, and the site keeps the unforced records that a mask names.
@@ -21,8 +22,7 @@ pub struct Cut {
 #[derive(Clone, Copy)]
 pub struct Opening {
     pub transaction: u8,
-    pub members: u8,
-    pub presume_commit: u8,
+    pub cohort: Cohort,
 }
 
 // Begin, a message of a participant, or a timer: what a site is given, by the number of its kind. Begin names
@@ -172,8 +172,10 @@ impl Event {
         match code {
             Run::OPEN => Ok(Event::Step(Step::Open(Opening {
                 transaction: x,
-                members: y,
-                presume_commit: z,
+                cohort: Cohort {
+                    members: y,
+                    presume_commit: z,
+                },
             }))),
             Run::BEGIN => Ok(Event::Step(Step::Input(Input {
                 transaction: x,

@@ -14,10 +14,11 @@ ghost use Rattle.joint.specs.Inside.{plan_in, found_in, writes_log, goes_down, M
 use crate::records::cohort;
 use crate::transactions::Transaction;
 use codec::record::Record;
+use site::cohort::Cohort;
 use site::coordinator::{Coordinator, CoordinatorState};
 use site::effects::Effects;
 use site::participant::Participant;
-use site::phases::{CoordinatorPhase, ParticipantPhase};
+use site::phases::ParticipantPhase;
 use site::record_kinds::has;
 
 // What follows a row's effects: a phase is set, at the coordinator with the set taken out, a transaction is opened, the
@@ -28,7 +29,7 @@ pub enum Then {
     Same,
     Coordinator(CoordinatorState),
     Participant(ParticipantPhase),
-    Opened { members: u8, presume_commit: u8 },
+    Opened(Cohort),
     Discarded(bool),
     Down(u8),
     Marked,
@@ -140,10 +141,7 @@ impl Row {
         if site == 0 {
             let coordinator = Coordinator {
                 cohort: cohort(records, t, has(kinds, Record::COMMIT)),
-                state: CoordinatorState {
-                    phase: CoordinatorPhase::Unknown,
-                    taken_out: 0,
-                },
+                state: CoordinatorState::UNKNOWN,
             };
             let row = coordinator.restart(kinds);
             return Row {

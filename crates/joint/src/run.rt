@@ -100,13 +100,13 @@ impl Run {
     pub fn members(&self, transaction: u8) -> u8
         ensures { result ≡ ((run_in self.now).transaction transaction).cohort.members }
     {
-        self.transaction(transaction).part.members
+        self.transaction(transaction).part.cohort.members
     }
 
     pub fn presume_commit(&self, transaction: u8) -> u8
         ensures { result ≡ ((run_in self.now).transaction transaction).cohort.presume_commit }
     {
-        self.transaction(transaction).part.presume_commit
+        self.transaction(transaction).part.cohort.presume_commit
     }
 
     pub fn coordinator_phase(&self, transaction: u8) -> CoordinatorPhase

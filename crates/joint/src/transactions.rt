@@ -5,7 +5,7 @@ ghost use Rattle.site.specs.Numbers.{entry_of};
 ghost use Rattle.site.specs.Answers.{coordinator_state_in, cohort_in, participant_in, outcome_in, sending, effects_in};
 ghost use Rattle.joint.specs.State.{names, takes_part, with_coordinator, with_participant, with_marked, forgotten};
 ghost use Rattle.joint.specs.Plan.{opened_as};
-ghost use Rattle.joint.specs.Answers.{part_in, transaction_in, no_transaction};
+ghost use Rattle.joint.specs.Answers.{transaction_in, no_transaction};
 ghost use Rattle.joint.specs.Inside.{transaction_after, then_transaction};
 
 use crate::records::with_bit;
@@ -24,8 +24,7 @@ use site::record_kinds::has;
 #[derive(Clone, Copy)]
 pub struct Part {
     pub phase: CoordinatorPhase,
-    pub members: u8,
-    pub presume_commit: u8,
+    pub cohort: Cohort,
 }
 
 // A transaction is copied at each event: what is copied in one piece stands together.
@@ -59,8 +58,7 @@ impl Transaction {
         Transaction {
             part: Part {
                 phase: CoordinatorPhase::Unknown,
-                members: 0,
-                presume_commit: 0,
+                cohort: Cohort::NONE,
             },
             taken_out: 0,
             participants: [ParticipantPhase::Unknown; Run::SITES],
@@ -77,10 +75,7 @@ impl Transaction {
         ensures { (cohort_in result.cohort ≡ (transaction_in self.now).cohort) × (coordinator_state_in result.state ≡ (transaction_in self.now).coordinator) }
     {
         Coordinator {
-            cohort: Cohort {
-                members: self.part.members,
-                presume_commit: self.part.presume_commit,
-            },
+            cohort: self.part.cohort,
             state: CoordinatorState {
                 phase: self.part.phase,
                 taken_out: self.taken_out,
@@ -92,7 +87,7 @@ impl Transaction {
     pub fn opened(&self) -> bool
         ensures { result ≡ not (empty (transaction_in self.now).cohort.members) }
     {
-        self.part.members != 0
+        self.part.cohort.members != 0
     }
 
     // The coordinator takes part in each transaction, a participant in those that it is a member of.
@@ -100,7 +95,7 @@ impl Transaction {
     pub fn takes_part(&self, site: u8) -> bool
         ensures { result ≡ takes_part (transaction_in self.now) site }
     {
-        names(self.part.members, site)
+        names(self.part.cohort.members, site)
     }
 
     #[tactic(auto, unfolding(crate::specs::Answers::transaction_in))]
@@ -137,11 +132,11 @@ impl Transaction {
     // ---- changes
 
     #[tactic(auto, unfolding(crate::specs::Answers::transaction_in, crate::specs::State::with_coordinator))]
-    pub fn with_coordinator(mut self, phase: CoordinatorPhase, taken_out: u8) -> Transaction
-        ensures { transaction_in result ≡ with_coordinator 0 (part_in phase taken_out) (transaction_in self) }
+    pub fn with_coordinator(mut self, state: CoordinatorState) -> Transaction
+        ensures { transaction_in result ≡ with_coordinator 0 (coordinator_state_in state) (transaction_in self) }
     {
-        self.part.phase = phase;
-        self.taken_out = taken_out;
+        self.part.phase = state.phase;
+        self.taken_out = state.taken_out;
         self
     }
 
@@ -205,7 +200,7 @@ impl Transaction {
     {
         let forgotten = self.with_participant(site, ParticipantPhase::Unknown);
         if site == 0 {
-            return forgotten.with_coordinator(CoordinatorPhase::Unknown, 0);
+            return forgotten.with_coordinator(CoordinatorState::UNKNOWN);
         }
         forgotten
     }
@@ -218,12 +213,9 @@ impl Transaction {
         ensures { transaction_in result ≡ then_transaction site then (transaction_in self) }
     {
         match then {
-            Then::Coordinator(state) => self.with_coordinator(state.phase, state.taken_out),
+            Then::Coordinator(state) => self.with_coordinator(state),
             Then::Participant(phase) => self.with_participant(site as usize, phase),
-            Then::Opened {
-                members,
-                presume_commit,
-            } => self.open(members, presume_commit),
+            Then::Opened(cohort) => self.open(cohort),
             Then::Discarded(last) => {
                 if last {
                     return self.with_participant(site as usize, ParticipantPhase::Unknown);
@@ -236,18 +228,17 @@ impl Transaction {
     }
 
     // Opened: the coordinator Open, members Working.
-    pub fn open(mut self, members: u8, presume_commit: u8) -> Transaction
-        ensures { transaction_in result ≡ opened_as (record { members = members; presume_commit = presume_commit }) (transaction_in self) }
+    pub fn open(mut self, cohort: Cohort) -> Transaction
+        ensures { transaction_in result ≡ opened_as (cohort_in cohort) (transaction_in self) }
     {
         for (i, phase) in self.participants.iter_mut().enumerate() {
-            if member(i as u8, members) {
+            if member(i as u8, cohort.members) {
                 *phase = ParticipantPhase::Working;
             }
         }
         self.part = Part {
             phase: CoordinatorPhase::Open,
-            members,
-            presume_commit,
+            cohort,
         };
         self.taken_out = 0;
         self

@@ -14,6 +14,12 @@ pub struct Cohort {
 }
 
 impl Cohort {
+    // Of a transaction that was not opened.
+    pub const NONE: Cohort = Cohort {
+        members: 0,
+        presume_commit: 0,
+    };
+
     #[tactic(auto, unfolding(crate::specs::Cohort::presumption_of))]
     pub fn presumption(self, participant: u8) -> Presumption
         ensures { presumption_in result ≡ cohort.presumption_of (cohort_in self) participant }

@@ -25,6 +25,13 @@ pub struct CoordinatorState {
     pub taken_out: u8,
 }
 
+impl CoordinatorState {
+    pub const UNKNOWN: CoordinatorState = CoordinatorState {
+        phase: CoordinatorPhase::Unknown,
+        taken_out: 0,
+    };
+}
+
 // One transaction: its cohort as opened, and the coordinator's part.
 #[derive(Clone, Copy)]
 pub struct Coordinator {

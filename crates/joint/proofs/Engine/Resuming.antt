@@ -39,7 +39,7 @@ unfolding then_in goes_down down stopped fresh
 stays_up s t follows.Same k = refl
 stays_up s t (follows.Coordinator c) k = refl
 stays_up s t (follows.Participant c) k = refl
-stays_up s t (follows.Opened m c) k = refl
+stays_up s t (follows.Opened g) k = refl
 stays_up s t (follows.Discarded b) k = refl
 stays_up s t (follows.Down n) k =
     absurd (true≢false (sym (ap (λ (f : ℕ → plain.Site). (f s).up) (k fresh)) ∙ ap (λ (a : plain.Site). a.up) (update_same s (stopped n) fresh.site)))

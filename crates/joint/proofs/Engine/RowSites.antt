@@ -23,7 +23,7 @@ unfolding moves
 unmoved follows.Same off cut = refl
 unmoved (follows.Coordinator c) off cut = refl
 unmoved (follows.Participant c) off cut = refl
-unmoved (follows.Opened m c) off cut = refl
+unmoved (follows.Opened g) off cut = refl
 unmoved (follows.Discarded last) off cut = absurd (off last refl)
 unmoved (follows.Down keep) off cut = absurd (cut keep refl)
 unmoved follows.Marked off cut = refl
@@ -40,7 +40,7 @@ unfolding moves then_site
 unchanged follows.Same off d t a = refl
 unchanged (follows.Coordinator c) off d t a = refl
 unchanged (follows.Participant c) off d t a = refl
-unchanged (follows.Opened m c) off d t a = refl
+unchanged (follows.Opened g) off d t a = refl
 unchanged (follows.Discarded last) off d t a = absurd (clash d)
 unchanged (follows.Down keep) off d t a = absurd (off keep refl)
 unchanged follows.Marked off d t a = refl

@@ -23,6 +23,7 @@ use Rattle.site.specs.Laws.Remaining.{restart_by}
 use Rattle.site.specs.declared.effects.Effects.{Effects}
 use Rattle.site.specs.declared.coordinator.Coordinator.{Coordinator}
 use Rattle.site.specs.declared.coordinator.CoordinatorState.{CoordinatorState}
+use Rattle.site.specs.declared.cohort.Cohort as members
 use Rattle.site.specs.declared.participant.Participant.{Participant}
 use Rattle.site.specs.declared.row.Row as answered
 use Rattle.site.specs.declared.row.Refused.{Refused}
@@ -32,7 +33,7 @@ use Rattle.joint.specs.State as plain
 use Rattle.joint.specs.State.{holds, recorded_cohort, update, with_coordinator, with_participant, with_marked, at_site, at_transaction, forgotten, stopped, down, perform_all}
 use Rattle.joint.specs.Plan as plan
 use Rattle.joint.specs.Plan.{Plan, acting, row_plan, planned, step, restarting, trimmed, forgotten_unless}
-use Rattle.joint.specs.Answers.{part_in, transaction_in}
+use Rattle.joint.specs.Answers.{transaction_in}
 use Rattle.joint.specs.Inside.{site_after, transaction_after, then_in, then_site, then_transaction, goes_down, MayReceive}
 use Rattle.joint.specs.declared.transactions.Transaction.{Transaction}
 use Rattle.joint.specs.declared.rows.Then.{Then}
@@ -55,20 +56,20 @@ unfolding goes_down
 not-down follows.Same k = refl
 not-down (follows.Coordinator c) k = refl
 not-down (follows.Participant c) k = refl
-not-down (follows.Opened m c) k = refl
+not-down (follows.Opened g) k = refl
 not-down (follows.Discarded b) k = refl
 not-down (follows.Down keep) k = absurd (k keep refl)
 not-down follows.Marked k = refl
 
 pub kept_transaction : (s : ℕ) (th : Then) (x : plain.Transaction)
     → ((p : CoordinatorState) → th ≡ follows.Coordinator p → ⊥) → ((p : ParticipantPhase) → th ≡ follows.Participant p → ⊥)
-    → ((m c : ℕ) → th ≡ follows.Opened m c → ⊥) → ((last : Bool) → th ≡ follows.Discarded last → ⊥) → (th ≡ follows.Marked → ⊥)
+    → ((g : members.Cohort) → th ≡ follows.Opened g → ⊥) → ((last : Bool) → th ≡ follows.Discarded last → ⊥) → (th ≡ follows.Marked → ⊥)
     → x ≡ then_transaction s th x
 unfolding then_transaction
 kept_transaction s follows.Same x a b c d e = refl
 kept_transaction s (follows.Coordinator p) x a b c d e = absurd (a p refl)
 kept_transaction s (follows.Participant p) x a b c d e = absurd (b p refl)
-kept_transaction s (follows.Opened m n) x a b c d e = absurd (c m n refl)
+kept_transaction s (follows.Opened g) x a b c d e = absurd (c g refl)
 kept_transaction s (follows.Discarded last) x a b c d e = absurd (d last refl)
 kept_transaction s (follows.Down keep) x a b c d e = refl
 kept_transaction s follows.Marked x a b c d e = absurd (e refl)
@@ -88,9 +89,9 @@ module _ (s t : ℕ) (a : plain.Site) (x : plain.Transaction) (w : plain.Run) wh
       }
   unfolding then_in then_site then_transaction goes_down forgotten_unless at_site down
   then_placed follows.Same = refl
-  then_placed (follows.Coordinator c) = placed_changed s t (with_coordinator 0 (part_in c.phase c.taken_out)) a x w
+  then_placed (follows.Coordinator c) = placed_changed s t (with_coordinator 0 (coordinator_state_in c)) a x w
   then_placed (follows.Participant c) = placed_changed s t (with_participant s (participant_in c)) a x w
-  then_placed (follows.Opened m c) = placed_changed s t (plan.opened_as (record { members = m; presume_commit = c })) a x w
+  then_placed (follows.Opened g) = placed_changed s t (plan.opened_as (cohort_in g)) a x w
   then_placed (follows.Discarded true) =
       ap (at_transaction t (with_participant s _)) dropped ∙ placed_changed s t (with_participant s _) (trimmed t a) x w
     where

@@ -20,7 +20,8 @@ use Rattle.site.specs.Step.{prepare, messages, message_kind, given}
 use Rattle.site.specs.Coordinator as coordinator
 use Rattle.site.specs.Coordinator.{ordered}
 use Rattle.site.specs.Participant as participant
-use Rattle.site.specs.Answers.{participant_in, has_kind, sending}
+use Rattle.site.specs.Answers.{cohort_in, participant_in, has_kind, sending}
+use Rattle.site.specs.declared.cohort.Cohort as declared
 use Rattle.site.specs.declared.phases.CoordinatorPhase.TheVariants as phases
 use Rattle.site.specs.declared.phases.ParticipantPhase.{ParticipantPhase}
 use Rattle.site.specs.declared.phases.ParticipantPhase.TheVariants as held
@@ -187,10 +188,10 @@ module _ (m : ℕ) (x : plain.Transaction) where
       go p false q = refl
 
 -- the coordinator Open, with phases
-abbrev pub opening : Transaction → ℕ → ℕ → List ParticipantPhase → Transaction
-opening x m pc held =
+abbrev pub opening : Transaction → declared.Cohort → List ParticipantPhase → Transaction
+opening x g held =
     record {
-      part = record { phase = phases.Open; members = m; presume_commit = pc };
+      part = record { phase = phases.Open; cohort = g };
       taken_out = 0;
       participants = held;
       marked = x.marked;
@@ -200,14 +201,14 @@ opening x m pc held =
     }
 
 -- no site from 9 on is a member
-pub all_working : (m pc : ℕ) (x : Transaction) → m < 256
-    → working_below 9 m (transaction_in (opening x m pc x.participants)) ≡ opened_as (record { members = m; presume_commit = pc }) (transaction_in x)
+pub all_working : (g : declared.Cohort) (x : Transaction) → g.members < 256
+    → working_below 9 g.members (transaction_in (opening x g x.participants)) ≡ opened_as (cohort_in g) (transaction_in x)
 unfolding working_below opened_as transaction_in
-all_working m pc x h = transaction_path (fun_ext (λ p. go p ((transaction_in x).participant p) (ltb p 9) refl)) refl refl
+all_working g x h = transaction_path (fun_ext (λ p. go p ((transaction_in x).participant p) (ltb p 9) refl)) refl refl
   where
     go : (p : ℕ) (c : participant.ParticipantPhase) (b : Bool) → ltb p 9 ≡ b
-        → cond (b && member p m) participant.working c ≡ cond (member p m) participant.working c
+        → cond (b && member p g.members) participant.working c ≡ cond (member p g.members) participant.working c
     go p c true e = refl
     go p c false e =
         let past : 9 ≤ p = ltb-false p 9 e in
-        rw (no_member p m h (rw (le-ltb p 1 (omega arith), lt-ltb 8 p (omega arith)) refl)) refl
+        rw (no_member p g.members h (rw (le-ltb p 1 (omega arith), lt-ltb 8 p (omega arith)) refl)) refl

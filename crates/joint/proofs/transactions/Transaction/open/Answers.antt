@@ -14,7 +14,7 @@ use Rattle.joint.proofs.transactions.Transaction.open.Goals.{then-member, else-m
 pub loop-i-init : goal.loop-i-init
 loop-i-init c =
     let n : length c.args.self.participants ≡ 9 = search length-shown in
-    (n, sym (none_working c.args.members _))
+    (n, sym (none_working c.args.cohort.members _))
 
 pub loop-i-preserved : goal.loop-i-preserved
 loop-i-preserved c =
@@ -25,11 +25,11 @@ loop-i-preserved c =
     elim c.if-member.branch [
       | then-member w ↦ rw w.phase-items-is (
         simp length-set l.invariant.0,
-        phase-stored (opening a.self a.members a.presume_commit l.phase-items) l.i lt phases.Working
+        phase-stored (opening a.self a.cohort l.phase-items) l.i lt phases.Working
             ∙ ap (with_participant l.i working) l.invariant.1
-            ∙ next_working a.members _ l.i (sym known ∙ w.if-member.true),
+            ∙ next_working a.cohort.members _ l.i (sym known ∙ w.if-member.true),
       )
-      | else-member w ↦ rw (w.phase-items-is, set-get_or l.phase-items l.i _) (l.invariant.0, l.invariant.1 ∙ next_left a.members _ l.i (sym known ∙ w.if-member.false))
+      | else-member w ↦ rw (w.phase-items-is, set-get_or l.phase-items l.i _) (l.invariant.0, l.invariant.1 ∙ next_left a.cohort.members _ l.i (sym known ∙ w.if-member.false))
     ]
 
 pub returns : goal.returns
@@ -37,4 +37,4 @@ returns c =
     let l = c.loop-i in
     let a = c.args in
     let all : l.i ≡ 9 = omega arith in
-    rw all at l.invariant.1 ∙ all_working a.members a.presume_commit a.self (omega arith)
+    rw all at l.invariant.1 ∙ all_working a.cohort a.self (omega arith)

@@ -7,4 +7,4 @@ use Rattle.joint.proofs.transactions.Transaction.open.Given as goal
 abbrev pub invariant-loop-i : goal.invariant-loop-i
 invariant-loop-i l =
     (length l.phase-items ≡ 9) ×
-    (transaction_in (opening l.fn.self l.members l.presume_commit l.phase-items) ≡ working_below l.i l.members (transaction_in (opening l.fn.self l.members l.presume_commit l.initial.phase-items)))
+    (transaction_in (opening l.fn.self l.cohort l.phase-items) ≡ working_below l.i l.cohort.members (transaction_in (opening l.fn.self l.cohort l.initial.phase-items)))
