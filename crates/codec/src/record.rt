@@ -108,7 +108,9 @@ impl Record {
     pub fn length(self) -> usize
         ensures { result ≡ length (bytes_of (record_in self)) }
     {
-        Record::length_of(self.kind).max(2)
+        // Tried: by `max` dpr_image_copy takes 3 % more instructions.
+        let length = Record::length_of(self.kind);
+        if length < 2 { 2 } else { length }
     }
 
     // The record that bytes are, if they are one.
