@@ -10,7 +10,8 @@ use crate::message::Parts;
 use crate::refusal::Refusal;
 use crate::sets::{both, minus, part};
 
-// The fields behind the transaction are members and PC in a record 1 or 2, and the presumption in a record 5.
+// The fields behind the transaction are members and PC in a record 1 or 2, and the presumption in a record 5. Any bytes can stand
+// in the fields: `judged` refuses those of no record.
 #[derive(Clone, Copy)]
 pub struct Record {
     pub kind: u8,
