@@ -122,9 +122,11 @@ impl Parts {
         if self.kind == Parts::READ_ONLY {
             return Ok(Parts::FIRST_READ_ONLY + Parts::READ_ONLY_STEP * transaction + place);
         }
-        Ok(Parts::TRANSACTION_STEP * transaction
-            + Parts::PARTICIPANT_STEP * place
-            + u16::from(self.kind))
+        Ok(
+            Parts::TRANSACTION_STEP * transaction
+                + Parts::PARTICIPANT_STEP * place
+                + u16::from(self.kind),
+        )
     }
 }
 

@@ -10,7 +10,8 @@ use crate::message::Parts;
 use crate::refusal::Refusal;
 use crate::sets::{both, minus, part};
 
-// The fields behind the transaction are members and PC in a record 1 or 2, and the presumption in a record 5.
+// The fields behind the transaction are members and PC in a record 1 or 2, and the presumption in a record 5. Any bytes can stand
+// in the fields: `judged` refuses those of no record.
 #[derive(Clone, Copy)]
 pub struct Record {
     pub kind: u8,
@@ -108,7 +109,9 @@ impl Record {
     pub fn length(self) -> usize
         ensures { result ≡ length (bytes_of (record_in self)) }
     {
-        Record::length_of(self.kind).max(2)
+        // Tried: by `max` dpr_image_copy takes 3 % more instructions.
+        let length = Record::length_of(self.kind);
+        if length < 2 { 2 } else { length }
     }
 
     // The record that bytes are, if they are one.

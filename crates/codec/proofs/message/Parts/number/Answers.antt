@@ -1,6 +1,4 @@
-use mathlib.Core.Path.{◌≡◌, sym, ◌∙◌}
-use mathlib.Core.Bool.{true}
-use Rattle.codec.specs.Messages.{is_message}
+use mathlib.Core.Path.{sym, ◌∙◌}
 use Rattle.codec.specs.Answers.{parts_in, number_values}
 use Rattle.codec.proofs.Numbered.{wrong_parts, number_of_lem, participant_one, low_number, vote_number}
 use Rattle.codec.proofs.message.Parts.number.Goals as goal
