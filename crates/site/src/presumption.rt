@@ -87,10 +87,10 @@ impl Presumption {
     pub fn acks(self, outcome: Outcome) -> bool
         ensures { result ≡ acks (presumption_in self) (outcome_in outcome) }
     {
-        matches!(
-            (self, outcome),
-            (Presumption::Abort, Outcome::Commit) | (Presumption::Commit, Outcome::Abort)
-        )
+        match self {
+            Presumption::Abort => matches!(outcome, Outcome::Commit),
+            Presumption::Commit => matches!(outcome, Outcome::Abort),
+        }
     }
 
     // The outcome with which a coordinator in Unknown answers its Yes.
