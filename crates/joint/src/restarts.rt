@@ -42,7 +42,7 @@ pub(crate) fn forget_all(
     ensures { transactions_in result ≡ (λ t. forgotten site (transactions_in transactions t)) }
 {
     for transaction in transactions.iter_mut() {
-        *transaction = transaction.forget(site);
+        transaction.forget(site);
     }
     transactions
 }
