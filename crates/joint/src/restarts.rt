@@ -39,7 +39,7 @@ pub(crate) fn forget_all(transactions: &mut [Transaction; Run::TRANSACTIONS], si
     ensures { transactions_in transactions.new ≡ (λ t. forgotten site (transactions_in transactions.old t)) }
 {
     for transaction in transactions.iter_mut() {
-        *transaction = transaction.forget(site);
+        transaction.forget(site);
     }
 }
 

@@ -177,7 +177,7 @@ impl Transaction {
     fn send(mut self, kind: u8, to: u8) -> Transaction
         ensures { (s t owing : ℕ) → transaction_in result ≡ transaction_after s (sending t kind owing to) (transaction_in self) }
     {
-        if kind <= Parts::LAST_KIND {
+        if to != 0 && kind <= Parts::LAST_KIND {
             let at = kind as usize;
             self.sent[at] = either(self.sent[at], to);
         }
@@ -194,15 +194,15 @@ impl Transaction {
     }
 
     // The phases at a site are Unknown, and the set taken out is gone with them.
-    pub(crate) fn forget(self, site: usize) -> Transaction
+    pub(crate) fn forget(&mut self, site: usize)
         requires { site ≤ 8 }
-        ensures { transaction_in result ≡ forgotten site (transaction_in self) }
+        ensures { transaction_in self.new ≡ forgotten site (transaction_in self.old) }
     {
-        let forgotten = self.with_participant(site, ParticipantPhase::Unknown);
+        self.participants[site] = ParticipantPhase::Unknown;
         if site == 0 {
-            return forgotten.with_coordinator(CoordinatorState::UNKNOWN);
+            self.part.phase = CoordinatorPhase::Unknown;
+            self.taken_out = 0;
         }
-        forgotten
     }
 
     // With what follows a row at a site. (Where the site goes down, its phases in all transactions are to be forgotten.)

@@ -2,10 +2,10 @@
 use Prim.Native.Nat.{ℕ, zero, suc, ◌+◌, ◌-◌, ◌≤◌, ◌<◌}
 use mathlib.Core.Path.{◌≡◌, refl, sym, ◌∙◌, fun_ext}
 use mathlib.Core.Bool.{Bool, true, false, cond, ◌&&◌, ◌||◌, and-true, and-false}
-use mathlib.Core.List.{List}
+use mathlib.Core.List.{List, []}
 use lib.ListN.{length, get_or, set}
 use lib.Seq.{get_or-set_same, get_or-set_other}
-use lib.Dec.{eqb, ltb, eqb→eq}
+use lib.Dec.{eqb, leb, ltb, eqb→eq}
 use native.Mathlib.Omega.{arith}
 use borrow.Author.Tests.{eqb-true, eqb-false, ltb-true, ltb-false, lt-ltb, le-ltb, le-leb, lt-leb}
 use Rattle.codec.specs.Lists.{any}
@@ -25,6 +25,7 @@ use Rattle.site.specs.declared.cohort.Cohort as declared
 use Rattle.site.specs.declared.phases.CoordinatorPhase.TheVariants as phases
 use Rattle.site.specs.declared.phases.ParticipantPhase.{ParticipantPhase}
 use Rattle.site.specs.declared.phases.ParticipantPhase.TheVariants as held
+use Rattle.site.specs.Laws.Order.{ordered-none}
 use Rattle.joint.specs.State as plain
 use Rattle.joint.specs.State.{update, with_participant, with_marked, with_entered, forgotten}
 use Rattle.joint.specs.Plan.{opened_as}
@@ -129,6 +130,15 @@ sent_all x t kind owing to v k lt byte e s =
             rw (eqb-true j kind h, get_or-set_same x.sent kind v 0 lt, e q, and-true)
             (or_comm (member q (get_or x.sent kind 0)) (member q to))
         by false h = rw (get_or-set_other x.sent kind j v 0 (eqb-false j kind h), and-false) refl
+
+-- to nobody
+pub sent-nobody : (t kind owing to : ℕ) → to ≡ 0 → (s : ℕ) (x : plain.Transaction) → x ≡ transaction_after s (sending t kind owing to) x
+unfolding sending given transaction_after
+sent-nobody t kind owing to q s x = rw (q, ordered-none t owing) (by (leb kind 7))
+  where
+    by : (b : Bool) → x ≡ transaction_after s (cond b [] []) x
+    by true = refl
+    by false = refl
 
 -- what is no message
 pub sent-none : (t kind owing to : ℕ) → 7 < kind → (s : ℕ) (x : plain.Transaction) → x ≡ transaction_after s (sending t kind owing to) x
