@@ -70,6 +70,7 @@ impl Run {
         let next = restart(self.sites[s], self.records[s], self.transactions, e)?;
         self.sites[s] = next.log.site;
         self.records[s] = next.log.records;
+        // The prover takes an array out of a field by a name alone.
         let transactions = next.transactions;
         self.transactions = transactions;
         Ok(Counts {

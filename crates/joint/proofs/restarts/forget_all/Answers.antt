@@ -9,7 +9,7 @@ use Rattle.joint.specs.State.{update, forgotten, with_coordinator, with_particip
 use Rattle.joint.specs.Answers.{no_held, transaction_in, no_transaction}
 use Rattle.joint.specs.declared.transactions.Held.{Held}
 use Rattle.joint.specs.declared.transactions.Transaction.{Transaction}
-use Rattle.joint.proofs.Engine.Arrays.{length-shown, all-default, pass_starts, pass_stores, pass_ends}
+use Rattle.joint.proofs.Engine.Arrays.{all-default, pass_starts, pass_stores, pass_ends}
 use Rattle.joint.proofs.Base.Placed.{update-own}
 use Rattle.joint.proofs.Engine.Transactions.{read_any}
 use Rattle.joint.proofs.restarts.forget_all.Goals as goal

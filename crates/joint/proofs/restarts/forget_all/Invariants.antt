@@ -1,4 +1,4 @@
-use Prim.Native.Nat.{◌-◌, ◌≤◌}
+use Prim.Native.Nat.{◌≤◌}
 use Rattle.joint.specs.State.{forgotten}
 use Rattle.joint.specs.Answers.{transaction_in, no_transaction}
 use Rattle.joint.proofs.Engine.Arrays.{Passed}
