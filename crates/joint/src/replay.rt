@@ -104,7 +104,7 @@ impl Run {
 pub fn replay(bytes: &[u8], answers: &mut [u8]) -> Ran
     ensures { replay_in result answers.new ≡ replayed bytes.now answers.old }
 {
-    let count = (bytes.len() + (Run::EVENT_LENGTH - 1)) / Run::EVENT_LENGTH;
+    let count = bytes.len().div_ceil(Run::EVENT_LENGTH);
     let mut run = Run::new();
     if answers.len() < 4 * count {
         return Ran { count: 0, run };
