@@ -120,10 +120,11 @@ fn force(site: Site) -> Result<Row, Refusal>
     ensures { (w : plain.Run) (s t : ℕ) → Here site w s → change_in w s t result ≡ taken w (event.forcing s) none }
 {
     up(site)?;
-    let mut effects = Effects::NONE;
-    effects.forced = true;
     Ok(Row {
-        effects,
+        effects: Effects {
+            forced: true,
+            ..Effects::NONE
+        },
         then: Then::Same,
     })
 }

@@ -70,6 +70,7 @@ impl Run {
         let next = restart(self.sites[s], self.records[s], self.transactions, e)?;
         self.sites[s] = next.log.site;
         self.records[s] = next.log.records;
+        // The prover takes an array out of a field by a name alone.
         let transactions = next.transactions;
         self.transactions = transactions;
         Ok(Counts {
@@ -103,7 +104,7 @@ impl Run {
 pub fn replay(bytes: &[u8], answers: &mut [u8]) -> Ran
     ensures { replay_in result answers.new ≡ replayed bytes.now answers.old }
 {
-    let count = (bytes.len() + (Run::EVENT_LENGTH - 1)) / Run::EVENT_LENGTH;
+    let count = bytes.len().div_ceil(Run::EVENT_LENGTH);
     let mut run = Run::new();
     if answers.len() < 4 * count {
         return Ran { count: 0, run };

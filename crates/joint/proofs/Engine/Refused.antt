@@ -2,7 +2,7 @@
 use Prim.Native.Nat.{ℕ, suc, ◌+◌}
 use mathlib.Core.Path.{◌≡◌, refl, sym, ap, ◌∙◌}
 use mathlib.Core.Bool.{Bool, true, false, cond}
-use mathlib.Core.List.{List, [], ◌∷◌}
+use mathlib.Core.List.{List, ◌∷◌}
 use mathlib.Core.Option.{Option}
 use native.Mathlib.Numerals.{add-one}
 use denote.Enum.Declared.{tag_of}
@@ -70,7 +70,3 @@ module _ {b : Bool} (n : ℕ) (rest : List (ℕ × Bool)) where
   pub passes : b ≡ false → first ((n, b) ∷ rest) ≡ first rest
   unfolding first
   passes e = ap (λ (b : Bool). cond b n (first rest)) e
-
-pub none_strikes : first [] ≡ 0
-unfolding first
-none_strikes = refl

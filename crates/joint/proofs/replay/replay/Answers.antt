@@ -14,7 +14,7 @@ use Rattle.joint.proofs.Engine.Rooms.{rooms}
 use Rattle.joint.proofs.replay.replay.Goals as goal
 
 pub returns-then-answers-count : goal.returns-then-answers-count
-returns-then-answers-count c = replay_none _ _ _ c.if-answers-count.true refl c.new-run.ensures
+returns-then-answers-count c = replay_none _ _ _ (omega arith) refl c.new-run.ensures
 
 pub loop-i-init : goal.loop-i-init
 loop-i-init c =
@@ -35,5 +35,6 @@ unfolding after
 returns c =
     let l = c.loop-i in
     let a = c.args in
-    let all : l.i ≡ events_for a.bytes.now = omega arith in
-    replay_all a.bytes.now a.answers.now l.answers c.new-run.result _ c.if-answers-count.false (rooms [] (events_of a.bytes.now)) c.new-run.ensures refl (rw all at l.invariant)
+    let count : c.div_ceil-count.result ≡ events_for a.bytes.now = omega arith in
+    let all : l.i ≡ c.div_ceil-count.result = omega arith in
+    replay_all a.bytes.now a.answers.now l.answers c.new-run.result _ (omega (arith, count)) (rooms [] (events_of a.bytes.now)) c.new-run.ensures count (rw (all, count) at l.invariant)
