@@ -45,7 +45,8 @@ impl Stepped {
 }
 
 impl Parts {
-    // Kinds; `PREPARE`, `COMMIT` and `ABORT` go from the coordinator to a participant, the others back.
+    // Kinds; `PREPARE`, `COMMIT` and `ABORT` go from the coordinator to a participant, the others back. Constants, not an enum: 01's
+    // list of forms has kinds as associated constants and a `match` on their numbers.
     pub const PREPARE: u8 = 0;
 
     pub const YES: u8 = 1;
@@ -78,6 +79,7 @@ impl Parts {
 
     const READ_ONLY_STEP: u16 = 8;
 
+    // By name and not `TryFrom`, whose promise would stand in a ghost member and not as the clause of a public call.
     pub fn from_number(number: u16) -> Result<Parts, Refusal>
         ensures { parts_values result ≡ message_answer (message_parts number) }
     {

@@ -75,10 +75,12 @@ fn read_records(bytes: &[u8]) -> Result<Log, BadImage>
     for i in 0..log.count {
         let end = at + usize::from(pair(bytes, i).1);
         let read = Record::read(&bytes[at..end], log.site, newest);
-        let record = read.map_err(|refusal| BadImage {
-            refusal,
-            index: i as u8,
-        })?;
+        let Ok(record) = read else {
+            return Err(BadImage {
+                refusal: read.unwrap_err(),
+                index: i as u8,
+            });
+        };
         newest = newest.with(record);
         log.records[i] = record;
         at = end;

@@ -65,6 +65,7 @@ fn byte(bytes: &[u8], at: usize) -> u8
 }
 
 impl Record {
+    // Kinds, as constants by 01's list of forms.
     pub const INIT: u8 = 1;
 
     pub const COMMIT: u8 = 2;

@@ -4,9 +4,7 @@ use Rattle.codec.specs.Lists.{select}
 use Rattle.codec.specs.Sets.{member}
 use Rattle.codec.specs.Answers.{record_in, no_record}
 use Rattle.site.specs.Presumption.{Outcome, commit, abort}
-use Rattle.site.specs.Coordinator.{Coordinator}
 use Rattle.site.specs.Answers.{coordinator_state_in, cohort_in, participant_in, has_kind}
-use Rattle.site.specs.declared.phases.CoordinatorPhase.{CoordinatorPhase}
 use Rattle.site.specs.declared.phases.CoordinatorPhase.TheVariants as coordinator
 use Rattle.site.specs.declared.phases.ParticipantPhase.TheVariants as participant
 use Rattle.joint.specs.State as plain

@@ -219,7 +219,13 @@ impl Records {
     }
 
     // The image of the stable records, as the log of site `number`, from `at` on: 0, or 21, 23, 27, 28, 24, 25 and the buffer as it was.
-    pub(crate) fn write_log(&self, number: u8, site: Site, buffer: &mut [u8], at: usize) -> Result<(), Refusal>
+    pub(crate) fn write_log(
+        &self,
+        number: u8,
+        site: Site,
+        buffer: &mut [u8],
+        at: usize,
+    ) -> Result<(), Refusal>
         ensures { written (result_number result) buffer.new ≡ write_image number (site_from site self.now.of).stable at buffer.old }
     {
         let log = Log {

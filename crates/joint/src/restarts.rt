@@ -15,7 +15,6 @@ use crate::run::Run;
 use crate::sites::Site;
 use crate::transactions::Transaction;
 use codec::record::Record;
-use site::effects::less;
 
 // All transactions after a restart's effects; how many more could have happened, and how many messages were sent.
 #[derive(Clone, Copy)]
@@ -65,7 +64,7 @@ fn resume_all(
             let happened = effects.cut(number, left);
             let after = transaction.after(site, happened);
             *transaction = after.settle(site, row.then);
-            left = less(left, effects.count());
+            left = left.saturating_sub(effects.count());
             sends += happened.sends();
         }
     }

@@ -43,7 +43,7 @@ impl Run {
     pub const KINDS: usize = Parts::LAST_KIND as usize + 1;
 
     pub const EVENT_LENGTH: usize = 6;
-    // Codes of events.
+    // Codes of events, as constants by 01's list of forms.
     pub const OPEN: u8 = 0;
 
     pub const BEGIN: u8 = 1;

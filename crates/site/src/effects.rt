@@ -151,13 +151,6 @@ pub fn one_if(b: bool) -> u8
     u8::from(b)
 }
 
-// What is left of `n` without `k`, or 0.
-pub fn less(n: u8, k: u8) -> u8
-    ensures { result ≡ n - k }
-{
-    n.saturating_sub(k)
-}
-
 // A number, or 0 where nothing is left.
 fn up_to(left: u8, x: u8) -> u8
     ensures { result ≡ up_to left x }

@@ -18,7 +18,7 @@ use Rattle.site.specs.Coordinator as part
 use Rattle.site.specs.Coordinator.{coordinator_step, coordinator_restart}
 use Rattle.site.specs.Participant.{participant_step, participant_restart}
 use Rattle.site.specs.Numbers.{input_of, receives, coordinator_answer, participant_answer, participant_restarted, appending, entry_of}
-use Rattle.site.specs.Answers.{coordinator_state_in, participant_in, presumption_in, cohort_in, effects_in, closing, sending, answer_in, coordinator_row_in, coordinator_answer_in, participant_row_in, participant_answer_in, participant_restart_in}
+use Rattle.site.specs.Answers.{coordinator_state_in, participant_in, presumption_in, cohort_in, effects_in, closing, sending, coordinator_row_in, coordinator_answer_in, participant_answer_in, participant_restart_in}
 use Rattle.site.specs.Laws.Remaining.{restart_by}
 use Rattle.site.specs.declared.effects.Effects.{Effects}
 use Rattle.site.specs.declared.coordinator.Coordinator.{Coordinator}

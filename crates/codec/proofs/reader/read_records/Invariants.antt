@@ -5,4 +5,4 @@ use Rattle.codec.proofs.reader.read_records.Given as goal
 
 abbrev pub invariant-loop-i : goal.invariant-loop-i
 invariant-loop-i l =
-    (l.i-end ≡ count_in l.bytes) × ((l.log.site ≡ site_in l.bytes) × ((l.log.count ≡ count_in l.bytes) × Filled l.bytes l.log.records l.newest.of l.at l.i-counter))
+    (l.i-end ≡ count_in l.bytes) × ((l.log.site ≡ site_in l.bytes) × ((l.log.count ≡ count_in l.bytes) × Filled l.bytes l.log.records l.newest.of l.at l.i))

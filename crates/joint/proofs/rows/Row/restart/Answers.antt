@@ -4,7 +4,7 @@ use mathlib.Core.Bool.{cond}
 use native.Mathlib.Omega.{arith}
 use Rattle.site.specs.Answers.{cohort_in, has_kind}
 use Rattle.std.specs.Prelude as std
-use Rattle.joint.specs.State.{recorded_cohort, with_participant}
+use Rattle.joint.specs.State.{recorded_cohort}
 use Rattle.joint.specs.Plan.{planned, row_plan}
 use Rattle.joint.specs.Inside.{then_in}
 use Rattle.joint.proofs.Engine.Rows.{coordinator_restarts, participant_restarts, some-none, some_same}
