@@ -74,7 +74,7 @@ fn all_up(sites: &[Site; Run::SITES], members: u8) -> bool
     ensures { result ≡ not (any (λ s. not (get_or sites.now s no_site).up) (0 ∷ listed members)) }
 {
     for (i, site) in sites.iter().enumerate() {
-        if names(members, i as u8) && !site.up {
+        if !site.up && names(members, i as u8) {
             return false;
         }
     }
