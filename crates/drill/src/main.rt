@@ -21,7 +21,8 @@ fn lines(input: &[u8], text: &mut [u8]) -> usize
     drill(input, text).unwrap()
 }
 
-// Reads until the buffer is full or the input ends, and gives how many bytes it put at the start.
+// Reads until the buffer is full or the input ends, and gives how many bytes it put at the start. (A `while`: only a read tells how far
+// it came, and the library's read to the end wants a heap.)
 fn read_full<R: Read>(input: &mut R, buffer: &mut [u8]) -> io::Result<usize>
     ensures { ReadsAtMost result buffer.new }
 {

@@ -39,8 +39,6 @@ impl Bill {
     pub fn number(self) -> u32
         ensures { result ≡ bill_number (accepted self.costs) }
     {
-        0x100 * (self.costs.records as u32)
-            + 0x1_0000 * (self.costs.forces as u32)
-            + 0x100_0000 * (self.costs.sends as u32)
+        u32::from_le_bytes([0, self.costs.records, self.costs.forces, self.costs.sends])
     }
 }

@@ -83,7 +83,8 @@ impl Row {
         }
     }
 
-    // The coordinator's, upon a message of a member, begin or its timer.
+    // The coordinator's, upon a message of a member, begin or its timer. (It and a participant's are two short functions: as one, over the
+    // state's type and a closure for what follows, they would be longer.)
     fn coordinator_step(transaction: Transaction, kind: u8, participant: u8) -> Option<Row>
         requires { (receives 0 kind && (leb 16 kind || member participant (transaction_in transaction).cohort.members)) ≡ true }
         ensures { (w : plain.Run) (t : ℕ) → transaction_in transaction ≡ w.transaction t → found_in 0 t result ≡ plan.step w t 0 (input_of kind participant) }

@@ -34,7 +34,8 @@ fn packed(phase: u8, waiting: u8, taken_out: u8, row: Summary) -> u64
         + 0x100_0000_0000_0000 * (row.to as u64)
 }
 
-// The numbers of a step's answer, in two functions, as the definitions have two: over a trait of a state's numbers they were longer. Where there is no row, with the phase, the waiting set and the set taken out that are given.
+// The numbers of a step's answer; where there is no row, with the phase, the waiting set and the set taken out that are given. In two
+// functions, as the definitions have two: over a trait of a state's numbers they were longer.
 pub fn coordinator_result(
     answer: Result<Option<Row<CoordinatorState>>, Refused>,
     phase: u8,
