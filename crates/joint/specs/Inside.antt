@@ -133,7 +133,7 @@ found_in s t std.None = none
 -- what site s receives: a participant its own messages, the coordinator those of members
 unfoldable pub MayReceive : plain.Transaction → ℕ → ℕ → ℕ → Type 0
 MayReceive x zero kind p = (receives 0 kind && (leb 16 kind || member p x.cohort.members)) ≡ true
-MayReceive x (suc n) kind p = (suc n ≤ 8) × ((p ≡ suc n) × (receives 1 kind ≡ true))
+MayReceive x (suc n) kind p = (p ≡ suc n) × (receives 1 kind ≡ true)
 
 -- ---- events
 
@@ -156,8 +156,8 @@ input_event kind t p = cond (eqb kind 16) (beginning t) (cond (eqb kind 17) (tim
 -- what an event asks of site s, by the number of its kind, with participant p
 pub data Asks : event.Event → ℕ → ℕ → ℕ → ℕ → Type 0 where
   begins : (t : ℕ) → Asks (beginning t) t 0 16 0
-  delivers : (t kind p : ℕ) → kind ≤ 7 → 1 ≤ p → p ≤ 8 → Asks (delivery t p (get_or messages kind prepare)) t (receiver (get_or messages kind prepare) p) kind p
-  times : (t s : ℕ) → s ≤ 8 → Asks (timeout t s) t s 17 s
+  delivers : (t kind p : ℕ) → kind ≤ 7 → 1 ≤ p → Asks (delivery t p (get_or messages kind prepare)) t (receiver (get_or messages kind prepare) p) kind p
+  times : (t s : ℕ) → Asks (timeout t s) t s 17 s
 
 -- the plan of a step; begin and timer are refused where there is no row, and a message has no effect then
 unfoldable pub upon_input : plain.Run → ℕ → ℕ → ℕ → ℕ → Option Plan
@@ -167,11 +167,11 @@ upon_input r t s kind p =
 
 abbrev pub step_site : Step → ℕ
 step_site (steps.Open e) = 0
-step_site (steps.Input e) = e.site
-step_site (steps.Force s) = s
-step_site (steps.Discard e) = e.site
-step_site (steps.Crash e) = e.site
-step_site (steps.Mark e) = e.participant
+step_site (steps.Input e) = e.site.number
+step_site (steps.Force s) = s.number
+step_site (steps.Discard e) = e.site.number
+step_site (steps.Crash e) = e.site.number
+step_site (steps.Mark e) = e.participant.number
 
 abbrev pub step_transaction : Step → ℕ
 step_transaction (steps.Open e) = e.transaction
@@ -184,29 +184,29 @@ step_transaction (steps.Mark e) = e.transaction
 unfoldable pub step_in : Step → Parsed
 step_in (steps.Open e) = record { event = opening e.transaction e.cohort.members e.cohort.presume_commit; cut = none }
 step_in (steps.Input e) = record { event = input_event e.kind e.transaction e.participant; cut = cut_in e.cut }
-step_in (steps.Force s) = record { event = forcing s; cut = none }
-step_in (steps.Discard e) = record { event = discarding e.transaction e.site; cut = none }
-step_in (steps.Crash e) = record { event = event.crash e.site; cut = some (0, e.keep) }
-step_in (steps.Mark e) = record { event = marking e.transaction e.participant; cut = none }
+step_in (steps.Force s) = record { event = forcing s.number; cut = none }
+step_in (steps.Discard e) = record { event = discarding e.transaction e.site.number; cut = none }
+step_in (steps.Crash e) = record { event = event.crash e.site.number; cut = some (0, e.keep) }
+step_in (steps.Mark e) = record { event = marking e.transaction e.participant.number; cut = none }
 
 unfoldable pub event_in : std.Result Event Refusal → Option Parsed
 event_in (std.Err e) = none
 event_in (std.Ok (events.Step e)) = some (step_in e)
-event_in (std.Ok (events.Restart e)) = some (record { event = event.restart e.site; cut = cut_in e.cut })
+event_in (std.Ok (events.Restart e)) = some (record { event = event.restart e.site.number; cut = cut_in e.cut })
 
 abbrev pub StepInRange : Step → Type 0
 StepInRange (steps.Open e) = e.transaction ≤ 7
 StepInRange (steps.Input e) =
-    (e.transaction ≤ 7) × ((e.site ≤ 8) × Asks (input_event e.kind e.transaction e.participant) e.transaction e.site e.kind e.participant)
-StepInRange (steps.Force s) = s ≤ 8
-StepInRange (steps.Discard e) = (e.transaction ≤ 7) × (e.site ≤ 8)
-StepInRange (steps.Crash e) = e.site ≤ 8
-StepInRange (steps.Mark e) = (e.transaction ≤ 7) × (e.participant ≤ 8)
+    (e.transaction ≤ 7) × Asks (input_event e.kind e.transaction e.participant) e.transaction e.site.number e.kind e.participant
+StepInRange (steps.Force s) = Unit {0}
+StepInRange (steps.Discard e) = e.transaction ≤ 7
+StepInRange (steps.Crash e) = Unit {0}
+StepInRange (steps.Mark e) = e.transaction ≤ 7
 
 abbrev pub InRange : std.Result Event Refusal → Type 0
 InRange (std.Err e) = e ≡ refusals.Malformed
 InRange (std.Ok (events.Step e)) = StepInRange e
-InRange (std.Ok (events.Restart e)) = e.site ≤ 8
+InRange (std.Ok (events.Restart e)) = Unit {0}
 
 -- ---- changes
 

@@ -98,8 +98,8 @@ fn open(sites: &[Site; Run::SITES], before: Transaction, e: Opening) -> Result<R
 
 // Begin, a message or a timer. Begin and a timer are refused where there is no row.
 fn input(site: Site, before: Transaction, e: Input) -> Result<Row, Refusal>
-    requires { Asks (input_event e.kind e.transaction e.participant) e.transaction e.site e.kind e.participant }
-    ensures { (w : plain.Run) → Here site w e.site → transaction_in before ≡ w.transaction e.transaction → room_for w (input_event e.kind e.transaction e.participant) ≡ true → change_in w e.site e.transaction result ≡ taken w (input_event e.kind e.transaction e.participant) (cut_in e.cut) }
+    requires { Asks (input_event e.kind e.transaction e.participant) e.transaction e.site.number e.kind e.participant }
+    ensures { (w : plain.Run) → Here site w e.site.number → transaction_in before ≡ w.transaction e.transaction → room_for w (input_event e.kind e.transaction e.participant) ≡ true → change_in w e.site.number e.transaction result ≡ taken w (input_event e.kind e.transaction e.participant) (cut_in e.cut) }
 {
     ready(site, before, e.participant)?;
     if (e.kind <= Parts::LAST_KIND) & !before.sent(e.participant, e.kind) {
@@ -131,14 +131,14 @@ fn force(site: Site) -> Result<Row, Refusal>
 
 // The oldest record is dropped; with the last one gone a participant is Unknown.
 fn discard(site: Site, records: Records, before: Transaction, e: Discarding) -> Result<Row, Refusal>
-    ensures { (w : plain.Run) → site_from site records.of ≡ w.site e.site → transaction_in before ≡ w.transaction e.transaction → change_in w e.site e.transaction result ≡ taken w (event.discarding e.transaction e.site) none }
+    ensures { (w : plain.Run) → site_from site records.of ≡ w.site e.site.number → transaction_in before ≡ w.transaction e.transaction → change_in w e.site.number e.transaction result ≡ taken w (event.discarding e.transaction e.site.number) none }
 {
-    ready(site, before, e.site)?;
+    ready(site, before, e.site.number)?;
     if !may_discard(records.stable(site), e.transaction) {
         return Err(Refusal::NotAllowed);
     }
     let log = records.trim(site, e.transaction);
-    let last = (e.site != 0) & !remember(log.records.all(log.site), e.transaction);
+    let last = (e.site.number != 0) & !remember(log.records.all(log.site), e.transaction);
     Ok(Row {
         effects: Effects::NONE,
         then: Then::Discarded(last),
@@ -161,10 +161,10 @@ fn crash(site: Site, keep: u8) -> Result<Row, Refusal>
 
 // A participant that only looked is marked, while it is Working.
 fn mark(site: Site, before: Transaction, e: Marking) -> Result<Row, Refusal>
-    ensures { (w : plain.Run) → Here site w e.participant → transaction_in before ≡ w.transaction e.transaction → change_in w e.participant e.transaction result ≡ taken w (event.marking e.transaction e.participant) none }
+    ensures { (w : plain.Run) → Here site w e.participant.number → transaction_in before ≡ w.transaction e.transaction → change_in w e.participant.number e.transaction result ≡ taken w (event.marking e.transaction e.participant.number) none }
 {
-    ready(site, before, e.participant)?;
-    match before.participant_phase(e.participant) {
+    ready(site, before, e.participant.number)?;
+    match before.participant_phase(e.participant.number) {
         ParticipantPhase::Working => Ok(Row {
             effects: Effects::NONE,
             then: Then::Marked,
@@ -179,7 +179,7 @@ pub(crate) fn decide(run: &Run, step: Step) -> Result<Row, Refusal>
     ensures decided { room_for (run_in run.now) (step_in step).event ≡ true → change_in (run_in run.now) (step_site step) (step_transaction step) result ≡ taken (run_in run.now) (step_in step).event (step_in step).cut }
     ensures whole { length (get_or run.now.records (step_site step) no_records).of ≡ 24 }
 {
-    let s = step.site() as usize;
+    let s = step.site().index();
     let t = step.transaction() as usize;
     let site = run.sites[s];
     let transaction = run.transactions[t];

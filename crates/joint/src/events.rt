@@ -6,6 +6,7 @@ ghost use Rattle.joint.specs.Event.{bytes_in_range, cut_in_range, parse};
 ghost use Rattle.joint.specs.Inside.{cut_in, cut_from, event_in, InRange, step_site, step_transaction};
 
 use crate::answers::Refusal;
+use crate::numbers::SiteNumber;
 use crate::run::Run;
 use codec::message::Parts;
 use codec::sets::part;
@@ -30,7 +31,7 @@ pub struct Opening {
 #[derive(Clone, Copy)]
 pub struct Input {
     pub transaction: u8,
-    pub site: u8,
+    pub site: SiteNumber,
     pub kind: u8,
     pub participant: u8,
     pub cut: Option<Cut>,
@@ -39,24 +40,24 @@ pub struct Input {
 #[derive(Clone, Copy)]
 pub struct Discarding {
     pub transaction: u8,
-    pub site: u8,
+    pub site: SiteNumber,
 }
 
 #[derive(Clone, Copy)]
 pub struct Marking {
     pub transaction: u8,
-    pub participant: u8,
+    pub participant: SiteNumber,
 }
 
 #[derive(Clone, Copy)]
 pub struct Crash {
-    pub site: u8,
+    pub site: SiteNumber,
     pub keep: u8,
 }
 
 #[derive(Clone, Copy)]
 pub struct Restart {
-    pub site: u8,
+    pub site: SiteNumber,
     pub cut: Option<Cut>,
 }
 
@@ -65,7 +66,7 @@ pub struct Restart {
 pub enum Step {
     Open(Opening),
     Input(Input),
-    Force(u8),
+    Force(SiteNumber),
     Discard(Discarding),
     Crash(Crash),
     Mark(Marking),
@@ -129,8 +130,8 @@ fn in_range(code: u8, x: u8, y: u8, z: u8, cut: u8, keep: u8) -> bool
 }
 
 // The coordinator receives votes and acks, a participant the others.
-fn receiver(kind: u8, participant: u8) -> u8
-    ensures { result ≡ step.receiver (get_or messages kind prepare) participant }
+fn receiver(kind: u8, participant: SiteNumber) -> SiteNumber
+    ensures { result.number ≡ step.receiver (get_or messages kind prepare) participant.number }
 {
     let inward = (kind == Parts::YES)
         | (kind == Parts::NO)
@@ -138,7 +139,7 @@ fn receiver(kind: u8, participant: u8) -> u8
         | (kind == Parts::ABORT_ACK)
         | (kind == Parts::READ_ONLY);
     if inward {
-        return 0;
+        return SiteNumber::COORDINATOR;
     }
     participant
 }
@@ -154,6 +155,7 @@ fn cut_of(cut: u8, keep: u8) -> Option<Cut>
 }
 
 impl Event {
+    #[tactic(auto, using(crate::proofs::Engine::EventRanges::site_number))]
     pub fn read(bytes: &[u8]) -> Result<Event, Refusal>
         ensures { (event_in result ≡ parse bytes.now) × InRange result }
     {
@@ -179,38 +181,41 @@ impl Event {
             }))),
             Run::BEGIN => Ok(Event::Step(Step::Input(Input {
                 transaction: x,
-                site: 0,
+                site: SiteNumber::COORDINATOR,
                 kind: BEGIN,
                 participant: 0,
                 cut: cut_of(cut, keep),
             }))),
             Run::DELIVER => Ok(Event::Step(Step::Input(Input {
                 transaction: x,
-                site: receiver(z, y),
+                site: receiver(z, SiteNumber { number: y }),
                 kind: z,
                 participant: y,
                 cut: cut_of(cut, keep),
             }))),
             Run::TIMER => Ok(Event::Step(Step::Input(Input {
                 transaction: x,
-                site: y,
+                site: SiteNumber { number: y },
                 kind: TIMER,
                 participant: y,
                 cut: cut_of(cut, keep),
             }))),
-            Run::FORCE => Ok(Event::Step(Step::Force(y))),
+            Run::FORCE => Ok(Event::Step(Step::Force(SiteNumber { number: y }))),
             Run::DISCARD => Ok(Event::Step(Step::Discard(Discarding {
                 transaction: x,
-                site: y,
+                site: SiteNumber { number: y },
             }))),
-            Run::CRASH => Ok(Event::Step(Step::Crash(Crash { site: y, keep }))),
+            Run::CRASH => Ok(Event::Step(Step::Crash(Crash {
+                site: SiteNumber { number: y },
+                keep,
+            }))),
             Run::RESTART => Ok(Event::Restart(Restart {
-                site: y,
+                site: SiteNumber { number: y },
                 cut: cut_of(cut, keep),
             })),
             _ => Ok(Event::Step(Step::Mark(Marking {
                 transaction: x,
-                participant: y,
+                participant: SiteNumber { number: y },
             }))),
         }
     }
@@ -218,11 +223,11 @@ impl Event {
 
 impl Step {
     // An open is at the coordinator.
-    pub fn site(self) -> u8
-        ensures { result ≡ step_site self }
+    pub fn site(self) -> SiteNumber
+        ensures { result.number ≡ step_site self }
     {
         match self {
-            Step::Open(_) => 0,
+            Step::Open(_) => SiteNumber::COORDINATOR,
             Step::Input(e) => e.site,
             Step::Force(site) => site,
             Step::Discard(e) => e.site,

@@ -38,12 +38,13 @@ impl Run {
         ensures { (bytes : List ℕ) → parse bytes ≡ some (step_in step) → Takes self.old bytes (record { answer = result; run = self.new }) }
     {
         let row = decide(self, step)?;
-        let s = step.site() as usize;
+        let site = step.site();
+        let s = site.index();
         let t = step.transaction() as usize;
         let counts = Counts::of(row.effects);
         self.forces[s] = add_held(self.forces[s], counts.forces);
-        let after = self.transactions[t].after(s as u8, row.effects);
-        self.transactions[t] = after.settle(s as u8, row.then);
+        let after = self.transactions[t].after(site, row.effects);
+        self.transactions[t] = after.settle(site, row.then);
         if row.writes() {
             let log = self.records[s].after(self.sites[s], t as u8, row);
             self.sites[s] = log.site;
@@ -52,17 +53,16 @@ impl Run {
             self.sites[s] = self.sites[s].settle(row);
         }
         if row.goes_down() {
-            forget_all(&mut self.transactions, s);
+            forget_all(&mut self.transactions, site);
         }
         Ok(counts)
     }
 
     // It forces nothing.
     fn restart(&mut self, e: Restart) -> Answer
-        requires { e.site ≤ 8 }
-        ensures { (bytes : List ℕ) → parse bytes ≡ some (record { event = event.restart e.site; cut = cut_in e.cut }) → Takes self.old bytes (record { answer = result; run = self.new }) }
+        ensures { (bytes : List ℕ) → parse bytes ≡ some (record { event = event.restart e.site.number; cut = cut_in e.cut }) → Takes self.old bytes (record { answer = result; run = self.new }) }
     {
-        let s = e.site as usize;
+        let s = e.site.index();
         let next = restart(self.sites[s], self.records[s], self.transactions, e)?;
         self.sites[s] = next.log.site;
         self.records[s] = next.log.records;

@@ -1,5 +1,5 @@
 // Restart of a site, in each opened transaction; and power that goes at a site.
-ghost use Rattle.std.specs.Prelude.{◌≡◌, map, ◌≤◌};
+ghost use Rattle.std.specs.Prelude.{◌≡◌, map};
 ghost use Rattle.codec.specs.Answers.{record_in};
 ghost use Rattle.joint.specs.State as plain;
 ghost use Rattle.joint.specs.State.{forgotten};
@@ -9,6 +9,7 @@ ghost use Rattle.joint.specs.Inside.{KindsOf, resumed_in, resumed, restarted_in,
 
 use crate::answers::Refusal;
 use crate::events::Restart;
+use crate::numbers::SiteNumber;
 use crate::records::{Records, SiteLog, kinds};
 use crate::rows::Row;
 use crate::run::Run;
@@ -33,9 +34,8 @@ pub struct Restarted {
 }
 
 // The phase at a site is Unknown in every transaction.
-pub(crate) fn forget_all(transactions: &mut [Transaction; Run::TRANSACTIONS], site: usize)
-    requires { site ≤ 8 }
-    ensures { transactions_in transactions.new ≡ (λ t. forgotten site (transactions_in transactions.old t)) }
+pub(crate) fn forget_all(transactions: &mut [Transaction; Run::TRANSACTIONS], site: SiteNumber)
+    ensures { transactions_in transactions.new ≡ (λ t. forgotten site.number (transactions_in transactions.old t)) }
 {
     for transaction in transactions.iter_mut() {
         transaction.forget(site);
@@ -48,11 +48,10 @@ fn resume_all(
     mut transactions: [Transaction; Run::TRANSACTIONS],
     kinds: [u16; Run::TRANSACTIONS],
     records: &[Record],
-    site: u8,
+    site: SiteNumber,
     cut: u8,
 ) -> Resumed
-    requires { site ≤ 8 }
-    ensures { (x : plain.Run) → transactions_in transactions ≡ x.transaction → KindsOf kinds x site → map record_in records.now ≡ (x.site site).stable → resumed_in result ≡ resumed x site cut }
+    ensures { (x : plain.Run) → transactions_in transactions ≡ x.transaction → KindsOf kinds x site.number → map record_in records.now ≡ (x.site site.number).stable → resumed_in result ≡ resumed x site.number cut }
 {
     let mut left = cut;
     let mut sends: u8 = 0;
@@ -81,8 +80,7 @@ pub(crate) fn restart(
     transactions: [Transaction; Run::TRANSACTIONS],
     e: Restart,
 ) -> Result<Restarted, Refusal>
-    requires { e.site ≤ 8 }
-    ensures { (x : plain.Run) → site_from site records.of ≡ x.site e.site → transactions_in transactions ≡ x.transaction → restarted_in e.site x result ≡ taken x (event.restart e.site) (cut_in e.cut) }
+    ensures { (x : plain.Run) → site_from site records.of ≡ x.site e.site.number → transactions_in transactions ≡ x.transaction → restarted_in e.site.number x result ≡ taken x (event.restart e.site.number) (cut_in e.cut) }
 {
     if site.up {
         return Err(Refusal::SiteUp);
@@ -107,7 +105,7 @@ pub(crate) fn restart(
     if (resumed.left != 0) | !site.may_keep(cut.keep) {
         return Err(Refusal::CutTooFar);
     }
-    forget_all(&mut after, e.site as usize);
+    forget_all(&mut after, e.site);
     Ok(Restarted {
         sends: resumed.sends,
         log: records.stop(site, cut.keep),

@@ -11,6 +11,7 @@ ghost use Rattle.joint.specs.Plan as plan;
 ghost use Rattle.joint.specs.Answers.{transaction_in};
 ghost use Rattle.joint.specs.Inside.{plan_in, found_in, writes_log, goes_down, MayReceive};
 
+use crate::numbers::SiteNumber;
 use crate::records::cohort;
 use crate::transactions::Transaction;
 use codec::record::Record;
@@ -70,10 +71,10 @@ impl Row {
         matches!(self.then, Then::Down(_))
     }
 
-    fn participant(transaction: Transaction, number: u8) -> Participant
-        requires { number ≤ 8 }
-        ensures { (result.number ≡ number) × ((participant_in result.phase ≡ (transaction_in transaction).participant number) × ((presumption_in result.presumption ≡ presumption_of (transaction_in transaction).cohort number) × (result.marked ≡ (transaction_in transaction).marked number))) }
+    fn participant(transaction: Transaction, site: SiteNumber) -> Participant
+        ensures { (result.number ≡ site.number) × ((participant_in result.phase ≡ (transaction_in transaction).participant site.number) × ((presumption_in result.presumption ≡ presumption_of (transaction_in transaction).cohort site.number) × (result.marked ≡ (transaction_in transaction).marked site.number))) }
     {
+        let number = site.number;
         let coordinator = transaction.coordinator();
         Participant {
             phase: transaction.participant_phase(number),
@@ -101,11 +102,11 @@ impl Row {
     }
 
     // A participant's, upon a message or its timer.
-    fn participant_step(transaction: Transaction, number: u8, kind: u8) -> Option<Row>
-        requires { (1 ≤ number) × ((number ≤ 8) × (receives 1 kind ≡ true)) }
-        ensures { (w : plain.Run) (t : ℕ) → transaction_in transaction ≡ w.transaction t → found_in number t result ≡ plan.step w t number (input_of kind number) }
+    fn participant_step(transaction: Transaction, site: SiteNumber, kind: u8) -> Option<Row>
+        requires { (1 ≤ site.number) × (receives 1 kind ≡ true) }
+        ensures { (w : plain.Run) (t : ℕ) → transaction_in transaction ≡ w.transaction t → found_in site.number t result ≡ plan.step w t site.number (input_of kind site.number) }
     {
-        let participant = Row::participant(transaction, number);
+        let participant = Row::participant(transaction, site);
         let Ok(found) = participant.step(kind) else {
             return None;
         };
@@ -117,11 +118,16 @@ impl Row {
     }
 
     // Of a site: the coordinator upon a message of a member, begin or its timer, a participant upon its own message or its timer.
-    pub(crate) fn step(transaction: Transaction, site: u8, kind: u8, participant: u8) -> Option<Row>
-        requires { MayReceive (transaction_in transaction) site kind participant }
-        ensures { (w : plain.Run) (t : ℕ) → transaction_in transaction ≡ w.transaction t → found_in site t result ≡ plan.step w t site (input_of kind participant) }
+    pub(crate) fn step(
+        transaction: Transaction,
+        site: SiteNumber,
+        kind: u8,
+        participant: u8,
+    ) -> Option<Row>
+        requires { MayReceive (transaction_in transaction) site.number kind participant }
+        ensures { (w : plain.Run) (t : ℕ) → transaction_in transaction ≡ w.transaction t → found_in site.number t result ≡ plan.step w t site.number (input_of kind participant) }
     {
-        if site == 0 {
+        if site.number == 0 {
             return Row::coordinator_step(transaction, kind, participant);
         }
         Row::participant_step(transaction, site, kind)
@@ -132,14 +138,13 @@ impl Row {
     pub(crate) fn restart(
         transaction: Transaction,
         t: u8,
-        site: u8,
+        site: SiteNumber,
         kinds: u16,
         records: &[Record],
     ) -> Row
-        requires { site ≤ 8 }
-        ensures { (w : plain.Run) → transaction_in transaction ≡ w.transaction t → ((k : ℕ) → k ≤ 7 → has_kind kinds k ≡ holds t k (w.site site).stable) → map record_in records.now ≡ (w.site site).stable → plan_in site t result ≡ plan.restarting w site t }
+        ensures { (w : plain.Run) → transaction_in transaction ≡ w.transaction t → ((k : ℕ) → k ≤ 7 → has_kind kinds k ≡ holds t k (w.site site.number).stable) → map record_in records.now ≡ (w.site site.number).stable → plan_in site.number t result ≡ plan.restarting w site.number t }
     {
-        if site == 0 {
+        if site.number == 0 {
             let coordinator = Coordinator {
                 cohort: cohort(records, t, has(kinds, Record::COMMIT)),
                 state: CoordinatorState::UNKNOWN,

@@ -1,5 +1,5 @@
 // A transaction (01: a handover): the coordinator's part, and what each site has of it.
-ghost use Rattle.std.specs.Prelude.{◌≡◌, not, ℕ, ◌≤◌};
+ghost use Rattle.std.specs.Prelude.{◌≡◌, not, ℕ};
 ghost use Rattle.codec.specs.Sets.{empty};
 ghost use Rattle.site.specs.Numbers.{entry_of};
 ghost use Rattle.site.specs.Answers.{coordinator_state_in, cohort_in, participant_in, outcome_in, sending, effects_in};
@@ -8,6 +8,7 @@ ghost use Rattle.joint.specs.Plan.{opened_as};
 ghost use Rattle.joint.specs.Answers.{transaction_in, no_transaction};
 ghost use Rattle.joint.specs.Inside.{transaction_after, then_transaction};
 
+use crate::numbers::SiteNumber;
 use crate::records::with_bit;
 use crate::rows::Then;
 use crate::run::Run;
@@ -142,32 +143,29 @@ impl Transaction {
 
     pub(crate) fn with_participant(
         mut self,
-        participant: usize,
+        site: SiteNumber,
         phase: ParticipantPhase,
     ) -> Transaction
-        requires { participant ≤ 8 }
-        ensures { transaction_in result ≡ with_participant participant (participant_in phase) (transaction_in self) }
+        ensures { transaction_in result ≡ with_participant site.number (participant_in phase) (transaction_in self) }
     {
-        self.participants[participant] = phase;
+        self.participants[site.index()] = phase;
         self
     }
 
-    pub(crate) fn with_marked(mut self, participant: u8) -> Transaction
-        requires { participant ≤ 8 }
-        ensures { transaction_in result ≡ with_marked participant (transaction_in self) }
+    pub(crate) fn with_marked(mut self, site: SiteNumber) -> Transaction
+        ensures { transaction_in result ≡ with_marked site.number (transaction_in self) }
     {
-        self.marked = with_bit(self.marked, participant);
+        self.marked = with_bit(self.marked, site.number);
         self
     }
 
     // 1 commit, 2 abort; what is neither enters nothing.
-    fn enter(mut self, site: u8, entered: u8) -> Transaction
-        requires { site ≤ 8 }
-        ensures { transaction_in result ≡ transaction_after site (entry_of entered) (transaction_in self) }
+    fn enter(mut self, site: SiteNumber, entered: u8) -> Transaction
+        ensures { transaction_in result ≡ transaction_after site.number (entry_of entered) (transaction_in self) }
     {
         match entered {
-            Effects::COMMIT_ENTERED => self.committed = with_bit(self.committed, site),
-            Effects::ABORT_ENTERED => self.aborted = with_bit(self.aborted, site),
+            Effects::COMMIT_ENTERED => self.committed = with_bit(self.committed, site.number),
+            Effects::ABORT_ENTERED => self.aborted = with_bit(self.aborted, site.number),
             _ => {}
         }
         self
@@ -185,21 +183,19 @@ impl Transaction {
     }
 
     // With a row's entry and messages at a site.
-    pub(crate) fn after(self, site: u8, effects: Effects) -> Transaction
-        requires { site ≤ 8 }
-        ensures { (t : ℕ) → transaction_in result ≡ transaction_after site (effects_in t effects) (transaction_in self) }
+    pub(crate) fn after(self, site: SiteNumber, effects: Effects) -> Transaction
+        ensures { (t : ℕ) → transaction_in result ≡ transaction_after site.number (effects_in t effects) (transaction_in self) }
     {
         self.enter(site, effects.entered)
             .send(effects.message, effects.to)
     }
 
     // The phases at a site are Unknown, and the set taken out is gone with them.
-    pub(crate) fn forget(&mut self, site: usize)
-        requires { site ≤ 8 }
-        ensures { transaction_in self.new ≡ forgotten site (transaction_in self.old) }
+    pub(crate) fn forget(&mut self, site: SiteNumber)
+        ensures { transaction_in self.new ≡ forgotten site.number (transaction_in self.old) }
     {
-        self.participants[site] = ParticipantPhase::Unknown;
-        if site == 0 {
+        self.participants[site.index()] = ParticipantPhase::Unknown;
+        if site.number == 0 {
             self.part.phase = CoordinatorPhase::Unknown;
             self.taken_out = 0;
         }
@@ -208,17 +204,16 @@ impl Transaction {
     // With what follows a row at a site. (Where the site goes down, its phases in all transactions are to be forgotten.)
     // A call of it costs an event more than bench/run-drill allows.
     #[inline(always)]
-    pub(crate) fn settle(self, site: u8, then: Then) -> Transaction
-        requires { site ≤ 8 }
-        ensures { transaction_in result ≡ then_transaction site then (transaction_in self) }
+    pub(crate) fn settle(self, site: SiteNumber, then: Then) -> Transaction
+        ensures { transaction_in result ≡ then_transaction site.number then (transaction_in self) }
     {
         match then {
             Then::Coordinator(state) => self.with_coordinator(state),
-            Then::Participant(phase) => self.with_participant(site as usize, phase),
+            Then::Participant(phase) => self.with_participant(site, phase),
             Then::Opened(cohort) => self.open(cohort),
             Then::Discarded(last) => {
                 if last {
-                    return self.with_participant(site as usize, ParticipantPhase::Unknown);
+                    return self.with_participant(site, ParticipantPhase::Unknown);
                 }
                 self
             }

@@ -1,6 +1,7 @@
 -- The ranges of an event's bytes: at a code that is known, they come to a few tests.
 use Prim.Native.Nat.{ℕ, zero, suc, ◌≤◌}
-use mathlib.Core.Path.{◌≡◌, refl, sym, ◌∙◌}
+use mathlib.Core.Path.{◌≡◌, refl, sym, ap, ◌∙◌}
+use mathlib.Core.Logic.{◌≢◌}
 use mathlib.Core.Bool.{Bool, true, false, not, ◌&&◌, ◌||◌, and_assoc, and-true, or-false, or-true, and-eq-true_iff}
 use mathlib.Core.List.{List, [], ◌∷◌}
 use mathlib.Core.Option.{none, some}
@@ -12,7 +13,7 @@ use mir.Syntax.{w8}
 use mir.Val.{Fits}
 use borrow.Author.Tests.{leb-true, le-leb, eq-eqb, not-false}
 use Rattle.codec.specs.Lists.{any, every, only_if}
-use Rattle.codec.specs.Laws.Tests.{every_at}
+use Rattle.codec.specs.Laws.Tests.{every_at, alike, alike_eq, below_at}
 use Rattle.joint.specs.Event.{Parsed, event_length, event_of, ranges, bytes_in_range, cut_in_range, cut_at, cut_of, parse}
 
 pub byte : {n : ℕ} → Fits w8 n → leb n 255 ≡ true
@@ -71,3 +72,16 @@ module _ (bytes : List ℕ) where
       whole : (a b : Bool) → (a || b) ≡ true → b ≡ false → a ≡ true
       whole true b p q = refl
       whole false b p q = sym q ∙ p
+
+  -- y is a site's number, but at an open
+  pub site_number : {r : Bool} → length bytes ≡ 6 → r ≡ in_range → r ≡ true → at 0 ≢ 0 → at 2 ≤ 8
+  unfolding ranges
+  site_number {r} six held is other = by (at 0) refl
+    where
+      by : (n : ℕ) → at 0 ≡ n → at 2 ≤ 8
+      by zero e = absurd (other e)
+      by (suc n) e =
+          let a = accepted {code = suc n} {r = r} six held (ap not is) e in
+          let last : leb (get_or (get_or ranges (suc n) []) 2 0) 8 ≡ true =
+          alike_eq _ _ (below_at 8 (λ k. alike (leb (get_or (get_or ranges (suc k) []) 2 0) 8) true) tt n (omega (arith, a.known))) in
+          omega (arith, a.last_y, leb-true _ 8 last)

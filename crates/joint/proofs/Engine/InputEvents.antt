@@ -66,16 +66,16 @@ module _ (r : Run) where
   pub input_plan : {e : Event} {t s kind p : ℕ} → Asks e t s kind p → plan r e ≡ upon_input r t s kind p
   unfolding plan upon_input input_of
   input_plan (begins t) = refl
-  input_plan (delivers t kind p h l u) =
+  input_plan (delivers t kind p h l) =
       rw (lt-leb 16 kind (omega (arith, h)), ne_eqb kind 16 (omega (arith, h)), ne_eqb kind 17 (omega (arith, h))) refl
-  input_plan (times t s h) = refl
+  input_plan (times t s) = refl
 
   pub input_struck_lem : {e : Event} {t s kind p : ℕ} → Asks e t s kind p → first (refusals r e) ≡ input_struck r t s kind p
   unfolding refusals first unopened opened is_down stranger takes_part
   input_struck_lem (begins t) = ap (λ b. cond b 3 (cond (not (r.site 0).up) 5 0)) (not-not (empty (r.transaction t).cohort.members))
-  input_struck_lem (delivers t kind p h l u) =
+  input_struck_lem (delivers t kind p h l) =
       rw (not-not (empty (r.transaction t).cohort.members), message_of kind h, le-leb kind 7 h) refl
-  input_struck_lem (times t s h) =
+  input_struck_lem (times t s) =
       rw (not-not (empty (r.transaction t).cohort.members)) refl
 
 -- a participant receives its own messages, the coordinator those of members
@@ -84,19 +84,19 @@ unfolding takes_part
 part-member x zero l e = absurd (omega (arith, l))
 part-member x (suc n) l e = not-false (member (suc n) x.cohort.members) e
 
-to_itself : (x : Transaction) (p kind : ℕ) → 1 ≤ p → p ≤ 8 → receives 1 kind ≡ true → MayReceive x p kind p
+to_itself : (x : Transaction) (p kind : ℕ) → 1 ≤ p → receives 1 kind ≡ true → MayReceive x p kind p
 unfolding MayReceive
-to_itself x zero kind l u e = absurd (omega (arith, l))
-to_itself x (suc n) kind l u e = (u, (refl, e))
+to_itself x zero kind l e = absurd (omega (arith, l))
+to_itself x (suc n) kind l e = (refl, e)
 
 from_member : (x : Transaction) (p kind : ℕ) → receives 0 kind ≡ true → member p x.cohort.members ≡ true → MayReceive x 0 kind p
 unfolding MayReceive
 from_member x p kind e m = rw (e, m) (or-true (leb 16 kind))
 
-timed : (x : Transaction) (s : ℕ) → s ≤ 8 → MayReceive x s 17 s
+timed : (x : Transaction) (s : ℕ) → MayReceive x s 17 s
 unfolding MayReceive receives kinds_received any
-timed x zero h = refl
-timed x (suc n) h = (h, (refl, refl))
+timed x zero = refl
+timed x (suc n) = (refl, refl)
 
 begun : (x : Transaction) → MayReceive x 0 16 0
 unfolding MayReceive receives kinds_received any
@@ -113,9 +113,9 @@ takes_its_part x p up e = by (empty x.cohort.members) (not (takes_part x p)) (no
 
 pub input_received : {e : Event} {t s kind p : ℕ} → Asks e t s kind p → (x : Transaction) → not (takes_part x p) ≡ false → MayReceive x s kind p
 input_received (begins t) x q = begun x
-input_received (times t s h) x q = timed x s h
-input_received (delivers t kind p h l u) x q = subst (λ (s : ℕ). MayReceive x s kind p) (sym (goes_to kind p (omega (arith, h)))) (by (inward kind) refl)
+input_received (times t s) x q = timed x s
+input_received (delivers t kind p h l) x q = subst (λ (s : ℕ). MayReceive x s kind p) (sym (goes_to kind p (omega (arith, h)))) (by (inward kind) refl)
   where
     by : (b : Bool) → inward kind ≡ b → MayReceive x (cond b 0 p) kind p
     by true e = from_member x p kind (coordinator-receives kind h ∙ e) (part-member x p l q)
-    by false e = to_itself x p kind l u (participant-receives kind h ∙ ap not e)
+    by false e = to_itself x p kind l (participant-receives kind h ∙ ap not e)

@@ -1,15 +1,14 @@
 -- Begin, a message and a timer: what a site is given, by the number of its kind.
-use Prim.Native.Nat.{ℕ, ◌≤◌, ◌<◌, zero-le}
+use Prim.Native.Nat.{ℕ, ◌≤◌, ◌<◌}
 use mathlib.Core.Path.{◌≡◌, refl, sym, ap, ◌∙◌}
 use mathlib.Core.Bool.{Bool, false, cond, ◌||◌}
 use mathlib.Core.List.{List, [], ◌∷◌, map}
-use native.Mathlib.Nat.{le_refl}
 use native.Mathlib.Omega.{arith}
 use lib.ListN.{get_or, get_or-map}
 use lib.Dec.{eqb}
 use borrow.Author.Tests.{ne_eqb}
 use Rattle.codec.specs.Laws.Tests.{alike, alike_eq, below_at}
-use Rattle.site.specs.Step.{Message, prepare, vote_yes, vote_no, read_only, tell, ack, messages, coordinator_of, receiver}
+use Rattle.site.specs.Step.{Message, prepare, messages, coordinator_of, receiver}
 use Rattle.joint.specs.Event.{delivery}
 use Rattle.joint.specs.Inside.{input_event, Asks, delivers}
 
@@ -26,22 +25,11 @@ goes_to kind p h =
     ∙ get_or-map (λ (b : Bool). cond b 0 p) to kind false
     ∙ ap (λ (b : Bool). cond b 0 p) same
 
-receiver-most : (m : Message) (p : ℕ) → receiver m p ≤ p
-unfolding receiver coordinator_of
-receiver-most prepare p = le_refl p
-receiver-most vote_yes p = zero-le
-receiver-most vote_no p = zero-le
-receiver-most read_only p = zero-le
-receiver-most (tell o) p = le_refl p
-receiver-most (ack o) p = zero-le
-
 module _ (t kind p : ℕ) (h : kind ≤ 7) where
   pub message-event : input_event kind t p ≡ delivery t p (get_or messages kind prepare)
   unfolding input_event
   message-event = rw (ne_eqb kind 16 (omega (arith, h)), ne_eqb kind 17 (omega (arith, h))) refl
 
   -- s is the site that receives it
-  pub message_asks : {s : ℕ} → s ≡ receiver (get_or messages kind prepare) p → 1 ≤ p → p ≤ 8 → (s ≤ 8) × Asks (input_event kind t p) t s kind p
-  message_asks {s} e l u =
-      let m = receiver-most (get_or messages kind prepare) p in
-      (omega (arith, e, m, u), rw (message-event, e) (delivers t kind p h l u))
+  pub message_asks : {s : ℕ} → s ≡ receiver (get_or messages kind prepare) p → 1 ≤ p → Asks (input_event kind t p) t s kind p
+  message_asks e l = rw (message-event, e) (delivers t kind p h l)

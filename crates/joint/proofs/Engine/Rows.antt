@@ -172,7 +172,7 @@ coordinator_restarts w t f g r e h m =
 -- ---- a participant
 
 -- what it may receive
-pub own_message : (x : plain.Transaction) (s kind p : ℕ) → MayReceive x s kind p → (s ≡ 0 → ⊥) → (1 ≤ s) × ((s ≤ 8) × ((p ≡ s) × (receives 1 kind ≡ true)))
+pub own_message : (x : plain.Transaction) (s kind p : ℕ) → MayReceive x s kind p → (s ≡ 0 → ⊥) → (1 ≤ s) × ((p ≡ s) × (receives 1 kind ≡ true))
 unfolding MayReceive
 own_message x zero kind p h z = absurd (z refl)
 own_message x (suc n) kind p h z = (omega arith, h)

@@ -25,13 +25,13 @@ use Rattle.joint.proofs.Engine.Turns.{Full}
 
 asked_site : {e : events.Event} {t s kind p : ℕ} → Asks e t s kind p → s ≡ site_of e
 asked_site (begins t) = refl
-asked_site (delivers t kind p h l u) = refl
-asked_site (times t s h) = refl
+asked_site (delivers t kind p h l) = refl
+asked_site (times t s) = refl
 
 step-site : (e : Step) → StepInRange e → step_site e ≡ site_of (step_in e).event
 unfolding step_in
 step-site (steps.Open e) h = refl
-step-site (steps.Input e) h = asked_site h.1.1
+step-site (steps.Input e) h = asked_site h.1
 step-site (steps.Force s) h = refl
 step-site (steps.Discard e) h = refl
 step-site (steps.Crash e) h = refl
@@ -39,11 +39,11 @@ step-site (steps.Mark e) h = refl
 
 step_low : (e : Step) → StepInRange e → (step_site e ≤ 8) × (step_transaction e ≤ 7)
 step_low (steps.Open e) h = (omega arith, h)
-step_low (steps.Input e) h = (h.1.0, h.0)
-step_low (steps.Force s) h = (h, omega arith)
-step_low (steps.Discard e) h = (h.1, h.0)
-step_low (steps.Crash e) h = (h, omega arith)
-step_low (steps.Mark e) h = (h.1, h.0)
+step_low (steps.Input e) h = (e.site.in_range, h.0)
+step_low (steps.Force s) h = (s.in_range, omega arith)
+step_low (steps.Discard e) h = (e.site.in_range, h)
+step_low (steps.Crash e) h = (e.site.in_range, omega arith)
+step_low (steps.Mark e) h = (e.participant.in_range, h)
 
 pub site_low : (q : Step) {s : ℕ} → StepInRange q → s ≡ step_site q → s ≤ 8
 site_low q h e = rw e (step_low q h).0

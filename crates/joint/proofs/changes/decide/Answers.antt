@@ -1,4 +1,4 @@
-use mathlib.Core.Path.{refl, sym}
+use mathlib.Core.Path.{refl, sym, ◌∙◌}
 use mathlib.Core.List.{List}
 use mir.Val.{Val}
 use denote.Shadow.{shadow}
@@ -13,18 +13,18 @@ use Rattle.joint.proofs.changes.decide.Goals as goal
 use Rattle.joint.proofs.changes.decide.Goals.{After-transaction-t}
 
 read : (c : After-transaction-t) (us : List Val) → shadow (each records.the_row.Denot records.the_row.own_val c.args.run.now.records us)
-    → StepRead c.args.run.now c.args.step c.site-s.result c.transaction-t.result
+    → StepRead c.args.run.now c.args.step c.index-s.result c.transaction-t.result
 read c us s =
     record {
       full = record {
         nine = search length-shown;
         logs = search length-shown;
-        whole = logs-whole c.args.run.now.records us s (search length-shown) c.site-s.result no_records (site_low c.args.step c.requires c.site-s.ensures);
+        whole = logs-whole c.args.run.now.records us s (search length-shown) c.index-s.result no_records (site_low c.args.step c.requires (c.index-s.ensures ∙ c.site.ensures));
         eight = search length-shown;
         counters = search length-shown;
       };
       within = c.requires;
-      site = c.site-s.ensures;
+      site = c.index-s.ensures ∙ c.site.ensures;
       transaction = c.transaction-t.ensures;
     }
 

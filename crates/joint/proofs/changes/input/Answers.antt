@@ -20,7 +20,7 @@ returns-in_err-ready c =
     let e = a.e in
     let p = err_from_is_err_and c.from_residual.result c.from_residual.ensures.1 in
     rw (p.1, p.2)
-    (input_unready w c.requires (cut_in e.cut) c.in_err-ready.field-0.0 (unready_here w e.transaction e.site e.participant own (up_here a.site w e.site here) c.in_err-ready.ensures))
+    (input_unready w c.requires (cut_in e.cut) c.in_err-ready.field-0.0 (unready_here w e.transaction e.site.number e.participant own (up_here a.site w e.site.number here) c.in_err-ready.ensures))
 
 pub returns-then-e-sent : goal.returns-then-e-sent
 unfolding change_in number_of
@@ -28,11 +28,11 @@ returns-then-e-sent c =
     λ w here own room.
     let a = c.args in
     let e = a.e in
-    input_unsent w c.requires (cut_in e.cut) own (up_here a.site w e.site here) c.in_ok-ready.ensures c.sent.ensures c.if-e-sent.true refl
+    input_unsent w c.requires (cut_in e.cut) own (up_here a.site w e.site.number here) c.in_ok-ready.ensures c.sent.ensures c.if-e-sent.true refl
 
-passes : (c : Else-e-sent) (w : plain.Run) → Here c.args.site w c.args.e.site → transaction_in c.args.before ≡ w.transaction c.args.e.transaction
+passes : (c : Else-e-sent) (w : plain.Run) → Here c.args.site w c.args.e.site.number → transaction_in c.args.before ≡ w.transaction c.args.e.transaction
     → first (refusals w (input_event c.args.e.kind c.args.e.transaction c.args.e.participant)) ≡ 0
-passes c w here own = input_passed w c.requires none own (up_here c.args.site w c.args.e.site here) c.in_ok-ready.ensures c.sent.ensures c.if-e-sent.false refl
+passes c w here own = input_passed w c.requires none own (up_here c.args.site w c.args.e.site.number here) c.in_ok-ready.ensures c.sent.ensures c.if-e-sent.false refl
 
 pub step-requires : goal.step-requires
 step-requires c = input_received c.requires (transaction_in c.args.before) (takes_its_part (transaction_in c.args.before) c.args.e.participant c.args.site.up c.in_ok-ready.ensures)
@@ -54,7 +54,7 @@ returns-in-Some c =
     let e = a.e in
     let row = c.in-Some.row in
     let found = rw c.in-Some.is at (c.step.ensures w e.transaction own) in
-    c.carry.ensures w e.site here (input_fits w c.requires (cut_in e.cut) (passes (goal.at.returns-in-Some c).Else-e-sent w here own) row found room)
+    c.carry.ensures w e.site.number here (input_fits w c.requires (cut_in e.cut) (passes (goal.at.returns-in-Some c).Else-e-sent w here own) row found room)
     ∙ sym (input_carried w c.requires (cut_in e.cut) (passes (goal.at.returns-in-Some c).Else-e-sent w here own) row found)
 
 pub returns-else-e-ge-BEGIN : goal.returns-else-e-ge-BEGIN
@@ -64,5 +64,5 @@ returns-else-e-ge-BEGIN c =
     let a = c.args in
     let e = a.e in
     let missing = rw c.in-None.is at (c.step.ensures w e.transaction own) in
-    c.carry-in-None.ensures w e.site here (nothing_fits a.site w e.site e.transaction here)
+    c.carry-in-None.ensures w e.site.number here (nothing_fits a.site w e.site.number e.transaction here)
     ∙ sym (input_nothing w c.requires (cut_in e.cut) (passes (goal.at.returns-else-e-ge-BEGIN c).Else-e-sent w here own) missing (omega arith))

@@ -34,4 +34,4 @@ pub returns : goal.returns
 returns c =
     let l = c.loop-transaction in
     let n : length c.args.transactions.now ≡ 8 = search length-shown in
-    pass_ends transaction_in (forgotten c.args.site) no_transaction _ l.transactions l.transaction-index l.invariant (omega (arith, n, c.loop-transaction-test.false)) (none_forgotten _)
+    pass_ends transaction_in (forgotten c.args.site.number) no_transaction _ l.transactions l.transaction-index l.invariant (omega (arith, n, c.loop-transaction-test.false)) (none_forgotten _)

@@ -11,11 +11,11 @@ use Rattle.joint.proofs.restarts.restart.Goals.{After-resume_all-resumed, in-Som
 
 pub returns-then-site : goal.returns-then-site
 unfolding restarted_in number_of site_from
-returns-then-site c x e f = let a = c.args in restart-up x a.e.site 0 _ e c.if-site.true (cut_in a.e.cut)
+returns-then-site c x e f = let a = c.args in restart-up x a.e.site.number 0 _ e c.if-site.true (cut_in a.e.cut)
 
 -- the resumption, up to the cut
-resumption : (c : After-resume_all-resumed) (x : plain.Run) → site_from c.args.site c.args.records.of ≡ x.site c.args.e.site → transactions_in c.args.transactions ≡ x.transaction
-    → resumed_in c.resume_all-resumed.result ≡ resumed x c.args.e.site c.match-e.most
+resumption : (c : After-resume_all-resumed) (x : plain.Run) → site_from c.args.site c.args.records.of ≡ x.site c.args.e.site.number → transactions_in c.args.transactions ≡ x.transaction
+    → resumed_in c.resume_all-resumed.result ≡ resumed x c.args.e.site.number c.match-e.most
 resumption c x e f =
     let a = c.args in
     let records = a.records.of in
@@ -28,7 +28,7 @@ unfolding restarted_in resumed_in site_from
 returns-in_default c x e f =
     let a = c.args in
     let uncut : c.match-e.most ≡ 255 = elim c.match-e.branch [ in-Some w ↦ cc | in-None w ↦ w.most-is ] in
-    rw c.in_default.is (restart-whole x a.e.site c.match-e.most _ e c.if-site.false _ (resumption (goal.at.returns-in_default c).After-resume_all-resumed x e f) uncut _ (c.start.ensures a.records.of))
+    rw c.in_default.is (restart-whole x a.e.site.number c.match-e.most _ e c.if-site.false _ (resumption (goal.at.returns-in_default c).After-resume_all-resumed x e f) uncut _ (c.start.ensures a.records.of))
 
 pub returns-then-resumed-may_keep : goal.returns-then-resumed-may_keep
 unfolding restarted_in number_of resumed_in site_from
@@ -38,7 +38,7 @@ returns-then-resumed-may_keep c x e f =
     let most : c.match-e.most ≡ cut.after = elim c.match-e.branch [ in-Some w ↦ cc | in-None w ↦ cc ] in
     let size : length a.records.of ≡ 24 = search length-shown in
     rw (c.in-Some-cut.is, ← most)
-    (restart_too_far x a.e.site c.match-e.most _ e c.if-site.false _ (resumption (goal.at.returns-then-resumed-may_keep c).After-resume_all-resumed x e f) cut.keep
+    (restart_too_far x a.e.site.number c.match-e.most _ e c.if-site.false _ (resumption (goal.at.returns-then-resumed-may_keep c).After-resume_all-resumed x e f) cut.keep
     c.may_keep.result (c.may_keep.ensures a.records.of size) c.if-resumed-may_keep.true)
 
 pub returns : goal.returns
@@ -49,5 +49,5 @@ returns c x e f =
     let most : c.match-e.most ≡ cut.after = elim c.match-e.branch [ in-Some w ↦ cc | in-None w ↦ cc ] in
     let size : length a.records.of ≡ 24 = search length-shown in
     rw (c.in-Some-cut.is, ← most)
-    (restart-cut x a.e.site c.match-e.most _ e c.if-site.false _ (resumption (goal.at.returns c).After-resume_all-resumed x e f) cut.keep
+    (restart-cut x a.e.site.number c.match-e.most _ e c.if-site.false _ (resumption (goal.at.returns c).After-resume_all-resumed x e f) cut.keep
     c.may_keep.result (c.may_keep.ensures a.records.of size) c.if-resumed-may_keep.false _ c.stop.ensures _ c.forget_all.ensures)

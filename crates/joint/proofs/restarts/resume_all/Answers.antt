@@ -44,11 +44,11 @@ loop-i-preserved c =
       | then-opened w ↦
           let hs = effects_in l.i w.cut-happened.result in
           rw (w.left-is, w.sends-is, w.transaction-items-is)
-          (resuming-row a.site a.cut a.kinds _ a.transactions _ l.left l.sends l.i l.invariant below (is_opened l.transaction-items l.i _ c.opened.result _ within c.opened.ensures w.if-opened.true)
+          (resuming-row a.site.number a.cut a.kinds _ a.transactions _ l.left l.sends l.i l.invariant below (is_opened l.transaction-items l.i _ c.opened.result _ within c.opened.ensures w.if-opened.true)
           w.restart-row.result hs w.settle.result w.saturating_sub-left.result w.sends-sends.result
           (λ x e. w.restart-row.ensures x (read l.transaction-items l.i _ within ∙ e))
           w.cut-happened.ensures
-          (w.settle.ensures ∙ ap (then_transaction a.site w.restart-row.result.then) (w.after-after.ensures l.i ∙ ap (transaction_after a.site hs) (read l.transaction-items l.i _ within)))
+          (w.settle.ensures ∙ ap (then_transaction a.site.number w.restart-row.result.then) (w.after-after.ensures l.i ∙ ap (transaction_after a.site.number hs) (read l.transaction-items l.i _ within)))
           (w.saturating_sub-left.ensures ∙ ap (λ (k : ℕ). l.left - k) (w.count.ensures l.i))
           (w.sends-sends.ensures.0 l.i ∙ sym (row-sends l.i w.cut-happened.result))
           w.sends-sends.ensures.1)

@@ -4,4 +4,4 @@ use Rattle.joint.proofs.rows.Row.participant.Goals as goal
 
 pub returns : goal.returns
 returns c =
-    (refl, (c.participant_phase.ensures, (c.presumption.ensures ∙ ap (λ (g : Cohort). presumption_of g c.args.number) c.coordinator-coordinator.ensures.0, c.marked.ensures)))
+    (refl, (c.participant_phase.ensures, (c.presumption.ensures ∙ ap (λ (g : Cohort). presumption_of g c.args.site.number) c.coordinator-coordinator.ensures.0, c.marked.ensures)))

@@ -21,14 +21,14 @@ pub returns-in_default : goal.returns-in_default
 unfolding planned
 returns-in_default c = λ w own h log.
     let r = c.participant-participant in
-    let low : 1 ≤ c.args.site = omega (arith, c.if-site-eq0.false) in
-    absurd (some-none (sym (participant_restarts c.args.transaction w c.args.t own c.args.site low c.requires r.result r.ensures.0 r.ensures.1.0 r.ensures.1.1.0 r.ensures.1.1.1
+    let low : 1 ≤ c.args.site.number = omega (arith, c.if-site-eq0.false) in
+    absurd (some-none (sym (participant_restarts c.args.transaction w c.args.t own c.args.site.number low c.args.site.in_range r.result r.ensures.0 r.ensures.1.0 r.ensures.1.1.0 r.ensures.1.1.1
     (has_kind c.args.kinds) (std.Err c.in_default.field-0) (rw c.in_default.is at (c.restart.ensures c.args.t)) h)))
 
 pub returns : goal.returns
 unfolding planned row_plan then_in
 returns c = λ w own h log.
     let r = c.participant-participant in
-    let low : 1 ≤ c.args.site = omega (arith, c.if-site-eq0.false) in
-    some_same (participant_restarts c.args.transaction w c.args.t own c.args.site low c.requires r.result r.ensures.0 r.ensures.1.0 r.ensures.1.1.0 r.ensures.1.1.1
+    let low : 1 ≤ c.args.site.number = omega (arith, c.if-site-eq0.false) in
+    some_same (participant_restarts c.args.transaction w c.args.t own c.args.site.number low c.args.site.in_range r.result r.ensures.0 r.ensures.1.0 r.ensures.1.1.0 r.ensures.1.1.1
     (has_kind c.args.kinds) (std.Ok c.in-Ok.row) (rw c.in-Ok.is at (c.restart.ensures c.args.t)) h)

@@ -41,28 +41,28 @@ module _ (c : Joined-writes) (x : List ℕ) (parse_is : parse x ≡ some (step_i
   run = c.args.self.now
 
   abbrev number : ℕ
-  number = c.site-s.result
+  number = c.index-s.result
 
   abbrev transaction : ℕ
   transaction = c.transaction-t.result
 
-  a : StepRead c.args.self.now c.args.step c.site-s.result c.transaction-t.result
+  a : StepRead c.args.self.now c.args.step c.index-s.result c.transaction-t.result
   a =
       record {
-        full = record { nine = search length-shown; logs = search length-shown; whole = rw c.site-s.ensures c.decide.ensures.whole; eight = search length-shown; counters = search length-shown };
+        full = record { nine = search length-shown; logs = search length-shown; whole = rw (c.index-s.ensures, c.site-site.ensures) c.decide.ensures.whole; eight = search length-shown; counters = search length-shown };
         within = c.requires;
-        site = c.site-s.ensures;
+        site = c.index-s.ensures ∙ c.site-site.ensures;
         transaction = c.transaction-t.ensures;
       }
 
-  decided : change_in (run_in c.args.self.now) c.site-s.result c.transaction-t.result (Ok c.in_ok-row.row) ≡ taken (run_in c.args.self.now) (step_in c.args.step).event (step_in c.args.step).cut
-  decided = rw (c.site-s.ensures, c.transaction-t.ensures, ← c.in_ok-row.was) (c.decide.ensures.decided (parsed_room (run_in run) x _ parse_is room))
+  decided : change_in (run_in c.args.self.now) c.index-s.result c.transaction-t.result (Ok c.in_ok-row.row) ≡ taken (run_in c.args.self.now) (step_in c.args.step).event (step_in c.args.step).cut
+  decided = rw (c.index-s.ensures, c.site-site.ensures, c.transaction-t.ensures, ← c.in_ok-row.was) (c.decide.ensures.decided (parsed_room (run_in run) x _ parse_is room))
 
-  row_seen : seen (carry (run_in c.args.self.now) (plan_in c.site-s.result c.transaction-t.result c.in_ok-row.row) none) ≡ seen (event (run_in c.args.self.now) x)
+  row_seen : seen (carry (run_in c.args.self.now) (plan_in c.index-s.result c.transaction-t.result c.in_ok-row.row) none) ≡ seen (event (run_in c.args.self.now) x)
   unfolding change_in
   row_seen = decided ∙ parsed_seen (run_in run) x _ parse_is
 
-  fits : Fits (effects_in c.transaction-t.result c.in_ok-row.row.effects) ((run_in c.args.self.now).site c.site-s.result)
+  fits : Fits (effects_in c.transaction-t.result c.in_ok-row.row.effects) ((run_in c.args.self.now).site c.index-s.result)
   unfolding change_in
   fits =
       let v = run_in run in
@@ -75,18 +75,18 @@ module _ (c : Joined-writes) (x : List ℕ) (parse_is : parse x ≡ some (step_i
 
   put_stored : transactions_in put
       ≡ update c.transaction-t.result
-      (λ _. then_transaction c.site-s.result c.in_ok-row.row.then
-      (transaction_after c.site-s.result (effects_in c.transaction-t.result c.in_ok-row.row.effects) ((run_in c.args.self.now).transaction c.transaction-t.result)))
+      (λ _. then_transaction c.index-s.result c.in_ok-row.row.then
+      (transaction_after c.index-s.result (effects_in c.transaction-t.result c.in_ok-row.row.effects) ((run_in c.args.self.now).transaction c.transaction-t.result)))
       (run_in c.args.self.now).transaction
   unfolding run_in
   put_stored =
       transactions-stored run.transactions transaction c.settle.result a.full.eight (few a)
       ∙ ap (λ (y : plain.Transaction). update transaction (λ _. y) (transactions_in run.transactions))
-      (c.settle.ensures
-      ∙ ap (then_transaction number c.in_ok-row.row.then) (c.after-after.ensures transaction ∙ ap (transaction_after number (effects_in transaction c.in_ok-row.row.effects)) (transaction_read run transaction _ a.full.eight (few a))))
+      ((rw (← c.index-s.ensures) at c.settle.ensures)
+      ∙ ap (then_transaction number c.in_ok-row.row.then) ((rw (← c.index-s.ensures) at c.after-after.ensures transaction) ∙ ap (transaction_after number (effects_in transaction c.in_ok-row.row.effects)) (transaction_read run transaction _ a.full.eight (few a))))
 
   abbrev counted : List ℕ
-  counted = set c.args.self.now.forces c.site-s.result c.add_held.result
+  counted = set c.args.self.now.forces c.index-s.result c.add_held.result
 
   turned : (next : Run) → next.forces ≡ counted
       → record { answer = accepted c.of-counts.result; run = run_in next } ≡ seen (event (run_in c.args.self.now) x)
@@ -103,7 +103,7 @@ module _ (c : Joined-writes) (x : List ℕ) (parse_is : parse x ≡ some (step_i
   forces_put = elim c.if-writes.branch [ then-writes w ↦ ap (λ (r : Run). r.forces) w.self-is | else-writes w ↦ ap (λ (r : Run). r.forces) w.self-is ]
 
   site_put : site_at c.if-writes.self.sites c.if-writes.self.records
-      ≡ update c.site-s.result (λ _. row_site c.transaction-t.result c.in_ok-row.row ((run_in c.args.self.now).site c.site-s.result)) (run_in c.args.self.now).site
+      ≡ update c.index-s.result (λ _. row_site c.transaction-t.result c.in_ok-row.row ((run_in c.args.self.now).site c.index-s.result)) (run_in c.args.self.now).site
   site_put =
       elim c.if-writes.branch [
         | then-writes w ↦ ap (λ (r : Run). site_at r.sites r.records) w.self-is ∙ log-stored run number a.full (low a) _ transaction c.in_ok-row.row _ _ w.after-log.ensures fits
@@ -115,14 +115,14 @@ unfolding next_in answer_in run_in
 returns-then-goes_down c bytes parse_is room =
     let v = run_in c.args.self.now in
     let at = (goal.at.returns-then-goes_down c).Joined-writes in
-    let s = c.site-s.result in
+    let s = c.index-s.result in
     let t = c.transaction-t.result in
     let row = c.in_ok-row.row in
     let forget : (ℕ → plain.Transaction) → ℕ → plain.Transaction = λ f u. forgotten s (f u) in
     turned at bytes parse_is room _ (forces_put at bytes parse_is room)
     (happens_seen v s t row c.of-counts.result _ _ (c.of-counts.ensures t) (site_put at bytes parse_is room)
     (rw (sym c.goes_down.ensures ∙ c.if-goes_down.true)
-    (c.forget_all.ensures ∙ ap forget (ap transactions_in (transactions_put at bytes parse_is room) ∙ put_stored at bytes parse_is room)))
+    ((rw (← c.index-s.ensures) at c.forget_all.ensures) ∙ ap forget (ap transactions_in (transactions_put at bytes parse_is room) ∙ put_stored at bytes parse_is room)))
     ∙ row_seen at bytes parse_is room)
 
 pub returns-else-goes_down : goal.returns-else-goes_down
@@ -130,7 +130,7 @@ unfolding next_in answer_in run_in
 returns-else-goes_down c bytes parse_is room =
     let v = run_in c.args.self.now in
     let at = (goal.at.returns-else-goes_down c).Joined-writes in
-    let s = c.site-s.result in
+    let s = c.index-s.result in
     let t = c.transaction-t.result in
     let row = c.in_ok-row.row in
     turned at bytes parse_is room c.if-writes.self (forces_put at bytes parse_is room)

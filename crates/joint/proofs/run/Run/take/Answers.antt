@@ -16,9 +16,6 @@ returns-in_err-step c room =
 pub step-requires : goal.step-requires
 step-requires c = (rw c.in-Step.is at c.in_ok-step.ensures).1
 
-pub restart-requires : goal.restart-requires
-restart-requires c = (rw c.in-Restart.is at c.in_ok-step.ensures).1
-
 pub returns-in-Step : goal.returns-in-Step
 unfolding event_in
 returns-in-Step c room = c.step.ensures c.args.event.now (sym (rw c.in-Step.is at c.in_ok-step.ensures).0) room

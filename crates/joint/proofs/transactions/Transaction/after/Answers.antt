@@ -8,6 +8,6 @@ use Rattle.joint.proofs.transactions.Transaction.after.Goals as goal
 pub returns : goal.returns
 returns c t =
     let a = c.args in
-    c.send.ensures a.site t a.effects.owing
-    ∙ ap (transaction_after a.site (sending t a.effects.message a.effects.owing a.effects.to)) c.enter.ensures
-    ∙ sym (transaction-row a.site t (transaction_in a.self) a.effects)
+    c.send.ensures a.site.number t a.effects.owing
+    ∙ ap (transaction_after a.site.number (sending t a.effects.message a.effects.owing a.effects.to)) c.enter.ensures
+    ∙ sym (transaction-row a.site.number t (transaction_in a.self) a.effects)

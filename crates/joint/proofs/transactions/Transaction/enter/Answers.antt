@@ -18,13 +18,13 @@ pub returns-in-1 : goal.returns-in-1
 unfolding entry_of transaction_after
 returns-in-1 c =
     let a = c.args in
-    rw c.in-1.is (commit_entered a.self a.site c.with_bit.result c.with_bit.ensures)
+    rw c.in-1.is (commit_entered a.self a.site.number c.with_bit.result c.with_bit.ensures)
 
 pub returns-in-2 : goal.returns-in-2
 unfolding entry_of transaction_after
 returns-in-2 c =
     let a = c.args in
-    rw c.in-2.is (abort_entered a.self a.site c.with_bit-in-2.result c.with_bit-in-2.ensures)
+    rw c.in-2.is (abort_entered a.self a.site.number c.with_bit-in-2.result c.with_bit-in-2.ensures)
 
 pub returns-in_default : goal.returns-in_default
 returns-in_default c = sym (nothing_entered _ _ c.args.entered (omega arith) (omega arith))

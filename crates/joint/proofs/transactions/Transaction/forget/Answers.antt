@@ -13,10 +13,11 @@ unfolding forgotten transaction_in with_coordinator
 returns-then-site-eq0 c =
     let x = c.args.self.now in
     let n : length x.participants ≡ 9 = search length-shown in
-    rw c.if-site-eq0.true (ap (with_coordinator 0 unknown_part) (phase-stored x 0 (omega (arith, n)) Unknown))
+    rw (c.index.ensures, c.if-site-eq0.true) (ap (with_coordinator 0 unknown_part) (phase-stored x 0 (omega (arith, n)) Unknown))
 
 pub returns-else-site-eq0 : goal.returns-else-site-eq0
 returns-else-site-eq0 c =
     let x = c.args.self.now in
     let n : length x.participants ≡ 9 = search length-shown in
-    phase-stored x c.args.site (omega (arith, n)) Unknown ∙ sym (forgotten-participant _ c.args.site c.if-site-eq0.false)
+    let s = c.args.site in
+    rw c.index.ensures (phase-stored x s.number (omega (arith, n, s.in_range)) Unknown ∙ sym (forgotten-participant _ s.number c.if-site-eq0.false))

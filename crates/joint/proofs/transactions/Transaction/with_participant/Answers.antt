@@ -9,4 +9,4 @@ pub returns : goal.returns
 returns c =
     let a = c.args in
     let n : length a.self.participants ≡ 9 = search length-shown in
-    phase-stored a.self a.participant (omega arith) a.phase
+    rw c.index.ensures (phase-stored a.self a.site.number (omega (arith, n, a.site.in_range)) a.phase)
