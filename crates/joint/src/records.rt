@@ -218,7 +218,7 @@ impl Records {
         }
     }
 
-    // The image of the stable records, as the log of site `number`, from `at` on: 0, or 21, 23, 27, 28, 24, 25 and the buffer as it was.
+    // The image of the stable records, as the log of site `number`, from `at` on; or 21, 23, 27, 28, 24, 25 and the buffer as it was.
     pub(crate) fn write_log(
         &self,
         number: u8,

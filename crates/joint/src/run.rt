@@ -148,7 +148,7 @@ impl Run {
         self.transaction(transaction).entered(site, outcome)
     }
 
-    // A site's log image from `at` on: 0, or the number that refuses it, 21, 23, 27, 28, 24 or 25, and the buffer as it was.
+    // Writes a site's log image from `at` on; or what refuses it, 21, 23, 27, 28, 24 or 25, and the buffer as it was.
     pub fn write_log(&self, site: u8, buffer: &mut [u8], at: usize) -> Result<(), Refusal>
         ensures { written (result_number result) buffer.new ≡ write_image site ((run_in self.now).site site).stable at buffer.old }
     {

@@ -32,7 +32,7 @@ impl CoordinatorState {
     };
 }
 
-// One transaction: its cohort as opened, and the coordinator's part.
+// One transaction: its cohort, as opened or at a restart as recorded, and the coordinator's part.
 #[derive(Clone, Copy)]
 pub struct Coordinator {
     pub cohort: Cohort,

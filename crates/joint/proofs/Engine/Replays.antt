@@ -29,16 +29,6 @@ use Rattle.joint.proofs.Base.History.{after_snoc, answers_snoc, history_snoc}
 use Rattle.joint.proofs.Base.Forces.{held-sum, forces-append}
 use Rattle.joint.proofs.Engine.Openings.{handovers-few, openings_counted}
 
--- an answer, byte by byte
-pub answer-stored : (buffer : List ℕ) (at : ℕ) (x : Answer) {a b c d : ℕ} → at + 4 ≤ length buffer
-    → a ≡ x.number → b ≡ x.records → c ≡ x.forces → d ≡ x.sends
-    → set (set (set (set buffer at a) (at + 1) b) (at + 2) c) (at + 3) d ≡ stored at (answer_bytes x) buffer
-unfolding stored answer_bytes
-answer-stored buffer at x h p q r s =
-    let two : at + 2 ≡ suc (suc at) = omega arith in
-    let three : at + 3 ≡ suc (suc (suc at)) = omega arith in
-    rw (p, q, r, s, add-one, two, three) (sets-eq (answer_bytes x) buffer at h)
-
 -- ---- events
 
 -- the event behind the first n

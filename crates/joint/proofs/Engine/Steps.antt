@@ -1,4 +1,4 @@
--- A step that the loop over events read: its site and transaction are the run's, and what is decided of it there.
+-- A step that was read: its site and transaction are the run's, and what is decided of it there.
 use Prim.Native.Nat.{ℕ, ◌≤◌}
 use mathlib.Core.Path.{◌≡◌, refl, ap, ◌∙◌}
 use Rattle.std.specs.Prelude.{Result}

@@ -1,4 +1,4 @@
--- One turn of the loop over events: an event more is read, decided, and stored in the run's arrays.
+-- One event: it is read, decided, and stored in the run's arrays.
 use Prim.Native.Nat.{ℕ, zero, suc, ◌+◌, ◌≤◌, ◌<◌}
 use mathlib.Core.Path.{◌≡◌, refl, sym, ap, ◌∙◌}
 use mathlib.Core.Bool.{Bool, true, false, cond, not, ◌||◌}
