@@ -21,7 +21,7 @@ impl CoordinatorPhase {
     // The largest number of a phase. A participant's phases are as many.
     pub const LAST: u8 = 4;
 
-    // What is no phase is Unknown. Not a From: that would not say that it takes every number.
+    // What is no phase is Unknown. By name and not From, whose promise would stand in a ghost member and not as the clause of a public call.
     #[tactic(auto, using(crate::proofs::Phased::last_coordinator), unfolding(crate::specs::Numbers::coordinator_from))]
     pub fn from_numbers(phase: u8, waiting: u8) -> CoordinatorPhase
         ensures { coordinator_in result ≡ coordinator_from phase waiting }
@@ -35,6 +35,7 @@ impl CoordinatorPhase {
         }
     }
 
+    // A match: variants that carry a set have no number of their own.
     #[tactic(auto, unfolding(crate::specs::Numbers::coordinator_phase))]
     pub fn number(self) -> u8
         ensures { result ≡ coordinator_phase (coordinator_in self) }
@@ -91,7 +92,7 @@ pub enum ParticipantPhase {
 }
 
 impl ParticipantPhase {
-    // What is no phase is Unknown.
+    // What is no phase is Unknown. By name, as the coordinator's.
     #[tactic(auto, using(crate::proofs::Phased::last_participant), unfolding(crate::specs::Numbers::participant_from))]
     pub fn from_number(phase: u8) -> ParticipantPhase
         ensures { participant_in result ≡ participant_from phase }

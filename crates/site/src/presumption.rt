@@ -18,7 +18,7 @@ pub enum Outcome {
 }
 
 impl Outcome {
-    // As it is entered.
+    // As it is entered: a match as in the numbers below, which are constants of the codec and of a row.
     #[tactic(auto, unfolding(crate::specs::Numbers::outcome_number))]
     pub fn number(self) -> u8
         ensures { result ≡ outcome_number (outcome_in self) }
