@@ -6,7 +6,7 @@ ghost use Rattle.joint.specs.Event.{bytes_in_range, cut_in_range, parse};
 ghost use Rattle.joint.specs.Inside.{cut_in, cut_from, event_in, InRange, step_site, step_transaction};
 
 use crate::answers::Refusal;
-use crate::numbers::SiteNumber;
+use crate::numbers::{SiteNumber, TransactionNumber};
 use crate::run::Run;
 use codec::message::Parts;
 use codec::sets::part;
@@ -22,7 +22,7 @@ pub struct Cut {
 
 #[derive(Clone, Copy)]
 pub struct Opening {
-    pub transaction: u8,
+    pub transaction: TransactionNumber,
     pub cohort: Cohort,
 }
 
@@ -30,7 +30,7 @@ pub struct Opening {
 // participant 0, a timer its own site.
 #[derive(Clone, Copy)]
 pub struct Input {
-    pub transaction: u8,
+    pub transaction: TransactionNumber,
     pub site: SiteNumber,
     pub kind: u8,
     pub participant: u8,
@@ -39,13 +39,13 @@ pub struct Input {
 
 #[derive(Clone, Copy)]
 pub struct Discarding {
-    pub transaction: u8,
+    pub transaction: TransactionNumber,
     pub site: SiteNumber,
 }
 
 #[derive(Clone, Copy)]
 pub struct Marking {
-    pub transaction: u8,
+    pub transaction: TransactionNumber,
     pub participant: SiteNumber,
 }
 
@@ -155,7 +155,7 @@ fn cut_of(cut: u8, keep: u8) -> Option<Cut>
 }
 
 impl Event {
-    #[tactic(auto, using(crate::proofs::Engine::EventRanges::site_number))]
+    #[tactic(auto, using(crate::proofs::Engine::EventRanges::site_number, crate::proofs::Engine::EventRanges::transaction_number))]
     pub fn read(bytes: &[u8]) -> Result<Event, Refusal>
         ensures { (event_in result ≡ parse bytes.now) × InRange result }
     {
@@ -171,30 +171,31 @@ impl Event {
         if !in_range(code, x, y, z, cut, keep) {
             return Err(Refusal::Malformed);
         }
+        let transaction = TransactionNumber { number: x };
         match code {
             Run::OPEN => Ok(Event::Step(Step::Open(Opening {
-                transaction: x,
+                transaction,
                 cohort: Cohort {
                     members: y,
                     presume_commit: z,
                 },
             }))),
             Run::BEGIN => Ok(Event::Step(Step::Input(Input {
-                transaction: x,
+                transaction,
                 site: SiteNumber::COORDINATOR,
                 kind: BEGIN,
                 participant: 0,
                 cut: cut_of(cut, keep),
             }))),
             Run::DELIVER => Ok(Event::Step(Step::Input(Input {
-                transaction: x,
+                transaction,
                 site: receiver(z, SiteNumber { number: y }),
                 kind: z,
                 participant: y,
                 cut: cut_of(cut, keep),
             }))),
             Run::TIMER => Ok(Event::Step(Step::Input(Input {
-                transaction: x,
+                transaction,
                 site: SiteNumber { number: y },
                 kind: TIMER,
                 participant: y,
@@ -202,7 +203,7 @@ impl Event {
             }))),
             Run::FORCE => Ok(Event::Step(Step::Force(SiteNumber { number: y }))),
             Run::DISCARD => Ok(Event::Step(Step::Discard(Discarding {
-                transaction: x,
+                transaction,
                 site: SiteNumber { number: y },
             }))),
             Run::CRASH => Ok(Event::Step(Step::Crash(Crash {
@@ -214,7 +215,7 @@ impl Event {
                 cut: cut_of(cut, keep),
             })),
             _ => Ok(Event::Step(Step::Mark(Marking {
-                transaction: x,
+                transaction,
                 participant: SiteNumber { number: y },
             }))),
         }
@@ -237,15 +238,15 @@ impl Step {
     }
 
     // 0 where it names none.
-    pub fn transaction(self) -> u8
-        ensures { result ≡ step_transaction self }
+    pub fn transaction(self) -> TransactionNumber
+        ensures { result.number ≡ step_transaction self }
     {
         match self {
             Step::Open(e) => e.transaction,
             Step::Input(e) => e.transaction,
-            Step::Force(_) => 0,
+            Step::Force(_) => TransactionNumber { number: 0 },
             Step::Discard(e) => e.transaction,
-            Step::Crash(_) => 0,
+            Step::Crash(_) => TransactionNumber { number: 0 },
             Step::Mark(e) => e.transaction,
         }
     }

@@ -20,7 +20,7 @@ returns-in_err-ready c =
     let e = a.e in
     let p = err_from_is_err_and c.from_residual.result c.from_residual.ensures.1 in
     rw (p.1, p.2)
-    (input_unready w c.requires (cut_in e.cut) c.in_err-ready.field-0.0 (unready_here w e.transaction e.site.number e.participant own (up_here a.site w e.site.number here) c.in_err-ready.ensures))
+    (input_unready w c.requires (cut_in e.cut) c.in_err-ready.field-0.0 (unready_here w e.transaction.number e.site.number e.participant own (up_here a.site w e.site.number here) c.in_err-ready.ensures))
 
 pub returns-then-e-sent : goal.returns-then-e-sent
 unfolding change_in number_of
@@ -30,8 +30,8 @@ returns-then-e-sent c =
     let e = a.e in
     input_unsent w c.requires (cut_in e.cut) own (up_here a.site w e.site.number here) c.in_ok-ready.ensures c.sent.ensures c.if-e-sent.true refl
 
-passes : (c : Else-e-sent) (w : plain.Run) → Here c.args.site w c.args.e.site.number → transaction_in c.args.before ≡ w.transaction c.args.e.transaction
-    → first (refusals w (input_event c.args.e.kind c.args.e.transaction c.args.e.participant)) ≡ 0
+passes : (c : Else-e-sent) (w : plain.Run) → Here c.args.site w c.args.e.site.number → transaction_in c.args.before ≡ w.transaction c.args.e.transaction.number
+    → first (refusals w (input_event c.args.e.kind c.args.e.transaction.number c.args.e.participant)) ≡ 0
 passes c w here own = input_passed w c.requires none own (up_here c.args.site w c.args.e.site.number here) c.in_ok-ready.ensures c.sent.ensures c.if-e-sent.false refl
 
 pub step-requires : goal.step-requires
@@ -43,7 +43,7 @@ returns-then-e-ge-BEGIN c =
     λ w here own room.
     let a = c.args in
     let e = a.e in
-    let missing = rw c.in-None.is at (c.step.ensures w e.transaction own) in
+    let missing = rw c.in-None.is at (c.step.ensures w e.transaction.number own) in
     input_unallowed w c.requires (cut_in e.cut) (passes (goal.at.returns-then-e-ge-BEGIN c).Else-e-sent w here own) missing (omega arith)
 
 pub returns-in-Some : goal.returns-in-Some
@@ -53,7 +53,7 @@ returns-in-Some c =
     let a = c.args in
     let e = a.e in
     let row = c.in-Some.row in
-    let found = rw c.in-Some.is at (c.step.ensures w e.transaction own) in
+    let found = rw c.in-Some.is at (c.step.ensures w e.transaction.number own) in
     c.carry.ensures w e.site.number here (input_fits w c.requires (cut_in e.cut) (passes (goal.at.returns-in-Some c).Else-e-sent w here own) row found room)
     ∙ sym (input_carried w c.requires (cut_in e.cut) (passes (goal.at.returns-in-Some c).Else-e-sent w here own) row found)
 
@@ -63,6 +63,6 @@ returns-else-e-ge-BEGIN c =
     λ w here own room.
     let a = c.args in
     let e = a.e in
-    let missing = rw c.in-None.is at (c.step.ensures w e.transaction own) in
-    c.carry-in-None.ensures w e.site.number here (nothing_fits a.site w e.site.number e.transaction here)
+    let missing = rw c.in-None.is at (c.step.ensures w e.transaction.number own) in
+    c.carry-in-None.ensures w e.site.number here (nothing_fits a.site w e.site.number e.transaction.number here)
     ∙ sym (input_nothing w c.requires (cut_in e.cut) (passes (goal.at.returns-else-e-ge-BEGIN c).Else-e-sent w here own) missing (omega arith))
