@@ -194,19 +194,9 @@ event_in (std.Err e) = none
 event_in (std.Ok (events.Step e)) = some (step_in e)
 event_in (std.Ok (events.Restart e)) = some (record { event = event.restart e.site.number; cut = cut_in e.cut })
 
--- what an input asks is of its site
-abbrev pub StepAsks : Step → Type 0
-StepAsks (steps.Open e) = Unit {0}
-StepAsks (steps.Input e) = Asks (input_event e.kind e.transaction.number e.participant) e.transaction.number e.site.number e.kind e.participant
-StepAsks (steps.Force s) = Unit {0}
-StepAsks (steps.Discard e) = Unit {0}
-StepAsks (steps.Crash e) = Unit {0}
-StepAsks (steps.Mark e) = Unit {0}
-
-abbrev pub InRange : std.Result Event Refusal → Type 0
-InRange (std.Err e) = e ≡ refusals.Malformed
-InRange (std.Ok (events.Step e)) = StepAsks e
-InRange (std.Ok (events.Restart e)) = Unit {0}
+abbrev pub Malformed : std.Result Event Refusal → Type 0
+Malformed (std.Err e) = e ≡ refusals.Malformed
+Malformed (std.Ok e) = Unit {0}
 
 -- ---- changes
 

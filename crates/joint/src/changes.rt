@@ -8,11 +8,12 @@ ghost use Rattle.joint.specs.State as plain;
 ghost use Rattle.joint.specs.Event as event;
 ghost use Rattle.joint.specs.Run as run;
 ghost use Rattle.joint.specs.Answers.{site_from, no_site, no_records, transaction_in, run_in, number_of, seen};
-ghost use Rattle.joint.specs.Inside.{plan_in, change_in, Here, Fits, Asks, input_event, cut_in, taken, unready, StepAsks, step_in, step_site, step_transaction};
+ghost use Rattle.joint.specs.Inside.{plan_in, change_in, Here, Fits, input_event, cut_in, taken, unready, step_in, step_site, step_transaction};
 ghost use Rattle.joint.specs.Program.{room_for};
 
 use crate::answers::Refusal;
-use crate::events::{Cut, Discarding, Input, Marking, Opening, Step};
+use crate::events::{Cut, Discarding, Marking, Opening, Step};
+use crate::input::Input;
 use crate::records::{Records, may_discard, remember};
 use crate::rows::{Row, Then};
 use crate::run::Run;
@@ -98,7 +99,6 @@ fn open(sites: &[Site; Run::SITES], before: Transaction, e: Opening) -> Result<R
 
 // Begin, a message or a timer. Begin and a timer are refused where there is no row.
 fn input(site: Site, before: Transaction, e: Input) -> Result<Row, Refusal>
-    requires { Asks (input_event e.kind e.transaction.number e.participant) e.transaction.number e.site.number e.kind e.participant }
     ensures { (w : plain.Run) → Here site w e.site.number → transaction_in before ≡ w.transaction e.transaction.number → room_for w (input_event e.kind e.transaction.number e.participant) ≡ true → change_in w e.site.number e.transaction.number result ≡ taken w (input_event e.kind e.transaction.number e.participant) (cut_in e.cut) }
 {
     ready(site, before, e.participant)?;
@@ -175,7 +175,6 @@ fn mark(site: Site, before: Transaction, e: Marking) -> Result<Row, Refusal>
 
 // What a step does, by its kind; and its site has 24 records.
 pub(crate) fn decide(run: &Run, step: Step) -> Result<Row, Refusal>
-    requires { StepAsks step }
     ensures decided { room_for (run_in run.now) (step_in step).event ≡ true → change_in (run_in run.now) (step_site step) (step_transaction step) result ≡ taken (run_in run.now) (step_in step).event (step_in step).cut }
     ensures whole { length (get_or run.now.records (step_site step) no_records).of ≡ 24 }
 {

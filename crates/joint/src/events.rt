@@ -3,9 +3,10 @@ ghost use Rattle.std.specs.Prelude.{◌≡◌, not, ◌&&◌, ◌||◌, eqb, get
 ghost use Rattle.site.specs.Step as step;
 ghost use Rattle.site.specs.Step.{messages, prepare};
 ghost use Rattle.joint.specs.Event.{bytes_in_range, cut_in_range, parse};
-ghost use Rattle.joint.specs.Inside.{cut_in, cut_from, event_in, InRange, step_site, step_transaction};
+ghost use Rattle.joint.specs.Inside.{cut_in, cut_from, event_in, Malformed, step_site, step_transaction};
 
 use crate::answers::Refusal;
+use crate::input::Input;
 use crate::numbers::{SiteNumber, TransactionNumber};
 use crate::run::Run;
 use codec::message::Parts;
@@ -24,17 +25,6 @@ pub struct Cut {
 pub struct Opening {
     pub transaction: TransactionNumber,
     pub cohort: Cohort,
-}
-
-// Begin, a message of a participant, or a timer: what a site is given, by the number of its kind. Begin names
-// participant 0, a timer its own site.
-#[derive(Clone, Copy)]
-pub struct Input {
-    pub transaction: TransactionNumber,
-    pub site: SiteNumber,
-    pub kind: u8,
-    pub participant: u8,
-    pub cut: Option<Cut>,
 }
 
 #[derive(Clone, Copy)]
@@ -157,7 +147,7 @@ fn cut_of(cut: u8, keep: u8) -> Option<Cut>
 impl Event {
     #[tactic(auto, using(crate::proofs::Engine::EventRanges::site_number, crate::proofs::Engine::EventRanges::transaction_number))]
     pub fn read(bytes: &[u8]) -> Result<Event, Refusal>
-        ensures { (event_in result ≡ parse bytes.now) × InRange result }
+        ensures { (event_in result ≡ parse bytes.now) × Malformed result }
     {
         if bytes.len() != Run::EVENT_LENGTH {
             return Err(Refusal::Malformed);

@@ -7,7 +7,7 @@ ghost use Rattle.joint.specs.Event as event;
 ghost use Rattle.joint.specs.Drill.{answer_bytes, replayed};
 ghost use Rattle.joint.specs.Answers.{answer_in, replay_in};
 ghost use Rattle.joint.specs.Program.{Takes};
-ghost use Rattle.joint.specs.Inside.{StepAsks, step_in, cut_in};
+ghost use Rattle.joint.specs.Inside.{step_in, cut_in};
 
 use crate::answers::{Answer, Counts, bytes};
 use crate::changes::decide;
@@ -38,7 +38,6 @@ fn store(answer: Answer, answers: &mut [u8], at: usize)
 impl Run {
     // What is decided of it is stored, its forces counted; a refusal changes nothing.
     fn step(&mut self, step: Step) -> Answer
-        requires { StepAsks step }
         ensures { (bytes : List ℕ) → parse bytes ≡ some (step_in step) → Takes self.old bytes (record { answer = result; run = self.new }) }
     {
         let row = decide(self, step)?;

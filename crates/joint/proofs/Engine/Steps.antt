@@ -7,7 +7,7 @@ use native.Mathlib.Omega.{arith}
 use Rattle.joint.specs.Event as events
 use Rattle.joint.specs.Event.{parse}
 use Rattle.joint.specs.Answers.{site_from, no_site, no_records, transaction_in, run_in}
-use Rattle.joint.specs.Inside.{size, Asks, begins, delivers, times, taken, change_in, Here, step_in, step_site, step_transaction, StepAsks}
+use Rattle.joint.specs.Inside.{size, Asks, begins, delivers, times, taken, change_in, Here, step_in, step_site, step_transaction}
 use Rattle.joint.specs.declared.sites.Site.{Site}
 use Rattle.joint.specs.declared.records.Records.{Records}
 use Rattle.joint.specs.declared.transactions.Transaction.{Transaction}
@@ -19,6 +19,7 @@ use Rattle.joint.specs.declared.run.Run.{Run}
 use Rattle.joint.proofs.Base.Plans.{site_of}
 use Rattle.joint.proofs.Engine.Reads.{site_read, transaction_read}
 use Rattle.joint.proofs.Engine.Sites.{log-counted}
+use Rattle.joint.proofs.Engine.Inputs.{asks_of}
 use Rattle.joint.proofs.Engine.Turns.{Full}
 
 -- ---- where an event's plan is
@@ -28,14 +29,14 @@ asked_site (begins t) = refl
 asked_site (delivers t kind p h l) = refl
 asked_site (times t s) = refl
 
-step-site : (e : Step) → StepAsks e → step_site e ≡ site_of (step_in e).event
+step-site : (e : Step) → step_site e ≡ site_of (step_in e).event
 unfolding step_in
-step-site (steps.Open e) h = refl
-step-site (steps.Input e) h = asked_site h
-step-site (steps.Force s) h = refl
-step-site (steps.Discard e) h = refl
-step-site (steps.Crash e) h = refl
-step-site (steps.Mark e) h = refl
+step-site (steps.Open e) = refl
+step-site (steps.Input e) = asked_site (asks_of e.transaction.number _ _ _ e.asked)
+step-site (steps.Force s) = refl
+step-site (steps.Discard e) = refl
+step-site (steps.Crash e) = refl
+step-site (steps.Mark e) = refl
 
 step_low : (e : Step) → (step_site e ≤ 8) × (step_transaction e ≤ 7)
 step_low (steps.Open e) = (omega arith, e.transaction.in_range)
@@ -55,7 +56,6 @@ transaction_few q e = rw e (step_low q).1
 
 pub record StepRead (r : Run) (q : Step) (s t : ℕ) : Type 0 where
   pub full : Full r s
-  pub asks : StepAsks q
   pub site : s ≡ step_site q
   pub transaction : t ≡ step_transaction q
 
@@ -67,7 +67,7 @@ module _ {r : Run} {q : Step} {s t : ℕ} (a : StepRead r q s t) where
   few = transaction_few q a.transaction
 
   pub its_site : s ≡ site_of (step_in q).event
-  its_site = a.site ∙ step-site q a.asks
+  its_site = a.site ∙ step-site q
 
   pub own : (d : Transaction) {p : Step} → q ≡ p → transaction_in (get_or r.transactions t d) ≡ (run_in r).transaction (step_transaction p)
   own d p = transaction_read r t d a.full.eight few ∙ ap (run_in r).transaction (a.transaction ∙ ap step_transaction p)

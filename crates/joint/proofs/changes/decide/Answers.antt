@@ -23,7 +23,6 @@ read c us s =
         eight = search length-shown;
         counters = search length-shown;
       };
-      asks = c.requires;
       site = c.index-s.ensures ∙ c.site.ensures;
       transaction = c.index-t.ensures ∙ c.transaction.ensures;
     }

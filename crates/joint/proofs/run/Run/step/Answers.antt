@@ -50,7 +50,6 @@ module _ (c : Joined-writes) (x : List ℕ) (parse_is : parse x ≡ some (step_i
   a =
       record {
         full = record { nine = search length-shown; logs = search length-shown; whole = rw (c.index-s.ensures, c.site-site.ensures) c.decide.ensures.whole; eight = search length-shown; counters = search length-shown };
-        asks = c.requires;
         site = c.index-s.ensures ∙ c.site-site.ensures;
         transaction = c.index-t.ensures ∙ c.transaction-transaction.ensures;
       }
