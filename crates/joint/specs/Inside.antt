@@ -174,39 +174,29 @@ step_site (steps.Crash e) = e.site.number
 step_site (steps.Mark e) = e.participant.number
 
 abbrev pub step_transaction : Step → ℕ
-step_transaction (steps.Open e) = e.transaction
-step_transaction (steps.Input e) = e.transaction
+step_transaction (steps.Open e) = e.transaction.number
+step_transaction (steps.Input e) = e.transaction.number
 step_transaction (steps.Force s) = 0
-step_transaction (steps.Discard e) = e.transaction
+step_transaction (steps.Discard e) = e.transaction.number
 step_transaction (steps.Crash e) = 0
-step_transaction (steps.Mark e) = e.transaction
+step_transaction (steps.Mark e) = e.transaction.number
 
 unfoldable pub step_in : Step → Parsed
-step_in (steps.Open e) = record { event = opening e.transaction e.cohort.members e.cohort.presume_commit; cut = none }
-step_in (steps.Input e) = record { event = input_event e.kind e.transaction e.participant; cut = cut_in e.cut }
+step_in (steps.Open e) = record { event = opening e.transaction.number e.cohort.members e.cohort.presume_commit; cut = none }
+step_in (steps.Input e) = record { event = input_event e.kind e.transaction.number e.participant; cut = cut_in e.cut }
 step_in (steps.Force s) = record { event = forcing s.number; cut = none }
-step_in (steps.Discard e) = record { event = discarding e.transaction e.site.number; cut = none }
+step_in (steps.Discard e) = record { event = discarding e.transaction.number e.site.number; cut = none }
 step_in (steps.Crash e) = record { event = event.crash e.site.number; cut = some (0, e.keep) }
-step_in (steps.Mark e) = record { event = marking e.transaction e.participant.number; cut = none }
+step_in (steps.Mark e) = record { event = marking e.transaction.number e.participant.number; cut = none }
 
 unfoldable pub event_in : std.Result Event Refusal → Option Parsed
 event_in (std.Err e) = none
 event_in (std.Ok (events.Step e)) = some (step_in e)
 event_in (std.Ok (events.Restart e)) = some (record { event = event.restart e.site.number; cut = cut_in e.cut })
 
-abbrev pub StepInRange : Step → Type 0
-StepInRange (steps.Open e) = e.transaction ≤ 7
-StepInRange (steps.Input e) =
-    (e.transaction ≤ 7) × Asks (input_event e.kind e.transaction e.participant) e.transaction e.site.number e.kind e.participant
-StepInRange (steps.Force s) = Unit {0}
-StepInRange (steps.Discard e) = e.transaction ≤ 7
-StepInRange (steps.Crash e) = Unit {0}
-StepInRange (steps.Mark e) = e.transaction ≤ 7
-
-abbrev pub InRange : std.Result Event Refusal → Type 0
-InRange (std.Err e) = e ≡ refusals.Malformed
-InRange (std.Ok (events.Step e)) = StepInRange e
-InRange (std.Ok (events.Restart e)) = Unit {0}
+abbrev pub Malformed : std.Result Event Refusal → Type 0
+Malformed (std.Err e) = e ≡ refusals.Malformed
+Malformed (std.Ok e) = Unit {0}
 
 -- ---- changes
 

@@ -11,5 +11,6 @@ pub mod Drill
 pub mod Screen
 pub mod Answers
 pub mod Program
+pub mod Asked
 pub mod Inside
 pub mod Laws

@@ -8,11 +8,12 @@ ghost use Rattle.joint.specs.State as plain;
 ghost use Rattle.joint.specs.Event as event;
 ghost use Rattle.joint.specs.Run as run;
 ghost use Rattle.joint.specs.Answers.{site_from, no_site, no_records, transaction_in, run_in, number_of, seen};
-ghost use Rattle.joint.specs.Inside.{plan_in, change_in, Here, Fits, Asks, input_event, cut_in, taken, unready, StepInRange, step_in, step_site, step_transaction};
+ghost use Rattle.joint.specs.Inside.{plan_in, change_in, Here, Fits, input_event, cut_in, taken, unready, step_in, step_site, step_transaction};
 ghost use Rattle.joint.specs.Program.{room_for};
 
 use crate::answers::Refusal;
-use crate::events::{Cut, Discarding, Input, Marking, Opening, Step};
+use crate::events::{Cut, Discarding, Marking, Opening, Step};
+use crate::input::Input;
 use crate::records::{Records, may_discard, remember};
 use crate::rows::{Row, Then};
 use crate::run::Run;
@@ -82,7 +83,7 @@ fn all_up(sites: &[Site; Run::SITES], members: u8) -> bool
 }
 
 fn open(sites: &[Site; Run::SITES], before: Transaction, e: Opening) -> Result<Row, Refusal>
-    ensures { (w : plain.Run) → ((i : ℕ) → (get_or sites.now i no_site).up ≡ (w.site i).up) → transaction_in before ≡ w.transaction e.transaction → change_in w 0 e.transaction result ≡ taken w (event.opening e.transaction e.cohort.members e.cohort.presume_commit) none }
+    ensures { (w : plain.Run) → ((i : ℕ) → (get_or sites.now i no_site).up ≡ (w.site i).up) → transaction_in before ≡ w.transaction e.transaction.number → change_in w 0 e.transaction.number result ≡ taken w (event.opening e.transaction.number e.cohort.members e.cohort.presume_commit) none }
 {
     if before.opened() {
         return Err(Refusal::OpenedBefore);
@@ -98,20 +99,19 @@ fn open(sites: &[Site; Run::SITES], before: Transaction, e: Opening) -> Result<R
 
 // Begin, a message or a timer. Begin and a timer are refused where there is no row.
 fn input(site: Site, before: Transaction, e: Input) -> Result<Row, Refusal>
-    requires { Asks (input_event e.kind e.transaction e.participant) e.transaction e.site.number e.kind e.participant }
-    ensures { (w : plain.Run) → Here site w e.site.number → transaction_in before ≡ w.transaction e.transaction → room_for w (input_event e.kind e.transaction e.participant) ≡ true → change_in w e.site.number e.transaction result ≡ taken w (input_event e.kind e.transaction e.participant) (cut_in e.cut) }
+    ensures { (w : plain.Run) → Here site w e.site.number → transaction_in before ≡ w.transaction e.transaction.number → room_for w (input_event e.kind e.transaction.number e.participant) ≡ true → change_in w e.site.number e.transaction.number result ≡ taken w (input_event e.kind e.transaction.number e.participant) (cut_in e.cut) }
 {
     ready(site, before, e.participant)?;
     if (e.kind <= Parts::LAST_KIND) & !before.sent(e.participant, e.kind) {
         return Err(Refusal::NeverSent);
     }
     match Row::step(before, e.site, e.kind, e.participant) {
-        Some(row) => carry(site, e.transaction, row, e.cut),
+        Some(row) => carry(site, e.transaction.number, row, e.cut),
         None => {
             if BEGIN <= e.kind {
                 return Err(Refusal::NotAllowed);
             }
-            carry(site, e.transaction, Row::NOTHING, e.cut)
+            carry(site, e.transaction.number, Row::NOTHING, e.cut)
         }
     }
 }
@@ -131,14 +131,14 @@ fn force(site: Site) -> Result<Row, Refusal>
 
 // The oldest record is dropped; with the last one gone a participant is Unknown.
 fn discard(site: Site, records: Records, before: Transaction, e: Discarding) -> Result<Row, Refusal>
-    ensures { (w : plain.Run) → site_from site records.of ≡ w.site e.site.number → transaction_in before ≡ w.transaction e.transaction → change_in w e.site.number e.transaction result ≡ taken w (event.discarding e.transaction e.site.number) none }
+    ensures { (w : plain.Run) → site_from site records.of ≡ w.site e.site.number → transaction_in before ≡ w.transaction e.transaction.number → change_in w e.site.number e.transaction.number result ≡ taken w (event.discarding e.transaction.number e.site.number) none }
 {
     ready(site, before, e.site.number)?;
-    if !may_discard(records.stable(site), e.transaction) {
+    if !may_discard(records.stable(site), e.transaction.number) {
         return Err(Refusal::NotAllowed);
     }
-    let log = records.trim(site, e.transaction);
-    let last = (e.site.number != 0) & !remember(log.records.all(log.site), e.transaction);
+    let log = records.trim(site, e.transaction.number);
+    let last = (e.site.number != 0) & !remember(log.records.all(log.site), e.transaction.number);
     Ok(Row {
         effects: Effects::NONE,
         then: Then::Discarded(last),
@@ -161,7 +161,7 @@ fn crash(site: Site, keep: u8) -> Result<Row, Refusal>
 
 // A participant that only looked is marked, while it is Working.
 fn mark(site: Site, before: Transaction, e: Marking) -> Result<Row, Refusal>
-    ensures { (w : plain.Run) → Here site w e.participant.number → transaction_in before ≡ w.transaction e.transaction → change_in w e.participant.number e.transaction result ≡ taken w (event.marking e.transaction e.participant.number) none }
+    ensures { (w : plain.Run) → Here site w e.participant.number → transaction_in before ≡ w.transaction e.transaction.number → change_in w e.participant.number e.transaction.number result ≡ taken w (event.marking e.transaction.number e.participant.number) none }
 {
     ready(site, before, e.participant.number)?;
     match before.participant_phase(e.participant.number) {
@@ -175,12 +175,11 @@ fn mark(site: Site, before: Transaction, e: Marking) -> Result<Row, Refusal>
 
 // What a step does, by its kind; and its site has 24 records.
 pub(crate) fn decide(run: &Run, step: Step) -> Result<Row, Refusal>
-    requires { StepInRange step }
     ensures decided { room_for (run_in run.now) (step_in step).event ≡ true → change_in (run_in run.now) (step_site step) (step_transaction step) result ≡ taken (run_in run.now) (step_in step).event (step_in step).cut }
     ensures whole { length (get_or run.now.records (step_site step) no_records).of ≡ 24 }
 {
     let s = step.site().index();
-    let t = step.transaction() as usize;
+    let t = step.transaction().index();
     let site = run.sites[s];
     let transaction = run.transactions[t];
     match step {

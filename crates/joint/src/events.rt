@@ -3,10 +3,11 @@ ghost use Rattle.std.specs.Prelude.{◌≡◌, not, ◌&&◌, ◌||◌, eqb, get
 ghost use Rattle.site.specs.Step as step;
 ghost use Rattle.site.specs.Step.{messages, prepare};
 ghost use Rattle.joint.specs.Event.{bytes_in_range, cut_in_range, parse};
-ghost use Rattle.joint.specs.Inside.{cut_in, cut_from, event_in, InRange, step_site, step_transaction};
+ghost use Rattle.joint.specs.Inside.{cut_in, cut_from, event_in, Malformed, step_site, step_transaction};
 
 use crate::answers::Refusal;
-use crate::numbers::SiteNumber;
+use crate::input::Input;
+use crate::numbers::{SiteNumber, TransactionNumber};
 use crate::run::Run;
 use codec::message::Parts;
 use codec::sets::part;
@@ -22,30 +23,19 @@ pub struct Cut {
 
 #[derive(Clone, Copy)]
 pub struct Opening {
-    pub transaction: u8,
+    pub transaction: TransactionNumber,
     pub cohort: Cohort,
-}
-
-// Begin, a message of a participant, or a timer: what a site is given, by the number of its kind. Begin names
-// participant 0, a timer its own site.
-#[derive(Clone, Copy)]
-pub struct Input {
-    pub transaction: u8,
-    pub site: SiteNumber,
-    pub kind: u8,
-    pub participant: u8,
-    pub cut: Option<Cut>,
 }
 
 #[derive(Clone, Copy)]
 pub struct Discarding {
-    pub transaction: u8,
+    pub transaction: TransactionNumber,
     pub site: SiteNumber,
 }
 
 #[derive(Clone, Copy)]
 pub struct Marking {
-    pub transaction: u8,
+    pub transaction: TransactionNumber,
     pub participant: SiteNumber,
 }
 
@@ -155,9 +145,9 @@ fn cut_of(cut: u8, keep: u8) -> Option<Cut>
 }
 
 impl Event {
-    #[tactic(auto, using(crate::proofs::Engine::EventRanges::site_number))]
+    #[tactic(auto, using(crate::proofs::Engine::EventRanges::site_number, crate::proofs::Engine::EventRanges::transaction_number))]
     pub fn read(bytes: &[u8]) -> Result<Event, Refusal>
-        ensures { (event_in result ≡ parse bytes.now) × InRange result }
+        ensures { (event_in result ≡ parse bytes.now) × Malformed result }
     {
         if bytes.len() != Run::EVENT_LENGTH {
             return Err(Refusal::Malformed);
@@ -171,30 +161,31 @@ impl Event {
         if !in_range(code, x, y, z, cut, keep) {
             return Err(Refusal::Malformed);
         }
+        let transaction = TransactionNumber { number: x };
         match code {
             Run::OPEN => Ok(Event::Step(Step::Open(Opening {
-                transaction: x,
+                transaction,
                 cohort: Cohort {
                     members: y,
                     presume_commit: z,
                 },
             }))),
             Run::BEGIN => Ok(Event::Step(Step::Input(Input {
-                transaction: x,
+                transaction,
                 site: SiteNumber::COORDINATOR,
                 kind: BEGIN,
                 participant: 0,
                 cut: cut_of(cut, keep),
             }))),
             Run::DELIVER => Ok(Event::Step(Step::Input(Input {
-                transaction: x,
+                transaction,
                 site: receiver(z, SiteNumber { number: y }),
                 kind: z,
                 participant: y,
                 cut: cut_of(cut, keep),
             }))),
             Run::TIMER => Ok(Event::Step(Step::Input(Input {
-                transaction: x,
+                transaction,
                 site: SiteNumber { number: y },
                 kind: TIMER,
                 participant: y,
@@ -202,7 +193,7 @@ impl Event {
             }))),
             Run::FORCE => Ok(Event::Step(Step::Force(SiteNumber { number: y }))),
             Run::DISCARD => Ok(Event::Step(Step::Discard(Discarding {
-                transaction: x,
+                transaction,
                 site: SiteNumber { number: y },
             }))),
             Run::CRASH => Ok(Event::Step(Step::Crash(Crash {
@@ -214,7 +205,7 @@ impl Event {
                 cut: cut_of(cut, keep),
             })),
             _ => Ok(Event::Step(Step::Mark(Marking {
-                transaction: x,
+                transaction,
                 participant: SiteNumber { number: y },
             }))),
         }
@@ -237,15 +228,15 @@ impl Step {
     }
 
     // 0 where it names none.
-    pub fn transaction(self) -> u8
-        ensures { result ≡ step_transaction self }
+    pub fn transaction(self) -> TransactionNumber
+        ensures { result.number ≡ step_transaction self }
     {
         match self {
             Step::Open(e) => e.transaction,
             Step::Input(e) => e.transaction,
-            Step::Force(_) => 0,
+            Step::Force(_) => TransactionNumber { number: 0 },
             Step::Discard(e) => e.transaction,
-            Step::Crash(_) => 0,
+            Step::Crash(_) => TransactionNumber { number: 0 },
             Step::Mark(e) => e.transaction,
         }
     }

@@ -6,6 +6,7 @@ pub mod answers;
 pub mod bill;
 mod changes;
 mod events;
+mod input;
 mod numbers;
 mod records;
 pub mod replay;

@@ -1,19 +1,27 @@
-// The numbers that a run has: of its sites.
+// The numbers of a run's sites and transactions.
 ghost use Rattle.std.specs.Prelude.{◌≡◌, ◌≤◌};
 
-// A site's, 0 the coordinator's.
+use crate::run::Run;
+use codec::message::Parts;
+
 #[derive(Clone, Copy)]
-pub struct SiteNumber {
+pub struct Number<const LAST: u8> {
     pub number: u8,
-    ghost in_range: { number ≤ 8 },
+    ghost in_range: { number ≤ LAST },
+}
+
+pub type SiteNumber = Number<{ Run::LAST_SITE }>;
+
+pub type TransactionNumber = Number<{ Parts::LAST_TRANSACTION }>;
+
+impl<const LAST: u8> Number<LAST> {
+    pub fn index(self) -> usize
+        ensures { result ≡ self.entry.number }
+    {
+        self.number as usize
+    }
 }
 
 impl SiteNumber {
     pub const COORDINATOR: SiteNumber = SiteNumber { number: 0 };
-
-    pub fn index(self) -> usize
-        ensures { result ≡ self.number }
-    {
-        self.number as usize
-    }
 }

@@ -7,7 +7,7 @@ ghost use Rattle.joint.specs.Event as event;
 ghost use Rattle.joint.specs.Drill.{answer_bytes, replayed};
 ghost use Rattle.joint.specs.Answers.{answer_in, replay_in};
 ghost use Rattle.joint.specs.Program.{Takes};
-ghost use Rattle.joint.specs.Inside.{StepInRange, step_in, cut_in};
+ghost use Rattle.joint.specs.Inside.{step_in, cut_in};
 
 use crate::answers::{Answer, Counts, bytes};
 use crate::changes::decide;
@@ -34,19 +34,19 @@ fn store(answer: Answer, answers: &mut [u8], at: usize)
 impl Run {
     // What is decided of it is stored, its forces counted; a refusal changes nothing.
     fn step(&mut self, step: Step) -> Answer
-        requires { StepInRange step }
         ensures { (bytes : List ℕ) → parse bytes ≡ some (step_in step) → Takes self.old bytes (record { answer = result; run = self.new }) }
     {
         let row = decide(self, step)?;
         let site = step.site();
         let s = site.index();
-        let t = step.transaction() as usize;
+        let transaction = step.transaction();
+        let t = transaction.index();
         let counts = Counts::of(row.effects);
         self.forces[s] = add_held(self.forces[s], counts.forces);
         let after = self.transactions[t].after(site, row.effects);
         self.transactions[t] = after.settle(site, row.then);
         if row.writes() {
-            let log = self.records[s].after(self.sites[s], t as u8, row);
+            let log = self.records[s].after(self.sites[s], transaction.number, row);
             self.sites[s] = log.site;
             self.records[s] = log.records;
         } else {

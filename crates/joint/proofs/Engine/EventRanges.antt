@@ -13,7 +13,7 @@ use mir.Syntax.{w8}
 use mir.Val.{Fits}
 use borrow.Author.Tests.{leb-true, le-leb, eq-eqb, not-false}
 use Rattle.codec.specs.Lists.{any, every, only_if}
-use Rattle.codec.specs.Laws.Tests.{every_at, alike, alike_eq, below_at}
+use Rattle.codec.specs.Laws.Tests.{true_of, every_at, below_at}
 use Rattle.joint.specs.Event.{Parsed, event_length, event_of, ranges, bytes_in_range, cut_in_range, cut_at, cut_of, parse}
 
 pub byte : {n : ℕ} → Fits w8 n → leb n 255 ≡ true
@@ -73,6 +73,14 @@ module _ (bytes : List ℕ) where
       whole true b p q = refl
       whole false b p q = sym q ∙ p
 
+  -- x is a transaction's number
+  pub transaction_number : {r : Bool} → length bytes ≡ 6 → r ≡ in_range → r ≡ true → at 1 ≤ 7
+  unfolding ranges
+  transaction_number {r} six held is =
+      let a = accepted {code = at 0} {r = r} six held (ap not is) refl in
+      let last = true_of _ (below_at 9 (λ k. leb (get_or (get_or ranges k []) 0 0) 7) tt (at 0) (omega (arith, a.known))) in
+      omega (arith, a.last_x, leb-true _ 7 last)
+
   -- y is a site's number, but at an open
   pub site_number : {r : Bool} → length bytes ≡ 6 → r ≡ in_range → r ≡ true → at 0 ≢ 0 → at 2 ≤ 8
   unfolding ranges
@@ -82,6 +90,5 @@ module _ (bytes : List ℕ) where
       by zero e = absurd (other e)
       by (suc n) e =
           let a = accepted {code = suc n} {r = r} six held (ap not is) e in
-          let last : leb (get_or (get_or ranges (suc n) []) 2 0) 8 ≡ true =
-          alike_eq _ _ (below_at 8 (λ k. alike (leb (get_or (get_or ranges (suc k) []) 2 0) 8) true) tt n (omega (arith, a.known))) in
+          let last = true_of _ (below_at 8 (λ k. leb (get_or (get_or ranges (suc k) []) 2 0) 8) tt n (omega (arith, a.known))) in
           omega (arith, a.last_y, leb-true _ 8 last)

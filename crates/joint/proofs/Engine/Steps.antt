@@ -7,7 +7,7 @@ use native.Mathlib.Omega.{arith}
 use Rattle.joint.specs.Event as events
 use Rattle.joint.specs.Event.{parse}
 use Rattle.joint.specs.Answers.{site_from, no_site, no_records, transaction_in, run_in}
-use Rattle.joint.specs.Inside.{size, Asks, begins, delivers, times, taken, change_in, Here, step_in, step_site, step_transaction, StepInRange}
+use Rattle.joint.specs.Inside.{size, Asks, begins, delivers, times, taken, change_in, Here, step_in, step_site, step_transaction}
 use Rattle.joint.specs.declared.sites.Site.{Site}
 use Rattle.joint.specs.declared.records.Records.{Records}
 use Rattle.joint.specs.declared.transactions.Transaction.{Transaction}
@@ -19,6 +19,7 @@ use Rattle.joint.specs.declared.run.Run.{Run}
 use Rattle.joint.proofs.Base.Plans.{site_of}
 use Rattle.joint.proofs.Engine.Reads.{site_read, transaction_read}
 use Rattle.joint.proofs.Engine.Sites.{log-counted}
+use Rattle.joint.proofs.Engine.Inputs.{asks_of}
 use Rattle.joint.proofs.Engine.Turns.{Full}
 
 -- ---- where an event's plan is
@@ -28,46 +29,45 @@ asked_site (begins t) = refl
 asked_site (delivers t kind p h l) = refl
 asked_site (times t s) = refl
 
-step-site : (e : Step) → StepInRange e → step_site e ≡ site_of (step_in e).event
+step-site : (e : Step) → step_site e ≡ site_of (step_in e).event
 unfolding step_in
-step-site (steps.Open e) h = refl
-step-site (steps.Input e) h = asked_site h.1
-step-site (steps.Force s) h = refl
-step-site (steps.Discard e) h = refl
-step-site (steps.Crash e) h = refl
-step-site (steps.Mark e) h = refl
+step-site (steps.Open e) = refl
+step-site (steps.Input e) = asked_site (asks_of e.transaction.number _ _ _ e.asked)
+step-site (steps.Force s) = refl
+step-site (steps.Discard e) = refl
+step-site (steps.Crash e) = refl
+step-site (steps.Mark e) = refl
 
-step_low : (e : Step) → StepInRange e → (step_site e ≤ 8) × (step_transaction e ≤ 7)
-step_low (steps.Open e) h = (omega arith, h)
-step_low (steps.Input e) h = (e.site.in_range, h.0)
-step_low (steps.Force s) h = (s.in_range, omega arith)
-step_low (steps.Discard e) h = (e.site.in_range, h)
-step_low (steps.Crash e) h = (e.site.in_range, omega arith)
-step_low (steps.Mark e) h = (e.participant.in_range, h)
+step_low : (e : Step) → (step_site e ≤ 8) × (step_transaction e ≤ 7)
+step_low (steps.Open e) = (omega arith, e.transaction.in_range)
+step_low (steps.Input e) = (e.site.in_range, e.transaction.in_range)
+step_low (steps.Force s) = (s.in_range, omega arith)
+step_low (steps.Discard e) = (e.site.in_range, e.transaction.in_range)
+step_low (steps.Crash e) = (e.site.in_range, omega arith)
+step_low (steps.Mark e) = (e.participant.in_range, e.transaction.in_range)
 
-pub site_low : (q : Step) {s : ℕ} → StepInRange q → s ≡ step_site q → s ≤ 8
-site_low q h e = rw e (step_low q h).0
+pub site_low : (q : Step) {s : ℕ} → s ≡ step_site q → s ≤ 8
+site_low q e = rw e (step_low q).0
 
-pub transaction_few : (q : Step) {t : ℕ} → StepInRange q → t ≡ step_transaction q → t ≤ 7
-transaction_few q h e = rw e (step_low q h).1
+pub transaction_few : (q : Step) {t : ℕ} → t ≡ step_transaction q → t ≤ 7
+transaction_few q e = rw e (step_low q).1
 
 -- ---- what the run holds at the step's site and transaction
 
 pub record StepRead (r : Run) (q : Step) (s t : ℕ) : Type 0 where
   pub full : Full r s
-  pub within : StepInRange q
   pub site : s ≡ step_site q
   pub transaction : t ≡ step_transaction q
 
 module _ {r : Run} {q : Step} {s t : ℕ} (a : StepRead r q s t) where
   pub low : s ≤ 8
-  low = site_low q a.within a.site
+  low = site_low q a.site
 
   pub few : t ≤ 7
-  few = transaction_few q a.within a.transaction
+  few = transaction_few q a.transaction
 
   pub its_site : s ≡ site_of (step_in q).event
-  its_site = a.site ∙ step-site q a.within
+  its_site = a.site ∙ step-site q
 
   pub own : (d : Transaction) {p : Step} → q ≡ p → transaction_in (get_or r.transactions t d) ≡ (run_in r).transaction (step_transaction p)
   own d p = transaction_read r t d a.full.eight few ∙ ap (run_in r).transaction (a.transaction ∙ ap step_transaction p)

@@ -32,7 +32,7 @@ returns-in_err-ready c =
     let e = a.e in
     let p = err_from_is_err_and c.from_residual.result c.from_residual.ensures.1 in
     rw (p.1, p.2)
-    (discard-refused w e.transaction e.site.number c.in_err-ready.field-0.0 (unready_here w e.transaction e.site.number e.site.number own (up_of a.site a.records.of w e.site.number here) c.in_err-ready.ensures))
+    (discard-refused w e.transaction.number e.site.number c.in_err-ready.field-0.0 (unready_here w e.transaction.number e.site.number e.site.number own (up_of a.site a.records.of w e.site.number here) c.in_err-ready.ensures))
 
 pub returns-then-not-may_discard : goal.returns-then-not-may_discard
 unfolding change_in number_of
@@ -40,9 +40,9 @@ returns-then-not-may_discard c =
     λ w here own.
     let a = c.args in
     let e = a.e in
-    let allowed : c.may_discard.result ≡ may_discard w e.transaction e.site.number =
-    rw c.stable.ensures at c.may_discard.ensures ∙ may_discard_lem a.site a.site a.records.of a.records.of w e.transaction e.site.number here in
-    discard_unallowed w e.transaction e.site.number (unready_here w e.transaction e.site.number e.site.number own (up_of a.site a.records.of w e.site.number here) c.in_ok-ready.ensures)
+    let allowed : c.may_discard.result ≡ may_discard w e.transaction.number e.site.number =
+    rw c.stable.ensures at c.may_discard.ensures ∙ may_discard_lem a.site a.site a.records.of a.records.of w e.transaction.number e.site.number here in
+    discard_unallowed w e.transaction.number e.site.number (unready_here w e.transaction.number e.site.number e.site.number own (up_of a.site a.records.of w e.site.number here) c.in_ok-ready.ensures)
     (sym allowed ∙ c.if-not-may_discard.true)
 
 pub returns : goal.returns
@@ -51,9 +51,9 @@ returns c =
     λ w here own.
     let a = c.args in
     let e = a.e in
-    let allowed : c.may_discard.result ≡ may_discard w e.transaction e.site.number =
-    rw c.stable.ensures at c.may_discard.ensures ∙ may_discard_lem a.site a.site a.records.of a.records.of w e.transaction e.site.number here in
-    discard_drops w e.transaction e.site.number (unready_here w e.transaction e.site.number e.site.number own (up_of a.site a.records.of w e.site.number here) c.in_ok-ready.ensures)
+    let allowed : c.may_discard.result ≡ may_discard w e.transaction.number e.site.number =
+    rw c.stable.ensures at c.may_discard.ensures ∙ may_discard_lem a.site a.site a.records.of a.records.of w e.transaction.number e.site.number here in
+    discard_drops w e.transaction.number e.site.number (unready_here w e.transaction.number e.site.number e.site.number own (up_of a.site a.records.of w e.site.number here) c.in_ok-ready.ensures)
     (sym allowed ∙ c.if-not-may_discard.false) _
     (forgets (eqb e.site.number 0) _ _ (rw c.all.ensures at c.remember.ensures
-    ∙ still_remembers a.site c.trim-log.result.site a.records.of c.trim-log.result.records.of w e.transaction e.site.number here c.trim-log.ensures))
+    ∙ still_remembers a.site c.trim-log.result.site a.records.of c.trim-log.result.records.of w e.transaction.number e.site.number here c.trim-log.ensures))

@@ -27,7 +27,7 @@ returns-in_err-ready c =
     let e = a.e in
     let p = err_from_is_err_and c.from_residual.result c.from_residual.ensures.1 in
     rw (p.1, p.2)
-    (mark-refused w e.transaction e.participant.number c.in_err-ready.field-0.0 (unready_here w e.transaction e.participant.number e.participant.number own (up_here a.site w e.participant.number here) c.in_err-ready.ensures))
+    (mark-refused w e.transaction.number e.participant.number c.in_err-ready.field-0.0 (unready_here w e.transaction.number e.participant.number e.participant.number own (up_here a.site w e.participant.number here) c.in_err-ready.ensures))
 
 pub returns-in-Working : goal.returns-in-Working
 unfolding change_in is_working
@@ -35,9 +35,9 @@ returns-in-Working c =
     λ w here own.
     let a = c.args in
     let e = a.e in
-    let phase : (w.transaction e.transaction).participant e.participant.number ≡ participant_in c.participant_phase.result =
+    let phase : (w.transaction e.transaction.number).participant e.participant.number ≡ participant_in c.participant_phase.result =
     ap (λ (x : plain.Transaction). x.participant e.participant.number) (sym own) ∙ sym c.participant_phase.ensures in
-    mark_marks w e.transaction e.participant.number (unready_here w e.transaction e.participant.number e.participant.number own (up_here a.site w e.participant.number here) c.in_ok-ready.ensures)
+    mark_marks w e.transaction.number e.participant.number (unready_here w e.transaction.number e.participant.number e.participant.number own (up_here a.site w e.participant.number here) c.in_ok-ready.ensures)
     (ap is_working phase ∙ rw c.in-Working.is refl)
 
 pub returns-in_default : goal.returns-in_default
@@ -46,7 +46,7 @@ returns-in_default c =
     λ w here own.
     let a = c.args in
     let e = a.e in
-    let phase : (w.transaction e.transaction).participant e.participant.number ≡ participant_in c.participant_phase.result =
+    let phase : (w.transaction e.transaction.number).participant e.participant.number ≡ participant_in c.participant_phase.result =
     ap (λ (x : plain.Transaction). x.participant e.participant.number) (sym own) ∙ sym c.participant_phase.ensures in
-    mark_unallowed w e.transaction e.participant.number (unready_here w e.transaction e.participant.number e.participant.number own (up_here a.site w e.participant.number here) c.in_ok-ready.ensures)
+    mark_unallowed w e.transaction.number e.participant.number (unready_here w e.transaction.number e.participant.number e.participant.number own (up_here a.site w e.participant.number here) c.in_ok-ready.ensures)
     (ap is_working phase ∙ not_working c.participant_phase.result c.in_default.not-Working)

@@ -12,7 +12,7 @@ unfolding change_in number_of opened
 returns-then-opened c =
     λ w ups own.
     let e = c.args.e in
-    open_before w e.transaction e.cohort.members e.cohort.presume_commit (rw (sym own) (sym c.opened.ensures ∙ c.if-opened.true))
+    open_before w e.transaction.number e.cohort.members e.cohort.presume_commit (rw (sym own) (sym c.opened.ensures ∙ c.if-opened.true))
 
 pub returns-then-not-all_up : goal.returns-then-not-all_up
 unfolding change_in number_of opened
@@ -20,7 +20,7 @@ returns-then-not-all_up c =
     λ w ups own.
     let a = c.args in
     let e = a.e in
-    open_down w e.transaction e.cohort.members e.cohort.presume_commit (rw (sym own) (sym c.opened.ensures ∙ c.if-opened.false))
+    open_down w e.transaction.number e.cohort.members e.cohort.presume_commit (rw (sym own) (sym c.opened.ensures ∙ c.if-opened.false))
     (one_down a.sites.now w e.cohort.members ups _ _ c.all_up.ensures (ap not c.if-not-all_up.true))
 
 pub returns : goal.returns
@@ -29,5 +29,5 @@ returns c =
     λ w ups own.
     let a = c.args in
     let e = a.e in
-    open_opens w e.transaction e.cohort.members e.cohort.presume_commit (rw (sym own) (sym c.opened.ensures ∙ c.if-opened.false))
+    open_opens w e.transaction.number e.cohort.members e.cohort.presume_commit (rw (sym own) (sym c.opened.ensures ∙ c.if-opened.false))
     (one_down a.sites.now w e.cohort.members ups _ _ c.all_up.ensures (ap not c.if-not-all_up.false)) (follows.Opened e.cohort) refl

@@ -6,9 +6,9 @@ use lib.ListN.{get_or}
 use borrow.Author.Tests.{ne_eqb}
 use Rattle.codec.specs.Lists.{any, only_if}
 use Rattle.joint.specs.Event.{ranges, event_of, cut_at, cut_of}
-use Rattle.joint.specs.Inside.{event_in, step_in, input_event, begins, times}
+use Rattle.joint.specs.Inside.{event_in, step_in, input_event}
 use Rattle.joint.proofs.Engine.EventRanges.{parse_by, accepted}
-use Rattle.joint.proofs.Engine.Inputs.{message-event, message_asks}
+use Rattle.joint.proofs.Engine.Inputs.{message-event, asked_message}
 use Rattle.joint.proofs.events.Event.read.Goals as goal
 
 pub returns-then-bytes-ne-EVENT_LENGTH : goal.returns-then-bytes-ne-EVENT_LENGTH
@@ -21,21 +21,21 @@ returns-then-not-in_range c = (rw (parse_by, ← c.in_range.ensures, c.if-not-in
 
 pub returns-in-0 : goal.returns-in-0
 unfolding ranges event_in step_in event_of any
-returns-in-0 c = let a = accepted c.args.bytes.now c.if-bytes-ne-EVENT_LENGTH.false c.in_range.ensures (ap not c.if-not-in_range.false) c.in-0.is in (rw (a.is, a.uncut refl refl) refl, a.last_x)
+returns-in-0 c = let a = accepted c.args.bytes.now c.if-bytes-ne-EVENT_LENGTH.false c.in_range.ensures (ap not c.if-not-in_range.false) c.in-0.is in (rw (a.is, a.uncut refl refl) refl, tt)
 
 pub returns-in-1 : goal.returns-in-1
 unfolding ranges event_in step_in event_of cut_of input_event
-returns-in-1 c = let a = accepted c.args.bytes.now c.if-bytes-ne-EVENT_LENGTH.false c.in_range.ensures (ap not c.if-not-in_range.false) c.in-1.is in (rw (a.is, c.cut_of.ensures) refl, (a.last_x, begins _))
+returns-in-1 c = let a = accepted c.args.bytes.now c.if-bytes-ne-EVENT_LENGTH.false c.in_range.ensures (ap not c.if-not-in_range.false) c.in-1.is in (rw (a.is, c.cut_of.ensures) refl, tt)
 
 pub returns-in-2 : goal.returns-in-2
 unfolding ranges event_in step_in event_of cut_of
 returns-in-2 c =
     let a = accepted c.args.bytes.now c.if-bytes-ne-EVENT_LENGTH.false c.in_range.ensures (ap not c.if-not-in_range.false) c.in-2.is in
-    (rw (a.is, message-event _ _ _ a.last_z, c.cut_of-in-2.ensures) refl, (a.last_x, message_asks _ _ _ a.last_z c.receiver.ensures a.first_y))
+    (rw (a.is, message-event _ _ _ a.last_z, c.cut_of-in-2.ensures) refl, tt)
 
 pub returns-in-3 : goal.returns-in-3
 unfolding ranges event_in step_in event_of cut_of input_event
-returns-in-3 c = let a = accepted c.args.bytes.now c.if-bytes-ne-EVENT_LENGTH.false c.in_range.ensures (ap not c.if-not-in_range.false) c.in-3.is in (rw (a.is, c.cut_of-in-3.ensures) refl, (a.last_x, times _ _))
+returns-in-3 c = let a = accepted c.args.bytes.now c.if-bytes-ne-EVENT_LENGTH.false c.in_range.ensures (ap not c.if-not-in_range.false) c.in-3.is in (rw (a.is, c.cut_of-in-3.ensures) refl, tt)
 
 pub returns-in-4 : goal.returns-in-4
 unfolding ranges event_in step_in event_of any
@@ -43,7 +43,7 @@ returns-in-4 c = let a = accepted c.args.bytes.now c.if-bytes-ne-EVENT_LENGTH.fa
 
 pub returns-in-5 : goal.returns-in-5
 unfolding ranges event_in step_in event_of any
-returns-in-5 c = let a = accepted c.args.bytes.now c.if-bytes-ne-EVENT_LENGTH.false c.in_range.ensures (ap not c.if-not-in_range.false) c.in-5.is in (rw (a.is, a.uncut refl refl) refl, a.last_x)
+returns-in-5 c = let a = accepted c.args.bytes.now c.if-bytes-ne-EVENT_LENGTH.false c.in_range.ensures (ap not c.if-not-in_range.false) c.in-5.is in (rw (a.is, a.uncut refl refl) refl, tt)
 
 pub returns-in-6 : goal.returns-in-6
 unfolding ranges event_in step_in event_of cut_of cut_at
@@ -60,4 +60,10 @@ returns-in_default c =
     let l : 8 ≤ code = omega arith in
     let u : code ≤ 8 = (accepted c.args.bytes.now c.if-bytes-ne-EVENT_LENGTH.false c.in_range.ensures (ap not c.if-not-in_range.false) refl).known in
     let a = accepted c.args.bytes.now {code = 8} c.if-bytes-ne-EVENT_LENGTH.false c.in_range.ensures (ap not c.if-not-in_range.false) (omega (arith, l, u)) in
-    (rw (a.is, a.uncut refl refl) refl, a.last_x)
+    (rw (a.is, a.uncut refl refl) refl, tt)
+
+pub invariant_of-result-in-2 : goal.invariant_of-result-in-2
+unfolding ranges
+invariant_of-result-in-2 c =
+    let a = accepted c.args.bytes.now c.if-bytes-ne-EVENT_LENGTH.false c.in_range.ensures (ap not c.if-not-in_range.false) c.in-2.is in
+    record { asked = asked_message _ _ _ a.last_z a.first_y c.receiver.ensures }

@@ -44,25 +44,24 @@ module _ (c : Joined-writes) (x : List ℕ) (parse_is : parse x ≡ some (step_i
   number = c.index-s.result
 
   abbrev transaction : ℕ
-  transaction = c.transaction-t.result
+  transaction = c.index-t.result
 
-  a : StepRead c.args.self.now c.args.step c.index-s.result c.transaction-t.result
+  a : StepRead c.args.self.now c.args.step c.index-s.result c.index-t.result
   a =
       record {
         full = record { nine = search length-shown; logs = search length-shown; whole = rw (c.index-s.ensures, c.site-site.ensures) c.decide.ensures.whole; eight = search length-shown; counters = search length-shown };
-        within = c.requires;
         site = c.index-s.ensures ∙ c.site-site.ensures;
-        transaction = c.transaction-t.ensures;
+        transaction = c.index-t.ensures ∙ c.transaction-transaction.ensures;
       }
 
-  decided : change_in (run_in c.args.self.now) c.index-s.result c.transaction-t.result (Ok c.in_ok-row.row) ≡ taken (run_in c.args.self.now) (step_in c.args.step).event (step_in c.args.step).cut
-  decided = rw (c.index-s.ensures, c.site-site.ensures, c.transaction-t.ensures, ← c.in_ok-row.was) (c.decide.ensures.decided (parsed_room (run_in run) x _ parse_is room))
+  decided : change_in (run_in c.args.self.now) c.index-s.result c.index-t.result (Ok c.in_ok-row.row) ≡ taken (run_in c.args.self.now) (step_in c.args.step).event (step_in c.args.step).cut
+  decided = rw (c.index-s.ensures, c.site-site.ensures, c.index-t.ensures, c.transaction-transaction.ensures, ← c.in_ok-row.was) (c.decide.ensures.decided (parsed_room (run_in run) x _ parse_is room))
 
-  row_seen : seen (carry (run_in c.args.self.now) (plan_in c.index-s.result c.transaction-t.result c.in_ok-row.row) none) ≡ seen (event (run_in c.args.self.now) x)
+  row_seen : seen (carry (run_in c.args.self.now) (plan_in c.index-s.result c.index-t.result c.in_ok-row.row) none) ≡ seen (event (run_in c.args.self.now) x)
   unfolding change_in
   row_seen = decided ∙ parsed_seen (run_in run) x _ parse_is
 
-  fits : Fits (effects_in c.transaction-t.result c.in_ok-row.row.effects) ((run_in c.args.self.now).site c.index-s.result)
+  fits : Fits (effects_in c.index-t.result c.in_ok-row.row.effects) ((run_in c.args.self.now).site c.index-s.result)
   unfolding change_in
   fits =
       let v = run_in run in
@@ -71,12 +70,12 @@ module _ (c : Joined-writes) (x : List ℕ) (parse_is : parse x ≡ some (step_i
       (subst (λ (s : ℕ). All (λ p. p.site ≡ s) (plan v e)) (sym (its_site a)) (plan-site v e)) (parsed_room v x _ parse_is room)
 
   abbrev put : List Transaction
-  put = set c.args.self.now.transactions c.transaction-t.result c.settle.result
+  put = set c.args.self.now.transactions c.index-t.result c.settle.result
 
   put_stored : transactions_in put
-      ≡ update c.transaction-t.result
+      ≡ update c.index-t.result
       (λ _. then_transaction c.index-s.result c.in_ok-row.row.then
-      (transaction_after c.index-s.result (effects_in c.transaction-t.result c.in_ok-row.row.effects) ((run_in c.args.self.now).transaction c.transaction-t.result)))
+      (transaction_after c.index-s.result (effects_in c.index-t.result c.in_ok-row.row.effects) ((run_in c.args.self.now).transaction c.index-t.result)))
       (run_in c.args.self.now).transaction
   unfolding run_in
   put_stored =
@@ -103,10 +102,10 @@ module _ (c : Joined-writes) (x : List ℕ) (parse_is : parse x ≡ some (step_i
   forces_put = elim c.if-writes.branch [ then-writes w ↦ ap (λ (r : Run). r.forces) w.self-is | else-writes w ↦ ap (λ (r : Run). r.forces) w.self-is ]
 
   site_put : site_at c.if-writes.self.sites c.if-writes.self.records
-      ≡ update c.index-s.result (λ _. row_site c.transaction-t.result c.in_ok-row.row ((run_in c.args.self.now).site c.index-s.result)) (run_in c.args.self.now).site
+      ≡ update c.index-s.result (λ _. row_site c.index-t.result c.in_ok-row.row ((run_in c.args.self.now).site c.index-s.result)) (run_in c.args.self.now).site
   site_put =
       elim c.if-writes.branch [
-        | then-writes w ↦ ap (λ (r : Run). site_at r.sites r.records) w.self-is ∙ log-stored run number a.full (low a) _ transaction c.in_ok-row.row _ _ w.after-log.ensures fits
+        | then-writes w ↦ ap (λ (r : Run). site_at r.sites r.records) w.self-is ∙ log-stored run number a.full (low a) _ transaction c.in_ok-row.row _ _ (rw (← c.index-t.ensures) at w.after-log.ensures) fits
         | else-writes w ↦ ap (λ (r : Run). site_at r.sites r.records) w.self-is ∙ site_settled run number a.full (low a) _ transaction c.in_ok-row.row _ w.settle-else-writes.ensures
       ]
 
@@ -116,7 +115,7 @@ returns-then-goes_down c bytes parse_is room =
     let v = run_in c.args.self.now in
     let at = (goal.at.returns-then-goes_down c).Joined-writes in
     let s = c.index-s.result in
-    let t = c.transaction-t.result in
+    let t = c.index-t.result in
     let row = c.in_ok-row.row in
     let forget : (ℕ → plain.Transaction) → ℕ → plain.Transaction = λ f u. forgotten s (f u) in
     turned at bytes parse_is room _ (forces_put at bytes parse_is room)
@@ -131,7 +130,7 @@ returns-else-goes_down c bytes parse_is room =
     let v = run_in c.args.self.now in
     let at = (goal.at.returns-else-goes_down c).Joined-writes in
     let s = c.index-s.result in
-    let t = c.transaction-t.result in
+    let t = c.index-t.result in
     let row = c.in_ok-row.row in
     turned at bytes parse_is room c.if-writes.self (forces_put at bytes parse_is room)
     (happens_seen v s t row c.of-counts.result _ _ (c.of-counts.ensures t) (site_put at bytes parse_is room)

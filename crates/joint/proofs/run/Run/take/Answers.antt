@@ -13,9 +13,6 @@ returns-in_err-step c room =
     let p = err_from_is_err_and c.from_residual.result c.from_residual.ensures.1 in
     rw (p.1, p.2) (turned_refused a.self.now a.event.now c.in_err-step.field-0.0 (rw h.1 (malformed_seen (run_in a.self.now) a.event.now (sym h.0))))
 
-pub step-requires : goal.step-requires
-step-requires c = (rw c.in-Step.is at c.in_ok-step.ensures).1
-
 pub returns-in-Step : goal.returns-in-Step
 unfolding event_in
 returns-in-Step c room = c.step.ensures c.args.event.now (sym (rw c.in-Step.is at c.in_ok-step.ensures).0) room
