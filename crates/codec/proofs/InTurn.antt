@@ -29,9 +29,6 @@ pub record Counted (records : List Record) (i sum : ℕ) : Type 0 where
   pub few : length records ≤ 24
   pub near : sum ≤ 102 + 4 * i
 
-pub counted_zero : {records : List Record} → length records ≤ 24 → Counted records 0 0
-counted_zero few = record { upto = zero-le; few = few; near = zero-le }
-
 -- behind the head
 pub counted_head : {records : List Record} {sum : ℕ} → length records ≤ 24 → sum ≡ head_length (length records) → Counted records 0 sum
 unfolding head_length

@@ -11,3 +11,4 @@ mod Opened
 mod Numbered
 mod Copied
 mod Held
+mod Rules

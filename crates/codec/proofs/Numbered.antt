@@ -24,9 +24,6 @@ pub record Stepping (number step steps rest tried : ℕ) : Type 0 where
   pub whole : number ≡ step * steps + rest
   pub left : rest < step * (8 - tried)
 
-pub not_stepped : (number step : ℕ) → number < step * 8 → Stepping number step 0 number 0
-not_stepped number step h = record { few = omega arith; taken = omega arith; whole = omega arith; left = h }
-
 module _ {number step steps rest tried : ℕ} (s : Stepping number step steps rest tried) where
   pub step-taken : step ≤ rest → tried < 7 → Stepping number step (steps + 1) (rest - step) (tried + 1)
   step-taken fits again =

@@ -42,6 +42,7 @@ impl Log {
     }
 
     // 21: site above 8, or more records than an image of the site holds.
+    #[tactic(auto, using(std::proofs::lemmas::Bool::Decides::nat_tests), unfolding(crate::specs::Image::over_limit, crate::specs::Image::most))]
     pub fn over_limit(site: u8, count: usize) -> bool
         ensures { result ≡ over_limit site count }
     {

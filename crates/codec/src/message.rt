@@ -113,6 +113,7 @@ impl Parts {
             && self.kind <= Parts::LAST_KIND
     }
 
+    #[tactic(auto, using(crate::proofs::Rules::numbers), unfolding(crate::specs::Answers::number_values, crate::specs::Answers::parts_in))]
     pub fn number(self) -> Result<u16, Refusal>
         ensures { number_values result ≡ number_answer (number_of (parts_in self)) }
     {
@@ -133,6 +134,7 @@ impl Parts {
 }
 
 // For C (include/dpr.h): transaction, participant and kind of a message number: 0, or 26 and `parts` as it was.
+#[tactic(auto, using(crate::proofs::Numbered::parts_written_lem, crate::proofs::Numbered::parts_refused), unfolding(crate::specs::Answers::parts_values))]
 pub fn dpr_message_parts(number: u16, parts: &mut [u8; 3]) -> u8
     ensures { written result parts.new ≡ parts_written (message_parts number) parts.old }
 {

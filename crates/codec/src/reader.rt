@@ -105,6 +105,7 @@ pub fn read_image(bytes: &[u8]) -> Result<Log, BadImage>
 }
 
 // For C (include/dpr.h): number and index of an image's reading, the number in the low byte.
+#[tactic(auto, using(crate::proofs::Copied::checked, crate::proofs::Copied::read_few), unfolding(crate::specs::Answers::image_values))]
 pub fn dpr_image_check(image: &[u8]) -> u16
     ensures { result ≡ check_image image.now }
 {

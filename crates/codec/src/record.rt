@@ -116,6 +116,7 @@ impl Record {
     }
 
     // The record that bytes are, if they are one.
+    #[tactic(auto, unfolding(crate::specs::Inside::record_from))]
     fn from_bytes(bytes: &[u8]) -> Record
         ensures { result ≡ record_from bytes.now }
     {
@@ -128,6 +129,7 @@ impl Record {
     }
 
     // The bytes as a record of a site, behind the newest record of each transaction.
+    #[tactic(auto, using(crate::specs::Laws::Fields::wrong_length, crate::specs::Laws::Fields::read_as), unfolding(crate::specs::Inside::answer_to, crate::specs::Inside::record_from))]
     pub(crate) fn read(bytes: &[u8], site: u8, newest: Newest) -> Result<Record, Refusal>
         ensures { result ≡ answer_on site bytes.now (record_in (get_or newest.of (record_from bytes.now).transaction no_record)) (record_from bytes.now) }
     {
@@ -139,6 +141,7 @@ impl Record {
     }
 
     // Whether a site has records of a kind: the coordinator 1 to 4, a participant 5 to 7.
+    #[tactic(auto, using(crate::proofs::Rules::kinds))]
     fn kind_at(site: u8, kind: u8) -> bool
         ensures { result ≡ record_kind_at site kind }
     {
@@ -157,6 +160,7 @@ impl Record {
     }
 
     // The masks of Init and of a record 2; Init has PC not empty; a presumption is 0 or 1.
+    #[tactic(auto, using(crate::proofs::Rules::fields))]
     fn fields_in_range(self) -> bool
         ensures { result ≡ fields_in_range (record_in self) }
     {
@@ -193,6 +197,7 @@ impl Record {
 
     // Whether the record may stand behind the newest one of its transaction: by the table; a record 2 behind Init by their masks,
     // members a part of Init's and PC Init's among them; a record 3 behind a record 2 with a PrA member.
+    #[tactic(auto, using(crate::proofs::Behind::commit_behind_init, crate::proofs::Behind::end_behind_commit, crate::proofs::Behind::follows_is))]
     fn follows(self, newest: Record) -> bool
         ensures { result ≡ may_follow (record_in newest) (record_in self) }
     {
@@ -206,6 +211,7 @@ impl Record {
     }
 
     // The record as one of a site, behind the newest one of its transaction; or 23, 27, 28 or 24, tried in this order.
+    #[tactic(auto, using(crate::specs::Laws::Fields::judged_by, std::proofs::lemmas::Bool::Decides::nat_tests), unfolding(crate::specs::Inside::answer_to))]
     pub(crate) fn judged(self, site: u8, newest: Record) -> Result<Record, Refusal>
         ensures { result ≡ answer_on site (bytes_of (record_in self)) (record_in newest) self }
     {

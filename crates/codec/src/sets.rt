@@ -5,6 +5,7 @@ ghost use Rattle.codec.specs.Sets as sets;
 use crate::message::Parts;
 
 // Whether a participant is a member.
+#[tactic(auto, using(crate::specs::Laws::Members::member_bit, crate::specs::Laws::Members::no_member, std::proofs::lemmas::Bool::Decides::nat_tests))]
 pub fn member(participant: u8, mask: u8) -> bool
     ensures { result ≡ sets.member participant mask }
 {
@@ -15,6 +16,7 @@ pub fn member(participant: u8, mask: u8) -> bool
 }
 
 // The set of one participant; empty for what is none.
+#[tactic(auto, using(crate::specs::Laws::Members::only_made, std::proofs::lemmas::Bool::Decides::nat_tests))]
 pub fn only(participant: u8) -> u8
     ensures { result ≡ sets.only participant }
 {
@@ -25,6 +27,7 @@ pub fn only(participant: u8) -> u8
 }
 
 // The members but one.
+#[tactic(auto, using(crate::proofs::Rules::sets))]
 pub fn without(participant: u8, mask: u8) -> u8
     ensures { result ≡ sets.without participant mask }
 {
@@ -48,6 +51,7 @@ pub fn minus(a: u8, b: u8) -> u8
 }
 
 // Whether `a` is a part of `b`.
+#[tactic(auto, using(crate::specs::Laws::Masks::both_and), unfolding(crate::specs::Sets::part))]
 pub fn part(a: u8, b: u8) -> bool
     ensures { result ≡ sets.part a b }
 {
@@ -63,6 +67,7 @@ pub fn either(a: u8, b: u8) -> u8
 }
 
 // How many members there are.
+#[tactic(auto, using(crate::proofs::Rules::sets))]
 pub fn size(mask: u8) -> u8
     ensures { result ≡ length (sets.listed mask) }
 {

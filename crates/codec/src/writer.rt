@@ -123,6 +123,7 @@ pub fn write_image(log: Log, buffer: &mut [u8], at: usize) -> Result<(), Refusal
 
 // For C (include/dpr.h): reads an image and writes its log again from `offset` on: 0, or 20 to 25, 27, 28 and `buffer` as it was.
 // No log that the reader gives is refused, so it is not checked again.
+#[tactic(auto, using(crate::proofs::Copied::copy_refused, crate::proofs::Copied::copy_accepted, crate::proofs::Copied::read_passed))]
 pub fn dpr_image_copy(image: &[u8], buffer: &mut [u8], offset: usize) -> u8
     ensures { written result buffer.new ≡ copy_image image.now offset buffer.old }
 {

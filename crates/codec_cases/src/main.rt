@@ -1,7 +1,7 @@
 // The examples of document 01's refusal table for images, buffers and message numbers with the numbers of 02's Jobs 1 and 3, and K10's
 // image, run and proved.
 
-#![tactic(auto)]
+#![tactic(auto, unfolding(codec::specs::Open::codec_opens))]
 
 ghost use Rattle.std.specs.Prelude.{◌≡◌, ◌+◌, ◌*◌, replicate};
 ghost use Rattle.codec.specs.Image.{check_image, write_image};

@@ -2,3 +2,4 @@ mod Pushed
 mod Decimal
 mod Texts
 mod Drilled
+mod Rules

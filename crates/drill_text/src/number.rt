@@ -51,6 +51,7 @@ pub(crate) struct Number {
 }
 
 impl Number {
+    #[tactic(auto, unfolding(crate::specs::Decimal::value_from))]
     pub(crate) fn zero() -> Number
         ensures { value result.digits ≡ 0 }
     {

@@ -28,6 +28,7 @@ impl<'a> Text<'a> {
     }
 
     // Writes bytes behind it.
+    #[tactic(auto, using(crate::proofs::Pushed::part_stored))]
     pub(crate) fn push(&mut self, bytes: &[u8])
         requires { Room self.old bytes.now }
         ensures { Pushed self.old self.new bytes.now }
@@ -68,6 +69,7 @@ impl<'a> Text<'a> {
     }
 
     // The number of a line and a space, digit by digit from the first that is not 0.
+    #[tactic(auto, using(crate::proofs::Rules::shown))]
     fn push_number(&mut self, number: &Number)
         requires { Room self.old (decimal 5 (value number.now.digits) ++ (32 ∷ [])) }
         ensures { Pushed self.old self.new (decimal 5 (value number.now.digits) ++ (32 ∷ [])) }
@@ -87,6 +89,7 @@ impl<'a> Text<'a> {
 
     // The four numbers of an answer. Where their sum is below 10, as it mostly is, each has one digit. (`b'0' | n` is the character
     // of a digit n as `b'0' + n` is, and so the eight bytes are joined in one word, which is faster.)
+    #[tactic(auto, using(crate::proofs::Rules::line))]
     fn push_answer(&mut self, answer: &[u8; 4])
         requires { Room self.old (line 5 answer.now) }
         ensures { Pushed self.old self.new (line 5 answer.now) }
@@ -156,6 +159,7 @@ impl<'a> Text<'a> {
 }
 
 // The length of a line.
+#[tactic(auto, using(crate::proofs::Rules::line))]
 fn line_size(number: usize, answer: &[u8; 4]) -> usize
     requires { number < 1000000 }
     ensures { (result ≡ length (line 5 (number ∷ answer.now))) × (result ≤ 35) }
@@ -203,6 +207,7 @@ fn entry_letter(run: &Run, transaction: u8, site: u8) -> u8
 }
 
 // (As a chain of `filter` and `count` over a range it was not proved.)
+#[tactic(auto, using(crate::proofs::Rules::opened))]
 pub(crate) fn opened_count(run: &Run) -> usize
     ensures { (result ≡ length (opened_in (run_in run.now))) × (result ≤ 8) }
 {

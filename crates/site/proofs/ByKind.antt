@@ -10,7 +10,7 @@ use Rattle.codec.specs.Lists.{any}
 use Rattle.codec.specs.Sets.{participants, member}
 use Rattle.codec.specs.Laws.Tests.{alike, alike_eq, below_at}
 use Rattle.codec.specs.Laws.Members.{no_participant, member-participant}
-use Rattle.std.specs.Prelude.{Option, None, Some, Result, Ok}
+use Rattle.std.specs.Prelude.{Option, None, Some, Ok}
 use Rattle.site.specs.Step.{refused, row, answered, answer_if}
 use Rattle.site.specs.Laws.Sets.{Numbered}
 use Rattle.site.specs.Presumption.{Presumption}
@@ -22,10 +22,6 @@ use Rattle.site.specs.Answers.{coordinator_state_in, participant_in, found_in, a
 use Rattle.site.specs.declared.coordinator.CoordinatorState.{CoordinatorState}
 use Rattle.site.specs.declared.phases.ParticipantPhase as phase
 use Rattle.site.specs.declared.row.Row.{Row}
-
--- what stands in a result
-pub in_ok : {A E : Type 0} (r : Result A E) (x y : A) → r ≡ Ok x → x ≡ y → r ≡ Ok y
-in_ok r x y e f = e ∙ ap Ok f
 
 -- a step that is not refused
 found : {S P : Type 0} (read : S → P) (t : ℕ) (o : Option (Row S)) → answer_in read t (Ok o) ≡ answered (found_in read t o)

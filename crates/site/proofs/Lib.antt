@@ -9,3 +9,4 @@ mod Turned
 mod Accepted
 mod Done
 mod Called
+mod Rules

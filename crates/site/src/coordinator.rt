@@ -61,6 +61,7 @@ fn acked(outcome: Outcome, waiting: u8) -> Row<CoordinatorPhase>
 }
 
 impl Cohort {
+    #[tactic(auto, using(crate::proofs::Rules::rows), unfolding(crate::proofs::Rules::row_opens, crate::specs::Coordinator::preparing))]
     fn preparing(self) -> Row<CoordinatorPhase>
         ensures { (t : ℕ) → row_in coordinator_in t result ≡ coordinator.preparing t (cohort_in self) (cohort.writes_init (cohort_in self)) }
     {
@@ -81,6 +82,7 @@ impl Cohort {
     }
 
     // All have voted Yes.
+    #[tactic(auto, using(crate::proofs::Rules::rows), unfolding(crate::proofs::Rules::row_opens, crate::specs::Coordinator::committing))]
     fn committing(self) -> Row<CoordinatorPhase>
         ensures { (t : ℕ) → row_in coordinator_in t result ≡ coordinator.committing t (cohort_in self) }
     {
@@ -102,6 +104,7 @@ impl Cohort {
     }
 
     // Nobody remains: nothing is entered, and AbortEnd is appended exactly if Init was.
+    #[tactic(auto, using(crate::proofs::Rules::rows), unfolding(crate::proofs::Rules::row_opens, crate::specs::Coordinator::voted))]
     fn deserted(self) -> Row<CoordinatorPhase>
         ensures { (t out : ℕ) → row_in coordinator_in t result ≡ coordinator.voted t (cohort_in self) out true true 0 }
     {
@@ -120,6 +123,7 @@ impl Cohort {
     }
 
     // A vote came, and votes of `waiting` are still missing.
+    #[tactic(auto, using(crate::proofs::Rules::rows), unfolding(crate::proofs::Rules::row_opens, crate::specs::Coordinator::counting, crate::specs::Coordinator::voted, codec::specs::Sets::empty))]
     fn counting(self, taken_out: u8, waiting: u8) -> Row<CoordinatorPhase>
         ensures { (t : ℕ) → row_in coordinator_in t result ≡ coordinator.counting t (cohort_in self) taken_out waiting }
     {
@@ -137,6 +141,7 @@ impl Cohort {
     }
 
     // Abort, told to the set `to`; whether Init was written.
+    #[tactic(auto, using(crate::proofs::Rules::rows), unfolding(crate::proofs::Rules::row_opens, crate::specs::Coordinator::aborting, codec::specs::Sets::empty))]
     fn aborting(self, init: bool, to: u8) -> Row<CoordinatorPhase>
         ensures { (t : ℕ) → row_in coordinator_in t result ≡ coordinator.aborting t (cohort_in self) init to }
     {
@@ -157,6 +162,7 @@ impl Cohort {
     }
 
     // At restart: an outcome entered again; whether it is told to all.
+    #[tactic(auto, using(crate::proofs::Rules::rows), unfolding(crate::proofs::Rules::effects_open, crate::specs::Numbers::appending, crate::specs::Coordinator::tell_all, crate::specs::Coordinator::in_order, crate::specs::Coordinator::resuming))]
     fn resuming(self, outcome: Outcome, tells: bool) -> Row<CoordinatorPhase>
         ensures { (t : ℕ) → row_in coordinator_in t result ≡ coordinator.resuming t (cohort_in self) (outcome_in outcome) tells }
     {
@@ -200,6 +206,7 @@ fn leaving_if(row: Option<Row<CoordinatorPhase>>, taken_out: u8) -> Option<Row<C
 
 impl Coordinator {
     // An outcome told to a set, those first that owe an ack for it, and nothing else; the phase stays.
+    #[tactic(auto, using(crate::proofs::Rules::rows), unfolding(crate::proofs::Rules::row_opens))]
     fn telling(self, outcome: Outcome, to: u8) -> Row<CoordinatorPhase>
         ensures { (t : ℕ) → row_in coordinator_in t result ≡ told_to t (cohort_in self.cohort) (outcome_in outcome) to (coordinator_in self.state.phase) }
     {
@@ -369,6 +376,7 @@ impl Coordinator {
 
     // From the kinds of record that the stable log has of the transaction, bit k for kind k. The cohort is that of the record from which
     // it resumes: of Commit where there is one, else of Init. The coordinator's part is not looked at.
+    #[tactic(auto, using(crate::proofs::Rules::rows), unfolding(crate::proofs::Rules::row_opens, crate::specs::Coordinator::coordinator_restart, crate::specs::Coordinator::restart_from, crate::specs::Coordinator::leaving, codec::specs::Sets::empty))]
     pub fn restart(self, records: u16) -> Row<CoordinatorState>
         ensures { (t : ℕ) → coordinator_row_in t result ≡ coordinator.coordinator_restart t (has_kind records) (λ k. cohort_in self.cohort) }
     {

@@ -69,6 +69,7 @@ impl Effects {
     };
 
     // How many messages it sends.
+    #[tactic(auto, using(crate::proofs::Rules::counts))]
     pub fn sends(self) -> u8
         ensures { ((t : ℕ) → result ≡ length (sending t self.message self.owing self.to)) × (result ≤ 8) }
     {

@@ -36,6 +36,7 @@ fn packed(phase: u8, waiting: u8, taken_out: u8, row: Summary) -> u64
 
 // The numbers of a step's answer; where there is no row, with the phase, the waiting set and the set taken out that are given. In two
 // functions, as the definitions have two: over a trait of a state's numbers they were longer.
+#[tactic(auto, unfolding(crate::proofs::Rules::result_opens))]
 pub fn coordinator_result(
     answer: Result<Option<Row<CoordinatorState>>, Refused>,
     phase: u8,
@@ -59,6 +60,7 @@ pub fn coordinator_result(
     }
 }
 
+#[tactic(auto, unfolding(crate::proofs::Rules::result_opens))]
 pub fn participant_result(answer: Result<Option<Row<ParticipantPhase>>, Refused>, phase: u8) -> u64
     ensures { (t : ℕ) → result ≡ numbers.packed (numbers.participant_result phase (participant_answer_in t answer)) }
 {
@@ -86,6 +88,7 @@ struct Arguments {
 
 impl Arguments {
     // Whether the waiting set is one of the coordinator's phase.
+    #[tactic(auto, using(crate::proofs::Phased::no_phase), unfolding(crate::specs::Numbers::waiting_in_range, codec::specs::Sets::empty))]
     fn waiting_in_range(self) -> bool
         ensures { result ≡ numbers.waiting_in_range (cohort_in self.cohort) self.phase self.waiting }
     {
@@ -159,6 +162,7 @@ impl Arguments {
         participant_result(participant.step(self.kind), self.phase)
     }
 
+    #[tactic(auto, using(crate::proofs::Rules::calls), unfolding(crate::specs::Numbers::packed, crate::specs::Numbers::refusal, crate::specs::Numbers::no_values))]
     fn step(self) -> u64
         ensures { result ≡ numbers.packed (numbers.site_step (call_in self)) }
     {

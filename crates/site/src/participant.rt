@@ -56,6 +56,7 @@ impl Own {
     }
 
     // A vote sent, and nothing else.
+    #[tactic(auto, using(crate::proofs::Rules::own), unfolding(crate::proofs::Rules::row_opens, crate::specs::Participant::voting))]
     fn voting(self, after: ParticipantPhase, vote: u8) -> Row<ParticipantPhase>
         requires { vote ≤ 7 }
         ensures { (t : ℕ) → participant_row_in t result ≡ participant.voting (presumption_in self.presumption) self.number (participant_in after) (get_or messages vote prepare) }
@@ -99,6 +100,7 @@ impl Own {
     }
 
     // An outcome that is not new: the phase stays.
+    #[tactic(auto, using(crate::proofs::Rules::own), unfolding(crate::proofs::Rules::row_opens, crate::specs::Participant::acknowledging, crate::specs::Participant::acking))]
     fn acknowledging(self, outcome: Outcome, phase: ParticipantPhase) -> Row<ParticipantPhase>
         ensures { (t : ℕ) → participant_row_in t result ≡ participant.acknowledging (presumption_in self.presumption) self.number (outcome_in outcome) (participant_in phase) }
     {
@@ -113,6 +115,7 @@ impl Own {
     }
 
     // The outcome is new.
+    #[tactic(auto, using(crate::proofs::Rules::own), unfolding(crate::proofs::Rules::effects_open, crate::specs::Participant::finish, crate::specs::Participant::acking))]
     fn finish(self, outcome: Outcome) -> Row<ParticipantPhase>
         ensures { (t : ℕ) → participant_row_in t result ≡ participant.finish (presumption_in self.presumption) self.number (acks (presumption_in self.presumption) (outcome_in outcome)) (outcome_in outcome) }
     {
@@ -161,6 +164,7 @@ impl Own {
         }
     }
 
+    #[tactic(auto, using(crate::proofs::Rules::own, crate::proofs::NoRow::no_own_timer), unfolding(crate::proofs::Rules::row_opens, crate::specs::Step::answered, crate::specs::Participant::participant_timer))]
     fn on_timer(self, phase: ParticipantPhase) -> Option<Row<ParticipantPhase>>
         ensures { (t : ℕ) → found_in participant_in t result ≡ participant.participant_timer (presumption_in self.presumption) self.number (participant_in phase) }
     {

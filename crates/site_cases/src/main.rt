@@ -1,7 +1,7 @@
 // Restart of one transaction; steps that find no row, that find a row without effects, and that are refused; votes of participants
 // that only looked. Run and proved. What each expected number says is from the documents 01 and 02; results.rt says what its bytes are.
 
-#![tactic(auto)]
+#![tactic(auto, unfolding(codec::specs::Open::codec_opens, site::specs::Open::site_opens))]
 
 mod results;
 

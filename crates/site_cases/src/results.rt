@@ -1,5 +1,7 @@
 // Rows as the call for C packs them, eight bytes, the lowest first: answer (0), phase, waiting set, set taken out, records (the first,
 // and 16 times the last), forced and twice the outcome entered, message sent, and the set of its participants.
+#![tactic(auto)]
+
 ghost use Rattle.std.specs.Prelude.{◌≡◌, false};
 ghost use Rattle.site.specs.Step.{row};
 ghost use Rattle.site.specs.Coordinator.{coordinator_restart};

@@ -1,4 +1,4 @@
-use Rattle.std.proofs.Common.{◌≡◌, [], ◌∷◌, eq-eqb, ap, ◌∙◌, slice_index_or, rules}
+use Rattle.std.proofs.Common.{◌≡◌, [], ◌∷◌, ap, ◌∙◌, rules}
 use Rattle.codec.specs.Image.{Written, write_image}
 use Rattle.codec.specs.declared.log.Log.{Log}
 use Rattle.codec.specs.Answers.{result_number, log_in, no_log, written}
@@ -14,16 +14,3 @@ pub expect-requires : goal.expect-requires
 expect-requires c =
     let number : result_number c.write_image.result ≡ 25 = ap (λ (w : Written). w.answer) (c.write_image.ensures ∙ five-bytes c.new.result c.new.ensures) in
     search rules
-
-pub expect-requires-2 : goal.expect-requires-2
-expect-requires-2 c =
-    eq-eqb (slice_index_or c.write_image.new.buffer 0 0) 238
-    (ap (λ (w : Written). slice_index_or w.buffer 0 0) (c.write_image.ensures ∙ five-bytes c.new.result c.new.ensures))
-
-pub expect-requires-3 : goal.expect-requires-3
-unfolding codec_opens
-expect-requires-3 c = eq-eqb c.dpr_image_copy.result 0 (ap (λ (w : Written). w.answer) c.dpr_image_copy.ensures)
-
-pub expect-requires-4 : goal.expect-requires-4
-unfolding codec_opens
-expect-requires-4 c = c.same.ensures.1 (ap (λ (w : Written). w.buffer) c.dpr_image_copy.ensures)

@@ -21,10 +21,6 @@ answer l = (write_image l.site (log_in l) 0 (replicate 40 238)).answer
 made : (make : Log → Log) (l : Log) (s : ℕ) → l ≡ no_log s → answer (make l) ≡ answer (make (no_log s))
 made make l s e = ap (λ (l : Log). answer (make l)) e
 
-pub refuses-requires : goal.refuses-requires
-unfolding codec_opens log_in record_in
-refuses-requires c = made (λ l. l) c.new.result 9 c.new.ensures
-
 pub refuses-requires-2 : goal.refuses-requires-2
 unfolding codec_opens log_in record_in
 refuses-requires-2 c = made (holding 1 λ rs. slice_set rs 0 (prepared 8 2)) c.new-eight.result 1 c.new-eight.ensures

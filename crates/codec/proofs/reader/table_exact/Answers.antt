@@ -30,9 +30,6 @@ pub returns-then-from-at : goal.returns-then-from-at
 returns-then-from-at c =
     sym (not-exact _ _ _ _ c.loop-i.invariant (rw c.from-i-end.ensures at c.loop-i-test.true) (λ e. c.if-from-at.true (c.from.ensures ∙ offset (goal.at.returns-then-from-at c).After-pair-offset ∙ e)))
 
-pub overflow_add-at : goal.overflow_add-at
-overflow_add-at c = let s = small (goal.at.overflow_add-at c).After-pair-offset in omega (arith, c.loop-i.invariant.near)
-
 pub loop-i-preserved : goal.loop-i-preserved
 loop-i-preserved c =
     let w = (goal.at.loop-i-preserved c).After-pair-offset in

@@ -1,32 +1,18 @@
-use mathlib.Core.Path.{◌≡◌, ap, ◌∙◌}
+use mathlib.Core.Path.{ap, ◌∙◌}
 use mathlib.Core.List.{List}
 use Prim.Native.Nat.{ℕ}
 use native.Mathlib.Omega.{arith}
-use lib.ListN.{length, set, length-set}
+use lib.ListN.{set, length-set}
 use Rattle.codec.specs.Laws.Fields.{bytes_length, length_most}
 use Rattle.codec.proofs.Stored.{stored_record}
 use Rattle.codec.proofs.writer.write_record.Goals as goal
 use Rattle.codec.proofs.writer.write_record.Goals.{Then-size-gt3, then-size-gt2, else-size-gt2}
-
--- the stores so far keep the length
-kept : (c : Then-size-gt3) → length c.if-size-gt2.out ≡ length c.args.out.now
-kept c =
-    elim c.if-size-gt2.branch [
-      | then-size-gt2 w ↦ ap length w.out-is ∙ simp length-set
-      | else-size-gt2 w ↦ ap length w.out-is ∙ simp length-set
-    ]
 
 pub bounds-out-0 : goal.bounds-out-0
 bounds-out-0 c = omega (arith, bytes_length c.args.x)
 
 pub bounds-out-1 : goal.bounds-out-1
 bounds-out-1 c = simp length-set (omega (arith, bytes_length c.args.x))
-
-pub bounds-out-2 : goal.bounds-out-2
-bounds-out-2 c = simp length-set (omega (arith, c.length-size.ensures))
-
-pub bounds-out-3 : goal.bounds-out-3
-bounds-out-3 c = omega (arith, kept c)
 
 pub returns-then-size-gt3 : goal.returns-then-size-gt3
 returns-then-size-gt3 c =

@@ -1,12 +1,9 @@
 use mathlib.Core.Path.{ap}
 use mathlib.Core.List.{flatten}
 use Prim.Native.Nat.{◌+◌}
-use Rattle.codec.specs.Laws.Stored.{left_front, left_end, left-part, left_put}
-use Rattle.codec.proofs.InTurn.{bytes_end, flat_next, counted_zero, counted_next, sum_fits}
+use Rattle.codec.specs.Laws.Stored.{left_end, left-part, left_put}
+use Rattle.codec.proofs.InTurn.{bytes_end, flat_next, counted_next, sum_fits}
 use Rattle.codec.proofs.writer.write_records.Goals as goal
-
-pub loop-record-init : goal.loop-record-init
-loop-record-init c = (counted_zero c.requires.few, left_front c.requires.room)
 
 pub write_record-requires : goal.write_record-requires
 write_record-requires c = let i = c.loop-record.invariant in left-part i.1 (flat_next i.0 c.loop-record-test.true)

@@ -29,9 +29,6 @@ takes : (t : ℕ) (x : Coordinator) (kind p k : ℕ) (o : Option (Row Coordinato
 takes t x kind p k o e m r f =
     coordinator_takes t (cohort_in x.cohort) (coordinator_state_in x.state) kind p k o e (rw (r, m) (or-true (leb 16 k))) f
 
-pub on_yes-requires : goal.on_yes-requires
-on_yes-requires c = sym c.member.ensures ∙ c.if-not-member.false
-
 pub returns-in-1 : goal.returns-in-1
 unfolding receives kinds_received any input_of messages coordinator_step
 returns-in-1 c t =

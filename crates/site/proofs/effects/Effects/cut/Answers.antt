@@ -1,16 +1,7 @@
 use Prim.Native.Nat.{ℕ, ◌-◌}
-use mathlib.Core.Path.{ap, sym, ◌∙◌}
-use native.Mathlib.Omega.{arith}
-use lib.Seq.{take_all}
-use Rattle.site.specs.Answers.{effects_in}
+use mathlib.Core.Path.{ap, ◌∙◌}
 use Rattle.site.proofs.Cut.{cut_law}
 use Rattle.site.proofs.effects.Effects.cut.Goals as goal
-
--- all of them happen
-pub returns-then-count-most : goal.returns-then-count-most
-returns-then-count-most c =
-    let a = c.args in
-    sym (take_all a.most (effects_in a.transaction a.self) (omega (arith, c.if-count-most.true, c.count.ensures a.transaction)))
 
 pub returns : goal.returns
 returns c =
