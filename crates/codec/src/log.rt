@@ -8,7 +8,7 @@ use crate::message::Parts;
 use crate::record::{Newest, Record};
 use crate::refusal::Refusal;
 
-// The first `count` of `records`, in log order. Any bytes can stand in the fields: `check` refuses what no image holds.
+// The first `count` of `records`, in log order (an array with its count: no heap, and a count above 24 is refused, not excluded). Any bytes can stand in the fields: `check` refuses what no image holds.
 #[derive(Clone, Copy)]
 pub struct Log {
     pub site: u8,

@@ -75,6 +75,7 @@ fn read_records(bytes: &[u8]) -> Result<Log, BadImage>
     for i in 0..log.count {
         let end = at + usize::from(pair(bytes, i).1);
         let read = Record::read(&bytes[at..end], log.site, newest);
+        // By let else, as 01's list of forms asks of the reader.
         let Ok(record) = read else {
             return Err(BadImage {
                 refusal: read.unwrap_err(),

@@ -32,7 +32,7 @@ fn write_pair(offset: u16, length: u16, out: &mut [u8])
     out[2..4].copy_from_slice(&length.to_le_bytes());
 }
 
-// The pair table of the records. (Few: offsets have 16 bits. A type for so many records would wrap three private functions' slices.)
+// The pair table of the records. (Few, as in the private functions below: offsets have 16 bits. A type of its own would only wrap slices.)
 fn write_pairs(records: &[Record], out: &mut [u8])
     requires few { length records.now ≤ 24 }
     requires room { length (pair_table (head_length (length records.now)) (bytes_in records.now)) ≤ length out.old }

@@ -18,7 +18,7 @@ pub(crate) fn digit_count(n: usize) -> usize
     }
 }
 
-// The digits of a number of 64 bits, as characters: the last of these, from `from` on.
+// The digits of a number of 64 bits, as characters: the last of these, from `from` on (no heap).
 #[derive(Drop)]
 pub(crate) struct Digits {
     pub(crate) of: [u8; 20],
@@ -43,7 +43,7 @@ impl Digits {
     }
 }
 
-// The number of a line in five digits, as characters. It is counted, so that no line divides.
+// The number of a line in five digits, as characters. It is counted, so that no line divides for it.
 #[derive(Drop)]
 pub(crate) struct Number {
     pub(crate) digits: [u8; 5],

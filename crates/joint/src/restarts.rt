@@ -86,6 +86,7 @@ pub(crate) fn restart(
         return Err(Refusal::SiteUp);
     }
     let stable = records.stable(site);
+    // Without a cut as many as a byte counts, which no restart has.
     let most = match e.cut {
         Some(cut) => cut.after,
         None => u8::MAX,

@@ -36,6 +36,7 @@ pub enum Then {
     Marked,
 }
 
+// (Not site's `Row<Then>`, on which this crate could have no methods.)
 #[derive(Clone, Copy)]
 pub struct Row {
     pub effects: Effects,

@@ -15,7 +15,7 @@ use codec::refusal::Refusal;
 use site::phases::{CoordinatorPhase, ParticipantPhase};
 use site::presumption::Outcome;
 
-// Sites and their records by number, 0 the coordinator; transactions by number.
+// Sites and their records by number, 0 the coordinator; transactions by number. (Counts and records stand apart: a step copies the counts.)
 #[derive(Clone, Copy)]
 pub struct Run {
     pub(crate) sites: [Site; Run::SITES],

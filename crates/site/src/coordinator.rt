@@ -312,10 +312,8 @@ impl Coordinator {
         ensures { (t : ℕ) → found_in coordinator_in t result ≡ coordinator.on_ack (outcome_in outcome) participant (coordinator_in self.state.phase) }
     {
         match (outcome, self.state.phase) {
-            (Outcome::Commit, CoordinatorPhase::Committing(w)) => {
-                Some(acked(outcome, without(participant, w)))
-            }
-            (Outcome::Abort, CoordinatorPhase::Aborting(w)) => {
+            (Outcome::Commit, CoordinatorPhase::Committing(w))
+            | (Outcome::Abort, CoordinatorPhase::Aborting(w)) => {
                 Some(acked(outcome, without(participant, w)))
             }
             _ => None,

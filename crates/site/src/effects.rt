@@ -152,7 +152,7 @@ pub fn one_if(b: bool) -> u8
     u8::from(b)
 }
 
-// A number, or 0 where nothing is left.
+// A number, or 0 where nothing is left: the definitions' word.
 fn up_to(left: u8, x: u8) -> u8
     ensures { result ≡ up_to left x }
 {

@@ -19,7 +19,7 @@ use codec::sets::{both, member, part};
 // A refusal, and zeros, as include/dpr.h has it.
 const REFUSED: u64 = 1;
 
-// The bytes of a result, the lowest first: answer 0, phase, waiting set, set taken out, and the numbers of the row.
+// The bytes of a result (by sums: two numbers share a byte, and nothing bounds them to four bits), the lowest first: answer 0, phase, waiting set, set taken out, and the numbers of the row.
 #[tactic(auto, unfolding(crate::specs::Numbers::packed))]
 fn packed(phase: u8, waiting: u8, taken_out: u8, row: Summary) -> u64
     requires { (row.forced ≤ 1) × (row.entered ≤ 2) × (row.message ≤ 7) }
