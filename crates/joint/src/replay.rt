@@ -105,6 +105,7 @@ pub fn replay(bytes: &[u8], answers: &mut [u8]) -> Ran
     if answers.len() < 4 * count {
         return Ran { count: 0, run };
     }
+    // Tried: over `bytes.chunks(6).enumerate()` the proof did not close, since what a loop has had is known there by its run alone.
     for i in 0..count {
         let at = Run::EVENT_LENGTH * i;
         let end = bytes.len().min(at + Run::EVENT_LENGTH);
