@@ -90,6 +90,7 @@ fn read_records(bytes: &[u8]) -> Result<Log, BadImage>
 }
 
 // The log that an image holds; or what refuses it, 20 to 24, 27 or 28, and the index of the first bad record.
+#[tactic(auto, using(crate::proofs::Rules::opened), unfolding(crate::specs::Answers::image_values, crate::specs::Answers::values, crate::specs::Image::site_in, crate::specs::Image::count_in))]
 pub fn read_image(bytes: &[u8]) -> Result<Log, BadImage>
     ensures { image_values result ≡ values (read_image bytes.now) }
 {

@@ -175,6 +175,7 @@ impl Record {
 
     // Whether a record 2 has a PrA member, one that is not in PC: its commit is not closed before record 3. The definition does
     // not ask for the kind, so of others it goes by the fields that they have: a record 5 has one.
+    #[tactic(auto, using(crate::proofs::Rules::acks), unfolding(crate::specs::Answers::record_in, crate::specs::Records::awaits_acks, crate::specs::Records::members_in, crate::specs::Records::presume_commit_in, crate::specs::Sets::empty, crate::specs::Records::length_of, crate::specs::Records::lengths))]
     pub fn awaits_acks(self) -> bool
         ensures { result ≡ awaits_acks (record_in self) }
     {

@@ -24,6 +24,7 @@ fn write_head(site: u8, count: u8, out: &mut [u8])
 }
 
 // Offset and length of one record.
+#[tactic(auto, unfolding(crate::specs::Image::word, crate::specs::Image::stored))]
 fn write_pair(offset: u16, length: u16, out: &mut [u8])
     requires { 4 ≤ lib.ListN.length out.old }
     ensures { out.new ≡ stored 0 (word offset ++ word length) out.old }
@@ -114,6 +115,7 @@ fn place(log: &Log, buffer: &mut [u8], at: usize) -> Result<(), Refusal>
 }
 
 // Writes the log's image from `at` on; or 21, 23, 27, 28, 24, 25 and the buffer as it was.
+#[tactic(auto, using(crate::specs::Laws::Refusals::write_refused, crate::proofs::Passed::refusal_not_zero, std::proofs::lemmas::Result::err_from_is_err_and))]
 pub fn write_image(log: Log, buffer: &mut [u8], at: usize) -> Result<(), Refusal>
     ensures { written (result_number result) buffer.new ≡ write_image log.site (log_in log) at buffer.old }
 {

@@ -1,7 +1,7 @@
 -- Numbers in decimal digits, stored one by one or counted. Assumes nothing.
-use Rattle.std.proofs.Common.{ℕ, zero, suc, ◌+◌, ◌-◌, ◌*◌, ◌/◌, ◌%◌, ◌≤◌, ◌<◌, ◌≡◌, refl, sym, ap, ◌∙◌, Bool, true, false, ltb, List, [], ◌∷◌, ◌++◌, length, get_or, set, drop, arith, add-one, drop-cons, length-append, length-set, drop_of_length-le}
+use Rattle.std.proofs.Common.{ℕ, zero, suc, ◌+◌, ◌-◌, ◌*◌, ◌/◌, ◌%◌, ◌≤◌, ◌<◌, ◌≡◌, refl, sym, ap, ◌∙◌, Bool, true, false, ltb, List, [], ◌∷◌, ◌++◌, length, get_or, set, drop, arith, add-one, drop-cons, length-append, length-set}
 use native.Mathlib.Nat.{mod-eq_of_lt}
-use mathlib.Core.List.{append-nil, append_assoc}
+use mathlib.Core.List.{append_assoc}
 use lib.Seq.{get_or-set_same, drop-set-lt}
 use borrow.Author.Tests.{lt-ltb, le-ltb, ltb-true, ltb-false}
 use Rattle.std.proofs.lemmas.Grind.{get_or_default_zero}
@@ -63,10 +63,6 @@ pub record Ended (n : ℕ) (of : List ℕ) (rest i : ℕ) : Type 0 where
   pub size : length of ≡ 20
   pub small : rest < tens (suc i)
   pub all : decimal 19 n ≡ decimal i rest ++ drop (suc i) of
-
-pub ended_start : (n : ℕ) (of : List ℕ) → length of ≡ 20 → n < tens 20 → Ended n of n 19
-ended_start n of e h =
-    record { most = omega arith; size = e; small = h; all = sym (ap (decimal 19 n ++◌) (drop_of_length-le of {i = 20} (omega (arith, e))) ∙ append-nil (decimal 19 n)) }
 
 module _ {n : ℕ} {of : List ℕ} {rest i : ℕ} (t : Ended n of rest i) where
   -- one digit more

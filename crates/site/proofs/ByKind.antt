@@ -11,13 +11,13 @@ use Rattle.codec.specs.Sets.{participants, member}
 use Rattle.codec.specs.Laws.Tests.{alike, alike_eq, below_at}
 use Rattle.codec.specs.Laws.Members.{no_participant, member-participant}
 use Rattle.std.specs.Prelude.{Option, None, Some, Ok}
-use Rattle.site.specs.Step.{refused, row, answered, answer_if}
+use Rattle.site.specs.Step.{refused, answered, answer_if}
 use Rattle.site.specs.Laws.Sets.{Numbered}
 use Rattle.site.specs.Presumption.{Presumption}
 use Rattle.site.specs.Cohort.{Cohort}
 use Rattle.site.specs.Coordinator.{Coordinator, coordinator_step}
-use Rattle.site.specs.Participant.{ParticipantPhase, participant_step, participant_restart}
-use Rattle.site.specs.Numbers.{kinds_received, receives, input_of, coordinator_answer, participant_answer, participant_restarted}
+use Rattle.site.specs.Participant.{ParticipantPhase, participant_step}
+use Rattle.site.specs.Numbers.{kinds_received, receives, input_of, coordinator_answer, participant_answer}
 use Rattle.site.specs.Answers.{coordinator_state_in, participant_in, found_in, answer_in, coordinator_answer_in, participant_answer_in}
 use Rattle.site.specs.declared.coordinator.CoordinatorState.{CoordinatorState}
 use Rattle.site.specs.declared.phases.ParticipantPhase as phase
@@ -85,12 +85,3 @@ module _ (q : Presumption) (p : ℕ) (mark : Bool) (kind : ℕ) (x : Participant
   pub participant_never : (kind ≡ 0 → ⊥) → (kind ≡ 3 → ⊥) → (kind ≡ 4 → ⊥) → (kind ≡ 17 → ⊥) → refused ≡ participant_answer q p mark kind x
   unfolding participant_answer answer_if receives any kinds_received
   participant_never a b c d = rw (ne_eqb kind 0 a, ne_eqb kind 3 b, ne_eqb kind 4 c, ne_eqb kind 17 d)
-
-module _ (q : Presumption) (p : ℕ) (has : ℕ → Bool) where
-  pub no_restart : any (eqb p) participants ≡ false → refused ≡ participant_restarted q p has
-  unfolding participant_restarted answer_if
-  no_restart n = rw n
-
-  pub restarts : any (eqb p) participants ≡ true → row (participant_restart q p has) ≡ participant_restarted q p has
-  unfolding participant_restarted answer_if answered
-  restarts n = rw n

@@ -1,7 +1,6 @@
 mod Phased
 mod Sent
 mod Rows
-mod NoRow
 mod ByKind
 mod Summed
 mod Cut

@@ -1,21 +1,17 @@
 -- What the numbers of an outcome do in a row. Assumes nothing.
-use mathlib.Core.Path.{◌≡◌, refl, sym}
-use mathlib.Core.Bool.{Bool, true, false}
-use mathlib.Core.Logic.{◌⊎◌, inl, inr}
-use mathlib.Core.List.{List, [], ◌∷◌, ◌++◌, append-nil}
+use mathlib.Core.Path.{◌≡◌, refl}
+use mathlib.Core.List.{[], ◌∷◌}
 use Prim.Native.Nat.{ℕ, ◌-◌}
 use lib.ListN.{take}
 use Rattle.codec.specs.Sets.{only}
 use Rattle.codec.specs.Records.{lengths, length_of}
 use Rattle.site.specs.Presumption.{Outcome, commit, abort}
-use Rattle.site.specs.Step.{tell, Effect, append, enter, send, given}
+use Rattle.site.specs.Step.{tell, append, enter, send}
 use Rattle.site.specs.Cohort.{Cohort, owing}
 use Rattle.site.specs.Coordinator.{end_record, in_order, tell_all}
 use Rattle.site.specs.Participant.{outcome_record}
 use Rattle.site.specs.Numbers.{appending, outcome_number, entry_of}
-use Rattle.site.specs.Answers.{closing}
 use Rattle.site.specs.Laws.Sets.{Numbered}
-use Rattle.site.specs.Laws.Order.{ordered-none}
 use Rattle.site.proofs.Sent.{ordered_one}
 
 pub entering_outcome : (o : Outcome) → entry_of (outcome_number o) ≡ enter o ∷ []
@@ -33,21 +29,7 @@ unfolding appending outcome_record length_of lengths
 outcome-appended commit a b = refl
 outcome-appended abort a b = refl
 
--- the last record of an abort
-pub abort_closed : (b : Bool) (last : ℕ) (es : List Effect) → ((b ≡ true) × (last ≡ 4)) ⊎ ((b ≡ false) × (last ≡ 0))
-    → closing last es ≡ es ++ given b (append 4 [] ∷ [])
-unfolding closing given length_of lengths
-abort_closed b last es (inl h) = rw (h.0, h.1)
-abort_closed b last es (inr h) = rw (h.0, h.1) (sym (append-nil es))
-
 module _ (t : ℕ) (g : Cohort) where
   pub tell_one : (o : Outcome) (p : ℕ) → Numbered p → tell_all t g o (only p) ≡ send (tell o) p ∷ []
   unfolding tell_all in_order
   tell_one o p h = rw (ordered_one t (owing g o) p h)
-
-  -- at restart an outcome is told to all, or to nobody
-  pub tell_if : (o : Outcome) (b : Bool) (to : ℕ) → ((b ≡ true) × (to ≡ g.members)) ⊎ ((b ≡ false) × (to ≡ 0))
-      → tell_all t g o to ≡ given b (tell_all t g o g.members)
-  unfolding tell_all in_order given
-  tell_if o b to (inl h) = rw (h.0, h.1)
-  tell_if o b to (inr h) = rw (h.0, h.1, ordered-none t (owing g o))

@@ -8,9 +8,9 @@ use Rattle.site.specs.Numbers.{appending, entry_of, row_values, no_values, packe
 use Rattle.site.specs.Answers.{effects_in, closing, sending}
 use Rattle.site.specs.Laws.Order.{ordered-none}
 use Rattle.site.proofs.Sent.{ordered_by_turn, sending-kind, own_sent_if, number-sent}
-use Rattle.site.proofs.Rows.{entering_outcome, outcome-appended, abort_closed, tell_if}
+use Rattle.site.proofs.Rows.{entering_outcome, outcome-appended}
 use Rattle.site.proofs.Cut.{no_sends, sending-length}
-use Rattle.site.proofs.Accepted.{call_refused, call_coordinator, call_foreign, call_participant, call_beyond}
+use Rattle.site.proofs.Accepted.{call_refused, call_coordinator, call_foreign, call_participant, call_beyond, coordinator-refused, coordinator-taken}
 
 -- what the numbers of a row do
 unfoldable pub row_opens : Unit {0}
@@ -28,7 +28,7 @@ unfolding answer_number row_values no_values packed summary summary_behind coord
 result_opens = tt
 
 -- the records and the messages of a row
-pub ruleset rows = (ordered-none, ordered_by_turn, sending-kind, entering_outcome, tell_if, abort_closed)
+pub ruleset rows = (ordered-none, ordered_by_turn, sending-kind, entering_outcome)
 
 -- what a participant sends
 pub ruleset own = (ordered-none, own_sent_if, number-sent, entering_outcome, outcome-appended)
@@ -38,3 +38,6 @@ pub ruleset counts = (no_sends, sending-length, size-most)
 
 -- a call's answer
 pub ruleset calls = (call_refused, call_coordinator, call_foreign, call_participant, call_beyond)
+
+-- the coordinator's
+pub ruleset coordinator_calls = (coordinator-refused, coordinator-taken)

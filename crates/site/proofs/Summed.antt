@@ -1,6 +1,6 @@
 -- The numbers of a row as firmware gets them. Assumes nothing.
 use mathlib.Core.Path.{◌≡◌, refl, ap, sym, ◌∙◌}
-use mathlib.Core.Bool.{Bool, true, false, cond, not, ◌&&◌, ◌||◌, and-eq-true_iff}
+use mathlib.Core.Bool.{Bool, true, false, cond, not, ◌&&◌, ◌||◌}
 use mathlib.Core.Logic.{◌⊎◌, inl, inr}
 use mathlib.Core.List.{List, [], ◌∷◌, ◌++◌, map}
 use Prim.Native.Nat.{ℕ, zero, suc, ◌+◌, ◌-◌, ◌*◌, ◌/◌, ◌%◌, ◌<◌, ◌≤◌}
@@ -190,16 +190,6 @@ summed t e h =
     ap summary (five t e ∙ rw (n.0, sending_told t e.message e.owing e.to) refl)
     ∙ sum_row e.appended (fields_by e.appended e.first e.second) e.forced (outcome_is e.entered) n.1 (get_or messages e.message prepare) ps e.last (fields_by e.last 0 0)
     ∙ rw (a, w.kinds, w.set) refl
-
--- the program looks only where there is a last record
-pub looked_last : (e : Effects) (a : Bool) → ((e.last ≡ 0) × (a ≡ false)) ⊎ (a ≡ only_last e)
-    → (cond a e.last e.appended ≡ cond (only_last e) e.last e.appended) × (cond a 0 e.last ≡ cond (only_last e) 0 e.last)
-looked_last e a (inr h) = rw h (refl, refl)
-looked_last e a (inl h) = rw (h.1, h.0) (by (only_last e) refl)
-  where
-    by : (b : Bool) → only_last e ≡ b → (e.appended ≡ cond b 0 e.appended) × (◌≡◌ {A = ℕ} 0 (cond b 0 0))
-    by true k = (eqb-true _ _ ((and-eq-true_iff _ _).0 ((and-eq-true_iff _ _).0 ((and-eq-true_iff _ _).0 k).0).0).0, refl)
-    by false k = (refl, refl)
 
 -- what fits into the bytes of the call
 

@@ -221,7 +221,7 @@ impl Coordinator {
         }
     }
 
-    #[tactic(auto, using(crate::proofs::NoRow::no_begin), unfolding(crate::specs::Coordinator::on_begin))]
+    #[tactic(auto, unfolding(crate::specs::Coordinator::on_begin))]
     fn on_begin(self) -> Option<Row<CoordinatorPhase>>
         ensures { (t : ℕ) → found_in coordinator_in t result ≡ coordinator.on_begin t (cohort_in self.cohort) (coordinator_in self.state.phase) }
     {
@@ -256,7 +256,7 @@ impl Coordinator {
         }
     }
 
-    #[tactic(auto, using(crate::proofs::NoRow::no_no), unfolding(crate::specs::Coordinator::on_no, codec::specs::Lists::only_if))]
+    #[tactic(auto, unfolding(crate::specs::Coordinator::on_no, codec::specs::Lists::only_if))]
     fn on_no(self, participant: u8) -> Option<Row<CoordinatorPhase>>
         ensures { (t : ℕ) → found_in coordinator_in t result ≡ coordinator.on_no t (cohort_in self.cohort) self.state.taken_out participant (coordinator_in self.state.phase) }
     {
@@ -275,7 +275,7 @@ impl Coordinator {
     }
 
     // The participant is taken out after the row.
-    #[tactic(auto, using(crate::proofs::NoRow::no_read_only), unfolding(crate::specs::Coordinator::on_read_only, crate::specs::Coordinator::taking_out, codec::specs::Lists::only_if))]
+    #[tactic(auto, unfolding(crate::specs::Coordinator::on_read_only, crate::specs::Coordinator::taking_out, codec::specs::Lists::only_if))]
     fn on_read_only(self, participant: u8) -> Option<Row<CoordinatorPhase>>
         ensures { (t : ℕ) → found_in coordinator_in t result ≡ coordinator.on_read_only t (cohort_in self.cohort) self.state.taken_out participant (coordinator_in self.state.phase) }
     {
@@ -292,7 +292,7 @@ impl Coordinator {
         }
     }
 
-    #[tactic(auto, using(crate::proofs::NoRow::no_timer), unfolding(crate::specs::Coordinator::coordinator_timer))]
+    #[tactic(auto, unfolding(crate::specs::Coordinator::coordinator_timer))]
     fn on_timer(self) -> Option<Row<CoordinatorPhase>>
         ensures { (t : ℕ) → found_in coordinator_in t result ≡ coordinator.coordinator_timer t (cohort_in self.cohort) self.state.taken_out (coordinator_in self.state.phase) }
     {
@@ -307,7 +307,7 @@ impl Coordinator {
         }
     }
 
-    #[tactic(auto, using(crate::proofs::NoRow::no_commit_ack, crate::proofs::NoRow::no_abort_ack), unfolding(crate::specs::Coordinator::on_ack, crate::specs::Coordinator::acked_if, crate::specs::Presumption::same_outcome))]
+    #[tactic(auto, unfolding(crate::specs::Coordinator::on_ack, crate::specs::Coordinator::acked_if, crate::specs::Presumption::same_outcome))]
     fn on_ack(self, outcome: Outcome, participant: u8) -> Option<Row<CoordinatorPhase>>
         ensures { (t : ℕ) → found_in coordinator_in t result ≡ coordinator.on_ack (outcome_in outcome) participant (coordinator_in self.state.phase) }
     {

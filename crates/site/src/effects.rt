@@ -115,6 +115,7 @@ impl Effects {
         }
     }
 
+    #[tactic(auto, using(crate::proofs::Summed::summed))]
     pub fn summary(self) -> Summary
         ensures { (t : ℕ) → summary_in result ≡ summary (effects_in t self) }
     {

@@ -88,7 +88,7 @@ struct Arguments {
 
 impl Arguments {
     // Whether the waiting set is one of the coordinator's phase.
-    #[tactic(auto, using(crate::proofs::Phased::no_phase), unfolding(crate::specs::Numbers::waiting_in_range, codec::specs::Sets::empty))]
+    #[tactic(auto, unfolding(crate::specs::Numbers::waiting_in_range, codec::specs::Sets::empty))]
     fn waiting_in_range(self) -> bool
         ensures { result ≡ numbers.waiting_in_range (cohort_in self.cohort) self.phase self.waiting }
     {
@@ -113,6 +113,7 @@ impl Arguments {
     }
 
     // At the coordinator. That the sender of a message is a member is tested by the step.
+    #[tactic(auto, using(crate::proofs::Rules::coordinator_calls), unfolding(crate::specs::Numbers::packed, crate::specs::Numbers::refusal, crate::specs::Numbers::no_values))]
     fn coordinator_step(self) -> u64
         ensures { result ≡ numbers.packed (coordinator_numbers (call_in self)) }
     {

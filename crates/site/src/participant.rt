@@ -164,7 +164,7 @@ impl Own {
         }
     }
 
-    #[tactic(auto, using(crate::proofs::Rules::own, crate::proofs::NoRow::no_own_timer), unfolding(crate::proofs::Rules::row_opens, crate::specs::Step::answered, crate::specs::Participant::participant_timer))]
+    #[tactic(auto, using(crate::proofs::Rules::own), unfolding(crate::proofs::Rules::row_opens, crate::specs::Step::answered, crate::specs::Participant::participant_timer))]
     fn on_timer(self, phase: ParticipantPhase) -> Option<Row<ParticipantPhase>>
         ensures { (t : ℕ) → found_in participant_in t result ≡ participant.participant_timer (presumption_in self.presumption) self.number (participant_in phase) }
     {
@@ -205,6 +205,7 @@ impl Participant {
     }
 
     // From the kinds of record that the stable log has of the transaction, bit k for kind k; what is no participant is refused.
+    #[tactic(auto, using(crate::proofs::Rules::own), unfolding(crate::proofs::Rules::row_opens, crate::specs::Numbers::participant_restarted, crate::specs::Step::answer_if, crate::specs::Step::answered, crate::specs::Participant::participant_restart, crate::specs::Participant::restart_with))]
     pub fn restart(self, records: u16) -> Result<Row<ParticipantPhase>, Refused>
         ensures { (t : ℕ) → participant_restart_in t result ≡ participant_restarted (presumption_in self.presumption) self.number (has_kind records) }
     {

@@ -24,9 +24,6 @@ whole input buffer text r h k e =
     let room : r ≤ length text = rw (n, held, length-append) (omega arith) in
     ((room, rw front n), front)
 
-pub unwrap-requires : goal.unwrap-requires
-unwrap-requires c = c.drill.ensures.too_short.1 (omega (arith, c.requires, c.drill.ensures.input_len_bound))
-
 pub returns-clause-prefix_len : goal.returns-clause-prefix_len
 returns-clause-prefix_len c =
     (whole c.args.input.now c.args.text.now c.drill.new.text c.unwrap.result c.requires c.drill.ensures.input_len_bound (rw c.unwrap.ensures at c.drill.ensures.text_after)).0
