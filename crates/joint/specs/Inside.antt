@@ -21,7 +21,6 @@ unfoldable pub use Rattle.joint.specs.Laws.Effects.{site_after, transaction_afte
 use Rattle.joint.specs.Answers.{site_from, transactions_in, refusal_number, number_of, Seen, seen}
 use Rattle.joint.specs.Program.{has_room}
 use Rattle.joint.specs.declared.answers.Refusal.{Refusal}
-use Rattle.joint.specs.declared.answers.Refusal.TheVariants as refusals
 use Rattle.joint.specs.declared.sites.Site.{Site}
 use Rattle.joint.specs.declared.rows.Then.{Then}
 use Rattle.joint.specs.declared.rows.Then.TheVariants as follows
@@ -193,10 +192,6 @@ unfoldable pub event_in : std.Result Event Refusal → Option Parsed
 event_in (std.Err e) = none
 event_in (std.Ok (events.Step e)) = some (step_in e)
 event_in (std.Ok (events.Restart e)) = some (record { event = event.restart e.site.number; cut = cut_in e.cut })
-
-abbrev pub Malformed : std.Result Event Refusal → Type 0
-Malformed (std.Err e) = e ≡ refusals.Malformed
-Malformed (std.Ok e) = Unit {0}
 
 -- ---- changes
 

@@ -1,9 +1,10 @@
 // An event's bytes: read, and in their ranges or refused by 1.
-ghost use Rattle.std.specs.Prelude.{◌≡◌, not, ◌&&◌, ◌||◌, eqb, get_or};
+ghost use Rattle.std.specs.Prelude.{◌≡◌, not, ◌&&◌, ◌||◌, eqb, get_or, IfErr};
 ghost use Rattle.site.specs.Step as step;
 ghost use Rattle.site.specs.Step.{messages, prepare};
 ghost use Rattle.joint.specs.Event.{bytes_in_range, cut_in_range, parse};
-ghost use Rattle.joint.specs.Inside.{cut_in, cut_from, event_in, Malformed, step_site, step_transaction};
+ghost use Rattle.joint.specs.Answers.{number_of};
+ghost use Rattle.joint.specs.Inside.{cut_in, cut_from, event_in, step_site, step_transaction};
 
 use crate::answers::Refusal;
 use crate::input::Input;
@@ -147,7 +148,7 @@ fn cut_of(cut: u8, keep: u8) -> Option<Cut>
 impl Event {
     #[tactic(auto, using(crate::proofs::Engine::EventRanges::site_number, crate::proofs::Engine::EventRanges::transaction_number))]
     pub fn read(bytes: &[u8]) -> Result<Event, Refusal>
-        ensures { (event_in result ≡ parse bytes.now) × Malformed result }
+        ensures { (event_in result ≡ parse bytes.now) × IfErr result (λ e. number_of e ≡ 1) }
     {
         if bytes.len() != Run::EVENT_LENGTH {
             return Err(Refusal::Malformed);

@@ -4,6 +4,7 @@ ghost use Rattle.std.specs.Prelude.{◌≡◌, ◌≤◌};
 use crate::run::Run;
 use codec::message::Parts;
 
+// One of those from 0 to LAST.
 #[derive(Clone, Copy)]
 pub struct Number<const LAST: u8> {
     pub number: u8,

@@ -6,17 +6,18 @@ use lib.ListN.{get_or}
 use borrow.Author.Tests.{ne_eqb}
 use Rattle.codec.specs.Lists.{any, only_if}
 use Rattle.joint.specs.Event.{ranges, event_of, cut_at, cut_of}
+use Rattle.joint.specs.Answers.{number_of}
 use Rattle.joint.specs.Inside.{event_in, step_in, input_event}
 use Rattle.joint.proofs.Engine.EventRanges.{parse_by, accepted}
 use Rattle.joint.proofs.Engine.Inputs.{message-event, asked_message}
 use Rattle.joint.proofs.events.Event.read.Goals as goal
 
 pub returns-then-bytes-ne-EVENT_LENGTH : goal.returns-then-bytes-ne-EVENT_LENGTH
-unfolding event_in only_if
+unfolding event_in only_if number_of
 returns-then-bytes-ne-EVENT_LENGTH c = (rw (parse_by, ne_eqb _ 6 c.if-bytes-ne-EVENT_LENGTH.true) refl, refl)
 
 pub returns-then-not-in_range : goal.returns-then-not-in_range
-unfolding event_in only_if
+unfolding event_in only_if number_of
 returns-then-not-in_range c = (rw (parse_by, ← c.in_range.ensures, c.if-not-in_range.true, and-false) refl, refl)
 
 pub returns-in-0 : goal.returns-in-0
