@@ -6,15 +6,15 @@ use mathlib.Core.List.{List, [], ◌∷◌, ◌++◌, flatten, append-nil}
 use native.Mathlib.Nat.{add_assoc, zero-add}
 use native.Mathlib.Numerals.{add-one}
 use native.Mathlib.Omega.{arith}
-use lib.ListN.{length, set, take, drop, length-drop}
-use lib.Seq.{sets-eq, drop-drop}
+use lib.ListN.{length, take, drop, length-drop}
+use lib.Seq.{drop-drop}
 use borrow.Author.Tests.{le-leb, lt-leb}
 use Rattle.codec.specs.Image.{stored}
 use Rattle.codec.specs.Laws.Stored.{length-stored, stored-two}
 use Rattle.joint.specs.State.{Run, fresh}
 use Rattle.codec.specs.Lists.{select}
 use Rattle.joint.specs.Event.{event_length}
-use Rattle.joint.specs.Run.{Answer, event, after, answers, answer_of}
+use Rattle.joint.specs.Run.{event, after, answers, answer_of}
 use Rattle.joint.specs.Drill.{chunks, events_of, answer_bytes, replayed}
 use Rattle.joint.specs.Safety.{Moment, happened, history}
 use Rattle.joint.specs.Totals as totals
