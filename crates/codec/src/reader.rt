@@ -32,7 +32,7 @@ fn opens(bytes: &[u8]) -> bool
     Log::FIXED <= bytes.len() && bytes.starts_with(&Log::OPENING)
 }
 
-// Offset and length of record i, 16 bits each, low byte first.
+// Offset and length of record i, 16 bits each, low byte first. (By its index in the whole image, which is what the definition reads.)
 fn pair(bytes: &[u8], i: usize) -> (u16, u16)
     requires { 6 + 4 * i + 4 ≤ length bytes.now }
     ensures { result ≡ (word_at bytes.now (6 + 4 * i), word_at bytes.now (6 + 4 * i + 2)) }

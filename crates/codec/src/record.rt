@@ -83,7 +83,7 @@ impl Record {
     pub const LAST_KIND: u8 = Record::ABORTED;
     // A record 5's field is 0 or 1.
     const LAST_PRESUMPTION: u8 = 1;
-    // Kind 0 is no record.
+    // Kind 0 is no record: a value and no Option, since an array of a log holds it too.
     pub const NONE: Record = Record {
         kind: 0,
         transaction: 0,

@@ -47,7 +47,7 @@ fn write_pairs(records: &[Record], out: &mut [u8])
     }
 }
 
-// One record, at the front of a part of a buffer.
+// One record, at the front of a part of a buffer. (Two to four bytes: an array and a copy of a part of it were no shorter.)
 fn write_record(x: Record, out: &mut [u8])
     requires { length (bytes_of (record_in x)) ≤ length out.old }
     ensures { out.new ≡ stored 0 (bytes_of (record_in x)) out.old }

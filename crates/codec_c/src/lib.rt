@@ -1,4 +1,5 @@
-// For C (include/dpr.h): reading and writing log images, and message numbers turned back. Each call is codec's of the same name.
+// For C (include/dpr.h): reading and writing log images, and message numbers turned back. Each call is codec's of the same name; it stands
+// twice, since a crate is a library or a static library.
 
 #![tactic(auto)]
 

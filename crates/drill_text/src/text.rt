@@ -11,7 +11,7 @@ use codec::message::Parts;
 use joint::run::Run;
 use site::presumption::Outcome;
 
-// A text that grows from the front of a lent buffer.
+// A text that grows from the front of a lent buffer (no heap). What a method writes differs, so each asks for its room.
 #[derive(Drop)]
 pub(crate) struct Text<'a> {
     bytes: &'a mut [u8],
@@ -111,7 +111,7 @@ impl<'a> Text<'a> {
         }
     }
 
-    // A line for each answer.
+    // A line for each answer. (As many as five digits number.)
     pub(crate) fn push_lines(&mut self, answers: &[[u8; 4]])
         requires { (length answers.now ≤ 10000) × Room self.old (lines_from 1 answers.now) }
         ensures { Pushed self.old self.new (lines_from 1 answers.now) }

@@ -1,4 +1,5 @@
-// For C (include/dpr.h): the drill and the bill of a clean run. Each call is drill_text's of the same name.
+// For C (include/dpr.h): the drill and the bill of a clean run. Each call is drill_text's of the same name; it stands
+// twice, since a crate is a library or a static library.
 
 #![tactic(auto)]
 

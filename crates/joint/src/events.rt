@@ -70,7 +70,7 @@ pub enum Event {
     Restart(Restart),
 }
 
-// No cut, and then keep is 0.
+// No cut, and then keep is 0. (The two bytes as they stand in an event; what is read of them is a `Cut`.)
 fn uncut(cut: u8, keep: u8) -> bool
     ensures { result ≡ (eqb cut 255 && eqb keep 0) }
 {
@@ -84,7 +84,7 @@ fn may_cut(cut: u8, keep: u8) -> bool
     (keep == 0) | (cut != Run::NO_CUT)
 }
 
-// Whether an event's bytes are in their ranges: unused x, y, z are 0, and at open z is a part of y. A cut stands on codes
+// By one match (docs/DECISIONS.md, L20): whether an event's bytes are in their ranges: unused x, y, z are 0, and at open z is a part of y. A cut stands on codes
 // 1, 2, 3, 7; keep is 0 but on a cut or a crash.
 #[tactic(auto, unfolding(crate::specs::Event::bytes_in_range, crate::specs::Event::cut_in_range, crate::specs::Event::ranges, codec::specs::Lists::every, codec::specs::Lists::any),)]
 fn in_range(code: u8, x: u8, y: u8, z: u8, cut: u8, keep: u8) -> bool
@@ -228,7 +228,7 @@ impl Step {
         }
     }
 
-    // 0 where it names none.
+    // 0 where it names none: of that one nothing changes then.
     pub fn transaction(self) -> TransactionNumber
         ensures { result.number ≡ step_transaction self }
     {

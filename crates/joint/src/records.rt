@@ -26,7 +26,7 @@ pub struct Records {
     pub of: [Record; Log::COORDINATOR_MOST],
 }
 
-// A site's counts with its records.
+// A site's counts with its records, where both change.
 #[derive(Clone, Copy)]
 pub struct SiteLog {
     pub site: Site,

@@ -14,6 +14,7 @@ use codec::log::Log;
 use site::effects::Effects;
 
 // The first `stable` of its records are stable, and the next `unforced` are not; what stands behind these is no record of the log.
+// What its methods promise is of any 24 records behind the counts.
 #[derive(Clone, Copy)]
 pub struct Site {
     pub up: bool,

@@ -21,7 +21,7 @@ use site::phases::{CoordinatorPhase, ParticipantPhase};
 use site::presumption::Outcome;
 use site::record_kinds::has;
 
-// The coordinator's phase, and the cohort as opened: the members, 0 until then, and those that presume commit.
+// The coordinator's phase, and the cohort as opened: the members, 0 until then (the definitions' `opened`), and those that presume commit.
 #[derive(Clone, Copy)]
 pub struct Part {
     pub phase: CoordinatorPhase,

@@ -87,7 +87,7 @@ struct Arguments {
 }
 
 impl Arguments {
-    // Whether the waiting set is one of the coordinator's phase.
+    // Whether the waiting set is one of the coordinator's phase, by its number, as the definition goes.
     #[tactic(auto, unfolding(crate::specs::Numbers::waiting_in_range, codec::specs::Sets::empty))]
     fn waiting_in_range(self) -> bool
         ensures { result ≡ numbers.waiting_in_range (cohort_in self.cohort) self.phase self.waiting }

@@ -28,6 +28,7 @@ pub struct Participant {
     pub marked: bool,
 }
 
+// (A test, and `Own` made at both calls: as one function that gives Result<Own, Refused> a step took more instructions.)
 #[tactic(auto, using(crate::proofs::ByKind::among_yes, crate::proofs::ByKind::among_no))]
 fn is_participant(number: u8) -> bool
     ensures listed { result ≡ any (eqb number) participants }

@@ -1,4 +1,5 @@
-// For C (include/dpr.h): one site's step on numbers, which is site's call of the same name.
+// For C (include/dpr.h): one site's step on numbers, which is site's call of the same name; it stands twice, since a
+// crate is a library or a static library.
 
 #![tactic(auto)]
 

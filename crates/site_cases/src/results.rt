@@ -16,6 +16,7 @@ use site::phases::{CoordinatorPhase, ParticipantPhase};
 use site::presumption::Presumption;
 use site::row::Refused;
 
+// As C gets it.
 pub const REFUSED: u64 = 1;
 
 // Where no row is found, a result has the phase that it was given: here one that no row has.
