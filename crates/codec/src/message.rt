@@ -133,7 +133,8 @@ impl Parts {
     }
 }
 
-// For C (include/dpr.h): transaction, participant and kind of a message number: 0, or 26 and `parts` as it was.
+// For C (include/dpr.h): transaction, participant and kind of a message number: 0, or 26 and `parts` as it was. The bytes are
+// stored one by one, as in the definition.
 #[tactic(auto, using(crate::proofs::Numbered::parts_written_lem, crate::proofs::Numbered::parts_refused), unfolding(crate::specs::Answers::parts_values))]
 pub fn dpr_message_parts(number: u16, parts: &mut [u8; 3]) -> u8
     ensures { written result parts.new ≡ parts_written (message_parts number) parts.old }

@@ -120,7 +120,7 @@ fn in_range(code: u8, x: u8, y: u8, z: u8, cut: u8, keep: u8) -> bool
     }
 }
 
-// The coordinator receives votes and acks, a participant the others.
+// The coordinator receives votes and acks, a participant the others. (As a match it was five goals with no fact in common.)
 fn receiver(kind: u8, participant: SiteNumber) -> SiteNumber
     ensures { result.number ≡ step.receiver (get_or messages kind prepare) participant.number }
 {
