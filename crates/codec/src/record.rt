@@ -110,9 +110,7 @@ impl Record {
     pub fn length(self) -> usize
         ensures { result ≡ length (bytes_of (record_in self)) }
     {
-        // Tried: by `max` dpr_image_copy takes 3 % more instructions.
-        let length = Record::length_of(self.kind);
-        if length < 2 { 2 } else { length }
+        Record::length_of(self.kind).max(2)
     }
 
     // The record that bytes are, if they are one.
