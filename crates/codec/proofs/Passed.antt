@@ -49,6 +49,11 @@ refusal_not_zero NoMessage h = omega arith
 refusal_not_zero WrongTransaction h = omega arith
 refusal_not_zero WrongField h = omega arith
 
+-- an answer that is no accepted record has a number
+pub not-accepted : (a : Result Record Refusal) → ((x : Record) → a ≡ Ok x → ⊥) → result_number a ≡ 0 → ⊥
+not-accepted (Ok x) n e = n x refl
+not-accepted (Err r) n e = refusal_not_zero r e
+
 -- an accepted answer tells that no test struck
 pub taken : (a b c d : Bool) (x r : Record) → answer_to a b c d x ≡ Ok r → (a ≡ false) × (x ≡ r)
 unfolding answer_to

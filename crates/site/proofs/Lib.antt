@@ -1,6 +1,7 @@
 mod Phased
 mod Sent
 mod Rows
+mod NoRow
 mod ByKind
 mod Summed
 mod Cut
