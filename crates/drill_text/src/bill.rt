@@ -5,12 +5,8 @@ ghost use Rattle.joint.specs.Bill.{bill_for, bill_number};
 use joint::bill::Bill;
 
 // For C (include/dpr.h).
-#[tactic(auto, unfolding(joint::specs::Bill::bill_number, joint::specs::Answers::bill_in, joint::specs::Answers::refusal_number))]
 pub fn dpr_bill(members: u8, presume_commit: u8) -> u32
     ensures { result ≡ bill_number (bill_for members presume_commit) }
 {
-    match Bill::of(members, presume_commit) {
-        Ok(bill) => bill.number(),
-        Err(refusal) => refusal.number() as u32,
-    }
+    Bill::number(Bill::of(members, presume_commit))
 }

@@ -1,7 +1,7 @@
 // The bill: what a clean run of a transaction costs (02).
 ghost use Rattle.std.specs.Prelude.{◌≡◌};
 ghost use Rattle.joint.specs.Bill.{bill_for, bill_number};
-ghost use Rattle.joint.specs.Answers.{accepted, bill_in};
+ghost use Rattle.joint.specs.Answers.{bill_in};
 
 use crate::answers::{Counts, Refusal};
 use codec::sets::{part, size};
@@ -34,11 +34,16 @@ impl Bill {
         Ok(Bill { costs })
     }
 
-    // Answer, records, forces and sends as the bytes of one number, the lowest first.
-    #[tactic(auto, unfolding(crate::specs::Bill::bill_number))]
-    pub fn number(self) -> u32
-        ensures { result ≡ bill_number (accepted self.costs) }
+    // Answer, records, forces and sends as the bytes of one number, the lowest first; of a bill that is refused too.
+    #[tactic(auto, unfolding(crate::specs::Bill::bill_number, crate::specs::Answers::bill_in, crate::specs::Answers::refusal_number))]
+    pub fn number(bill: Result<Bill, Refusal>) -> u32
+        ensures { result ≡ bill_number (bill_in bill) }
     {
-        u32::from_le_bytes([0, self.costs.records, self.costs.forces, self.costs.sends])
+        match bill {
+            Ok(Bill { costs }) => {
+                u32::from_le_bytes([0, costs.records, costs.forces, costs.sends])
+            }
+            Err(refusal) => u32::from(refusal.number()),
+        }
     }
 }
