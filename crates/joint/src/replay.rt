@@ -23,12 +23,15 @@ pub struct Ran {
     pub run: Run,
 }
 
-// Stores an answer, four bytes.
+// Stores an answer, four bytes. (In each arm by itself: stored where the arms join, an answer took ten instructions more.)
 fn store(answer: Answer, answers: &mut [u8], at: usize)
     requires { at + 4 ≤ length answers.old }
     ensures { answers.new ≡ stored at (answer_bytes (answer_in answer)) answers.old }
 {
-    answers[at..at + 4].copy_from_slice(&bytes(answer));
+    match answer {
+        Ok(counts) => answers[at..at + 4].copy_from_slice(&bytes(Ok(counts))),
+        Err(refusal) => answers[at..at + 4].copy_from_slice(&bytes(Err(refusal))),
+    }
 }
 
 impl Run {
@@ -58,22 +61,24 @@ impl Run {
         Ok(counts)
     }
 
-    // It forces nothing.
+    // Its forces are counted as a step's are, though no restart of today forces.
     fn restart(&mut self, e: Restart) -> Answer
         ensures { (bytes : List ℕ) → parse bytes ≡ some (record { event = event.restart e.site.number; cut = cut_in e.cut }) → Takes self.old bytes (record { answer = result; run = self.new }) }
     {
         let s = e.site.index();
         let next = restart(self.sites[s], self.records[s], self.transactions, e)?;
+        let counts = Counts {
+            records: 0,
+            forces: 0,
+            sends: next.sends,
+        };
+        self.forces[s] = add_held(self.forces[s], counts.forces);
         self.sites[s] = next.log.site;
         self.records[s] = next.log.records;
         // The prover takes an array out of a field by a name alone.
         let transactions = next.transactions;
         self.transactions = transactions;
-        Ok(Counts {
-            records: 0,
-            forces: 0,
-            sends: next.sends,
-        })
+        Ok(counts)
     }
 
     fn take(&mut self, event: &[u8]) -> Answer
@@ -108,8 +113,8 @@ pub fn replay(bytes: &[u8], answers: &mut [u8]) -> Ran
     // Tried: over `bytes.chunks(6).enumerate()` the proof did not close, since what a loop has had is known there by its run alone.
     for i in 0..count {
         let at = Run::EVENT_LENGTH * i;
-        let end = bytes.len().min(at + Run::EVENT_LENGTH);
-        let answer = run.take(&bytes[at..end]);
+        let length = Run::EVENT_LENGTH.min(bytes.len() - at);
+        let answer = run.take(&bytes[at..at + length]);
         store(answer, answers, 4 * i);
     }
     Ran { count, run }

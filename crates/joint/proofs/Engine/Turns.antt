@@ -109,6 +109,28 @@ module _ (w : plain.Run) (x : List ℕ) where
     unfolding has_room room_parsed
     parsed_room h = sym (ap (room_parsed w) e) ∙ h
 
+-- ---- a refusal changes nothing
+
+pub refusal_keeps : (w : plain.Run) (e : events.Event) (c : Option (ℕ × ℕ)) (n : ℕ) → (taken w e c).answer.number ≡ suc n → (taken w e c).run ≡ w
+unfolding taken event_parsed seen answer_of carry_unless carry_plan carry cut_short refuse
+refusal_keeps w e c n = unless (first (refusals w e))
+  where
+    cut_keeps : (b : Bool) (p : Plan) (a k : ℕ) → (cut_short b w p a k).answer ≡ suc n → (cut_short b w p a k).run ≡ w
+    cut_keeps true p a k q = absurd (omega (arith, q))
+    cut_keeps false p a k q = refl
+
+    carried : (p : Plan) (c : Option (ℕ × ℕ)) → (carry w p c).answer ≡ suc n → (carry w p c).run ≡ w
+    carried p none q = absurd (omega (arith, q))
+    carried p (some c) q = cut_keeps (can_cut w p c.0 c.1) p c.0 c.1 q
+
+    planned : (o : Option Plan) → (carry_plan w o c).answer ≡ suc n → (carry_plan w o c).run ≡ w
+    planned none q = refl
+    planned (some p) q = carried p c q
+
+    unless : (m : ℕ) → (carry_unless m w (record { event = e; cut = c })).answer ≡ suc n → (carry_unless m w (record { event = e; cut = c })).run ≡ w
+    unless zero q = planned (plan w e) q
+    unless (suc m) q = refl
+
 -- ---- a row that happens has room
 
 -- the acts of an event's plan are at site s
@@ -190,10 +212,10 @@ module _ (r : Run) (nine : length r.sites ≡ 9) (logs : length r.records ≡ 9)
   unfolding run_in
   restarts q = rw q at promise (run_in r) (site_read r s d e nine logs low) refl
 
-  pub restart-stored : (c : Restarted) → a ≡ Ok c
-      → ◌≡◌ {A = Seen} (record { answer = record { number = 0; records = 0; forces = 0; sends = c.sends }; run = run_in (record { sites = set r.sites s c.log.site; records = set r.records s c.log.records; transactions = c.transactions; forces = r.forces }) }) (taken (run_in r) ev cut)
+  pub restart-stored : (forces : List ℕ) (c : Restarted) → a ≡ Ok c
+      → ◌≡◌ {A = Seen} (record { answer = record { number = 0; records = 0; forces = 0; sends = c.sends }; run = run_in (record { sites = set r.sites s c.log.site; records = set r.records s c.log.records; transactions = c.transactions; forces = forces }) }) (taken (run_in r) ev cut)
   unfolding restarted_in run_in
-  restart-stored c q =
+  restart-stored forces c q =
       (λ i. record { answer = record { number = 0; records = 0; forces = 0; sends = c.sends }; run = record { site = site-stored r.sites r.records s c.log.site nine low c.log.records logs i; transaction = transactions_in c.transactions } })
       ∙ restarts q
 

@@ -27,7 +27,7 @@ loop-i-preserved c =
     let l = c.loop-i in
     let bytes = c.args.bytes.now in
     let within : 6 * l.i ≤ length bytes = omega (arith, c.loop-i-test.true) in
-    let end : c.min-end.result ≡ min (6 * l.i + 6) (length bytes) = omega arith in
+    let end : 6 * l.i + c.min-length.result ≡ min (6 * l.i + 6) (length bytes) = omega arith in
     ahead_next l.invariant c.take-answer.result (run_in c.take-answer.new.self) (forces_in c.take-answer.new.self) _ _ c.loop-i-test.true (event_at_lem l.i bytes _ within end) c.take-answer.ensures c.store.ensures
 
 pub returns : goal.returns
