@@ -3,7 +3,7 @@ use Prim.Native.Nat.{ℕ, suc, ◌≤◌, ◌<◌}
 use mathlib.Core.Path.{◌≡◌, ap, subst}
 use mathlib.Core.Bool.{Bool, true, false}
 use mathlib.Core.List.{List, [], ◌++◌}
-use lib.ListN.{length, length-append}
+use lib.ListN.{length, length-append, get_or}
 use lib.Dec.{T}
 use native.Mathlib.Omega.{arith}
 use Rattle.codec.specs.Lists.{first}
@@ -18,7 +18,7 @@ use Rattle.joint.specs.State.{Run, fresh, opened}
 use Rattle.joint.specs.Run.{after, site_image}
 use Rattle.joint.specs.Safety.{history}
 use Rattle.joint.proofs.View.View.{view}
-use Rattle.joint.proofs.Base.Lists.{Each, each_map}
+use Rattle.joint.proofs.Base.Lists.{Each, each_at, each_map}
 use Rattle.joint.proofs.Safety.Tables.{Status, trail}
 use Rattle.joint.proofs.Safety.Invariant.{Standing, never, initial, collecting, decided, phase_at, stage_of, Here, here, PhaseAs, Inv}
 use Rattle.joint.proofs.Safety.Tracked.{tracked}
@@ -89,6 +89,10 @@ module _ (es : List (List ℕ)) where
     -- each record is its transaction's own
     pub records_own : Each (OwnRecord r s) ((r.site s).stable ++ (r.site s).unforced)
     records_own = each-transaction (OwnRecord r s) log (λ t. each_of (kinds t s))
+
+    pub record_own : (i : ℕ) → i < length ((r.site s).stable ++ (r.site s).unforced) → (x : LogRecord)
+        → OwnRecord r s (get_or ((r.site s).stable ++ (r.site s).unforced) i x)
+    record_own = each_at (OwnRecord r s) log records_own
 
     pub records_numbered : Each (λ x. x.transaction < 8) ((r.site s).stable ++ (r.site s).unforced)
     records_numbered = each_map (OwnRecord r s) (λ x. x.transaction < 8) (λ x o. o.known.number) log records_own

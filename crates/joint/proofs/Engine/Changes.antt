@@ -7,7 +7,7 @@ use mathlib.Core.Option.{Option, none, some}
 use lib.ListN.{length, take, get_or, length-take, length-drop, length-map, length-append}
 use lib.Dec.{eqb, leb}
 use native.Mathlib.Omega.{arith}
-use borrow.Author.Tests.{le-leb, lt-leb, leb-true}
+use borrow.Author.Tests.{eq-eqb, le-leb, lt-leb, leb-true}
 use Rattle.codec.specs.Lists.{any, every, first, select, only_if}
 use Rattle.codec.specs.Sets.{empty, listed}
 use Rattle.codec.specs.Records.{of_transaction}
@@ -19,13 +19,13 @@ use Rattle.site.specs.declared.effects.Effects.{Effects}
 use Rattle.site.specs.Laws.Order.{ordered-none}
 use Rattle.joint.specs.State as plain
 use Rattle.joint.specs.State.{Run, Act, may_keep, opened, takes_part, at_site, at_transaction, with_marked, perform, perform_all, down}
-use Rattle.joint.specs.Event.{Event, opening, forcing, discarding, crash, marking}
+use Rattle.joint.specs.Event.{Event, opening, forcing, discarding, crash, marking, cut_at}
 use Rattle.joint.specs.Refusals.{unopened, stranger, is_down, refusals}
 use Rattle.joint.specs.Plan.{Plan, plan, step, settling, acting, or_nothing, opened_as, closes, newest, closed, may_discard, trimmed, remembers, forgotten_unless, discard, is_working}
 use Rattle.joint.specs.Run.{partly, can_cut, cut_short, carry, carry_plan, is_append, is_force, is_send, count, answer_of}
 use Rattle.joint.specs.Program.{room_for, room_for_plan}
 use Rattle.joint.specs.Answers.{site_from, no_site, number_of, seen}
-use Rattle.joint.specs.Inside.{site_after, counted, size, Fits, count_of, put_row, Here, then_in, plan_in, Asks, upon_input, unready, taken}
+use Rattle.joint.specs.Inside.{site_after, counted, size, Fits, count_of, put_row, Here, then_in, plan_in, Asks, upon_input, cut_from, unready, taken}
 use Rattle.joint.specs.declared.answers.Refusal.{Refusal}
 use Rattle.joint.specs.declared.sites.Site.{Site}
 use Rattle.joint.specs.declared.rows.Row.{Row}
@@ -66,6 +66,10 @@ may_keep_after x y w s t e h cut keep b (rs, (n, own)) fits happens after test =
 module _ (w : Run) (s t : ℕ) (x : Row) where
   abbrev es : List Effect
   es = effects_in t x.effects
+
+  pub carried_whole : (cut keep : ℕ) → cut ≡ 255 → seen (carry w (plan_in s t x) none) ≡ seen (carry w (plan_in s t x) (cut_from cut keep))
+  unfolding cut_at
+  carried_whole cut keep e = rw (eq-eqb cut 255 e) refl
 
   module _ (cut keep : ℕ) where
     -- more effects than there are

@@ -3,7 +3,9 @@ use Prim.Native.Nat.{ℕ, suc, ◌+◌}
 use mathlib.Core.Path.{◌≡◌, refl, sym, ap, ◌∙◌}
 use mathlib.Core.Bool.{Bool, true, false, cond}
 use mathlib.Core.List.{List, ◌∷◌}
+use mathlib.Core.Logic.{◌⊎◌, inl, inr, ⊎_elim}
 use mathlib.Core.Option.{Option}
+use Rattle.std.specs.Prelude.{Ok, Err}
 use native.Mathlib.Numerals.{add-one}
 use denote.Enum.Declared.{tag_of}
 use Rattle.codec.specs.Lists.{select, first}
@@ -11,9 +13,11 @@ use Rattle.joint.specs.State as plain
 use Rattle.joint.specs.Event.{Event}
 use Rattle.joint.specs.Refusals.{refusals}
 use Rattle.joint.specs.Plan.{plan}
+use Rattle.joint.specs.Run as run
 use Rattle.joint.specs.Run.{count, answer_of, refuse, carry_plan, carry_unless, event_parsed}
-use Rattle.joint.specs.Answers.{seen, refusal_number, number_of, Seen}
+use Rattle.joint.specs.Answers.{seen, refusal_number, number_of, Answer, answer_in, Seen}
 use Rattle.joint.specs.Inside.{taken}
+use Rattle.joint.specs.declared.answers.Counts.{Counts}
 use Rattle.joint.specs.declared.answers.Refusal.{Refusal}
 use Rattle.joint.specs.declared.answers.Refusal.TheVariants as refusals
 use Rattle.joint.specs.contracts.answers.Refusal.{the_type}
@@ -35,6 +39,26 @@ its_number refusals.CutTooFar = refl
 -- it is not 0
 pub above_zero : (e : Refusal) → (n : ℕ) × (number_of e ≡ suc n)
 above_zero e = (tag_of the_type e, sym (its_number e) ∙ add-one (tag_of the_type e))
+
+-- ---- an answer is an acceptance, or a refusal that counts nothing
+
+pub answer_case : (a : Answer) → ((c : Counts) × (a ≡ Ok c)) ⊎ ((n : ℕ) × ((answer_in a ≡ refusal_number (suc n)) × ((e : Refusal) × (a ≡ Err e))))
+unfolding answer_in refusal_number
+answer_case (Ok c) = inl (c, refl)
+answer_case (Err e) = let n = above_zero e in inr (n.0, (ap refusal_number n.1, (e, refl)))
+
+-- where it is no acceptance
+module _ (a : Answer) (k : (c : Counts) → a ≡ Ok c → ⊥) where
+  numbered : (n : ℕ) × (answer_in a ≡ refusal_number (suc n))
+  numbered = ⊎_elim (λ x. absurd (k x.0 x.1)) (λ x. (x.0, x.1.0)) (answer_case a)
+
+  pub refused-number : (n : ℕ) × ((answer_in a).number ≡ suc n)
+  unfolding refusal_number
+  refused-number = (numbered.0, ap (λ (x : run.Answer). x.number) numbered.1)
+
+  pub refused_counts : refusal_number (answer_in a).number ≡ answer_in a
+  unfolding refusal_number
+  refused_counts = rw numbered.1 refl
 
 -- ---- events
 

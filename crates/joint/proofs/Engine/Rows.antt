@@ -18,7 +18,7 @@ use Rattle.site.specs.Coordinator as part
 use Rattle.site.specs.Coordinator.{coordinator_step, coordinator_restart}
 use Rattle.site.specs.Participant.{participant_step, participant_restart}
 use Rattle.site.specs.Numbers.{input_of, receives, coordinator_answer, participant_answer, participant_restarted, appending, entry_of}
-use Rattle.site.specs.Answers.{coordinator_state_in, participant_in, presumption_in, cohort_in, effects_in, closing, sending, coordinator_row_in, coordinator_answer_in, participant_answer_in, participant_restart_in}
+use Rattle.site.specs.Answers.{coordinator_state_in, participant_in, presumption_in, cohort_in, effects_in, closing, sending, coordinator_row_in, answer_in, coordinator_answer_in, participant_answer_in, participant_restart_in}
 use Rattle.site.specs.Laws.Remaining.{restart_by}
 use Rattle.site.specs.declared.effects.Effects.{Effects}
 use Rattle.site.specs.declared.coordinator.Coordinator.{Coordinator}
@@ -138,6 +138,17 @@ row-answered o false e = cc
 -- what site's step gives
 abbrev pub Answered : Type 0 → Type 0
 Answered S = std.Result (std.Option (answered.Row S)) Refused
+
+no_row_of : {S P : Type 0} (read : S → P) (t : ℕ) (a : Answered S) → ((r : answered.Row S) → a ≡ std.Ok (std.Some r) → ⊥) → none ≡ row_of (answer_in read t a)
+no_row_of read t (std.Ok (std.Some r)) k = absurd (k r refl)
+no_row_of read t (std.Ok std.None) k = refl
+no_row_of read t (std.Err e) k = refl
+
+pub no_coordinator-row : (t : ℕ) (a : Answered CoordinatorState) → ((r : answered.Row CoordinatorState) → a ≡ std.Ok (std.Some r) → ⊥) → none ≡ row_of (coordinator_answer_in t a)
+no_coordinator-row = no_row_of coordinator_state_in
+
+pub no_participant-row : (t : ℕ) (a : Answered ParticipantPhase) → ((r : answered.Row ParticipantPhase) → a ≡ std.Ok (std.Some r) → ⊥) → none ≡ row_of (participant_answer_in t a)
+no_participant-row = no_row_of participant_in
 
 -- ---- the coordinator
 
